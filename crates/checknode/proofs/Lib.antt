@@ -1,0 +1,11 @@
+pub mod Arithmetic
+pub mod Tables
+pub mod Filling
+pub mod Turns
+pub mod Searching
+pub mod Recording
+pub mod Refusals
+pub mod CheckCall
+pub mod Expanding
+pub mod Forming
+pub mod ExpandCall

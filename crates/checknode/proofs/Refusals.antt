@@ -1,0 +1,134 @@
+-- The tests behind the refusals, as the definitions of a check's and an expansion's cases have them.
+use mathlib.Core.Path.{_≡_, refl, ap, _∙_, sym}
+use mathlib.Core.Bool.{Bool, true, false}
+use mathlib.Core.Logic.{_≢_}
+use mathlib.Core.List.{List}
+use Prim.Native.Nat.{ℕ, _+_, _*_, _^_, _≤_, _<_, _-_}
+use native.Mathlib.Nat.{suc-mul, mul-le-mul-right, add-sub-cancel-left}
+use native.Mathlib.Decide.{decLe}
+use native.Mathlib.Omega.{arith}
+use borrow.Author.Tests.{eq-eqb, ne-eqb, lt-ltb, le-ltb}
+use lib.Dec.{T, ltb, eqb, ltb→lt}
+use lib.ListN.{length, take, drop, getD, length-take, length-drop}
+use Rattle.trellis.specs.Lists.{pick, allTo}
+use Rattle.trellis.specs.Check.{firstZero}
+use Rattle.trellis.specs.Record.{recordLength, recordOk}
+use Rattle.trellis.specs.Rules.{ruleFor}
+use Rattle.trellis.proofs.Tests.{of-true, all-at}
+use Rattle.engine.specs.Ready.{Ready}
+use Rattle.checknode.specs.Answers.{weightOk, weightsOk, weightCases, zeroOk, checkCases, expandCases}
+use Rattle.checknode.specs.Asks.{weightsFault}
+
+pub part-room : (n d w : ℕ) → n < d → n * w + w ≤ d * w
+part-room n d w h = rw suc-mul at (mul-le-mul-right w h)
+
+pub zero-turn : (cs : List ℕ) (n d w : ℕ) {b : Bool} → n < d → length cs ≡ d * w → b ≡ ltb (firstZero (take (n * w + w - n * w) (drop (n * w) cs))) (length (take (n * w + w - n * w) (drop (n * w) cs)))
+    → b ≡ zeroOk w cs n
+unfolding zeroOk
+zero-turn cs n d w h l e =
+    let a : n * w + w - n * w ≡ w = add-sub-cancel-left (n * w) w in
+    let k : length (take w (drop (n * w) cs)) ≡ w = simp (length-take, length-drop) (omega (arith, part-room n d w h)) in
+    e ∙ rw (a, k)
+
+no-true : {b : Bool} → b ≡ true → b ≡ false → ⊥
+no-true e f = let z : _≡_ {A = ℕ} 0 1 = cc in omega arith
+
+pub weight-true : (q h : ℕ) → T (weightOk q h) → (h ≢ 0) × (h < q)
+unfolding weightOk
+weight-true q h t = go (eqb h 0) refl t
+  where
+    go : (b : Bool) → eqb h 0 ≡ b → T (pick b false (ltb h q)) → (h ≢ 0) × (h < q)
+    go true u v = absurd v
+    go false u v = ((λ k. no-true (eq-eqb h 0 k) u), ltb→lt h q v)
+
+-- d times q, where both are small
+pub mul-small : (d w : ℕ) → d ≤ 32 → w < 256 → d * w ≤ 8192
+mul-small d w h k = omega (arith, mul-le-mul-right w h)
+
+-- p and the weights of a check that none of 6, 9, 11 refuses
+pub record Weighed (p : ℕ) (ws : List ℕ) : Type 0 where
+  pub low : 2 ≤ p
+  pub high : p ≤ 6
+  pub three : 3 ≤ length ws
+  pub few : length ws ≤ 32
+  pub ok : weightsOk (2 ^ p) ws ≡ true
+
+at-least : {m n : ℕ} → ltb m n ≡ false → n ≤ m
+at-least {m} {n} e =
+    elim (decLe n m) [
+      | yes h ↦ h
+      | no h ↦ absurd (no-true (lt-ltb m n (omega arith)) e)
+    ]
+
+pub no-fault : (p : ℕ) (ws : List ℕ) → weightsFault p ws ≡ 0 → Weighed p ws
+unfolding weightsFault
+no-fault p ws e = go (ltb p 2) refl (ltb 6 p) refl (ltb (length ws) 3) refl (ltb 32 (length ws)) refl (weightsOk (2 ^ p) ws) refl e
+  where
+    go : (a : Bool) → ltb p 2 ≡ a → (b : Bool) → ltb 6 p ≡ b → (c : Bool) → ltb (length ws) 3 ≡ c → (d : Bool) → ltb 32 (length ws) ≡ d → (o : Bool) → weightsOk (2 ^ p) ws ≡ o
+        → _≡_ {A = ℕ} (pick a 6 (pick b 6 (pick c 9 (pick d 9 (pick o 0 11))))) 0 → Weighed p ws
+    go true i b j c k d l o m e = absurd (omega arith)
+    go false i true j c k d l o m e = absurd (omega arith)
+    go false i false j true k d l o m e = absurd (omega arith)
+    go false i false j false k true l o m e = absurd (omega arith)
+    go false i false j false k false l false m e = absurd (omega arith)
+    go false i false j false k false l true m e = record { low = at-least i; high = at-least j; three = at-least k; few = at-least l; ok = m }
+
+-- a refusal by its number, and none
+pub fault-case : {A : Type 0} (p : ℕ) (ws : List ℕ) (bad : ℕ → A) (rest : A) {k : ℕ} → k ≡ weightsFault p ws → k ≢ 0 → bad k ≡ weightCases p ws bad rest
+unfolding weightsFault
+fault-case p ws bad rest e n = go (ltb p 2) (ltb 6 p) (ltb (length ws) 3) (ltb 32 (length ws)) (weightsOk (2 ^ p) ws) e n
+  where
+    go : (a b c d o : Bool) {k : ℕ} → k ≡ pick a 6 (pick b 6 (pick c 9 (pick d 9 (pick o 0 11)))) → k ≢ 0 → bad k ≡ pick a (bad 6) (pick b (bad 6) (pick c (bad 9) (pick d (bad 9) (pick o rest (bad 11)))))
+    go true b c d o e n = ap bad e
+    go false true c d o e n = ap bad e
+    go false false true d o e n = ap bad e
+    go false false false true o e n = ap bad e
+    go false false false false false e n = ap bad e
+    go false false false false true e n = absurd (n e)
+
+module _ (p : ℕ) (ws : List ℕ) (W : Weighed p ws) where
+  rest-case : {A : Type 0} (bad : ℕ → A) (rest : A) → weightCases p ws bad rest ≡ rest
+  rest-case bad rest = simp (le-ltb _ _ (W .low), le-ltb _ _ (W .high), le-ltb _ _ (W .three), le-ltb _ _ (W .few), W .ok)
+
+  pub weight-at : (n : ℕ) → n < length ws → (getD ws n 0 ≢ 0) × (getD ws n 0 < 2 ^ p)
+  weight-at n k = weight-true (2 ^ p) (getD ws n 0) (all-at _ (length ws) (of-true (W .ok)) n k)
+
+  pub ready-law : (cs : List ℕ) → length cs ≡ length ws * 2 ^ p → allTo (zeroOk (2 ^ p) cs) (length ws) ≡ true → Ready p ws cs
+  unfolding zeroOk
+  ready-law cs c z =
+      record {
+        low = W .low;
+        high = W .high;
+        three = W .three;
+        few = W .few;
+        count = c;
+        weight-some = λ n k. weight-at n k .0;
+        weight-small = λ n k. weight-at n k .1;
+        zeros = λ n k. ltb→lt _ (2 ^ p) (all-at _ (length ws) (of-true z) n k);
+      }
+
+  module _ {A : Type 0} (room : ℕ) (bad : ℕ → A) (good : A) where
+    module _ (cs : List ℕ) where
+      pub case-12 : length cs ≢ length ws * 2 ^ p → bad 12 ≡ checkCases p ws cs room bad good
+      case-12 e = sym (rest-case bad _ ∙ simp (ne-eqb _ _ e))
+
+      module _ (c : length cs ≡ length ws * 2 ^ p) where
+        pub case-13 : allTo (zeroOk (2 ^ p) cs) (length ws) ≡ false → bad 13 ≡ checkCases p ws cs room bad good
+        case-13 z = sym (rest-case bad _ ∙ simp (eq-eqb _ _ c, z))
+
+        pub case-4 : allTo (zeroOk (2 ^ p) cs) (length ws) ≡ true → room < recordLength (ruleFor p) (length ws) → bad 4 ≡ checkCases p ws cs room bad good
+        case-4 z k = sym (rest-case bad _ ∙ simp (eq-eqb _ _ c, z, lt-ltb _ _ k))
+
+        pub check-case : allTo (zeroOk (2 ^ p) cs) (length ws) ≡ true → recordLength (ruleFor p) (length ws) ≤ room → good ≡ checkCases p ws cs room bad good
+        check-case z k = sym (rest-case bad _ ∙ simp (eq-eqb _ _ c, z, le-ltb _ _ k))
+
+    module _ (r : List ℕ) where
+      pub case-16 : recordOk (ruleFor p) (length ws) r ≡ false → bad 16 ≡ expandCases p ws r room bad good
+      case-16 o = sym (rest-case bad _ ∙ simp o)
+
+      module _ (o : recordOk (ruleFor p) (length ws) r ≡ true) where
+        pub case-2 : room < length ws * 2 ^ p → bad 2 ≡ expandCases p ws r room bad good
+        case-2 k = sym (rest-case bad _ ∙ simp (o, lt-ltb _ _ k))
+
+        pub expand-case : length ws * 2 ^ p ≤ room → good ≡ expandCases p ws r room bad good
+        expand-case k = sym (rest-case bad _ ∙ simp (o, le-ltb _ _ k))

@@ -1,0 +1,26 @@
+use borrow.Author.Needs.{needs}
+use borrow.Author.Tests.{eq-eqb, ne-eqb}
+use Rattle.engine.specs.Keys.{secondOf}
+use Rattle.checknode.proofs.search.second_of.Statement.{statement}
+use Rattle.checknode.proofs.search.second_of.Tie as tie
+
+returns : tie.Need-returns
+unfolding secondOf
+returns c = simp (eq-eqb _ _ (c .if1 .taken))
+
+wide-requires : tie.Need-wide-requires
+wide-requires c κs = search needs
+
+best-of-requires : tie.Need-best-of-requires
+best-of-requires c κs = search needs
+
+byte-requires : tie.Need-byte-requires
+byte-requires c κs = search needs
+
+returns-2 : tie.Need-returns-2
+unfolding secondOf
+returns-2 c = simp (ne-eqb _ _ (c .before .before .before .if1 .left)) (cc)
+
+pub second-of-spec : {M : Type 1} → statement M
+second-of-spec =
+    tie.close (tie.spec returns wide-requires best-of-requires byte-requires returns-2)

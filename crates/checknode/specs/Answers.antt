@@ -1,0 +1,84 @@
+-- What each public call replies and leaves, refused calls included: document 01's refusals in their order.
+use mathlib.Core.Bool.{Bool, false}
+use mathlib.Core.List.{List, _++_}
+use Prim.Native.Nat.{ℕ, _*_, _^_}
+use lib.Dec.{ltb, eqb, leb}
+use lib.ListN.{length, getD, drop}
+use Rattle.trellis.specs.Lists.{pick, allTo}
+use Rattle.trellis.specs.Field.{product}
+use Rattle.trellis.specs.Check.{firstZero}
+use Rattle.trellis.specs.Record.{recordOf, recordLength, recordOk, expansion}
+use Rattle.trellis.specs.Rules.{ruleFor, columnsOf, costsAt}
+use Rattle.trellis.specs.Reply.{Reply, accepted, refusal}
+use Rattle.checknode.specs.declared.Element.{Element}
+use Rattle.checknode.specs.declared.Element.the-variants.{Is, Refused as NoElement}
+use Rattle.checknode.specs.declared.Written.{Written}
+use Rattle.checknode.specs.declared.Written.the-variants.{Bytes, Refused as NotWritten}
+
+abbrev pub elementReply : Element → Reply
+elementReply (Is x) = accepted x
+elementReply (NoElement k) = refusal k
+
+abbrev pub writtenReply : Written → Reply
+writtenReply (Bytes n) = accepted n
+writtenReply (NotWritten k) = refusal k
+
+-- "Product: 6, 11." "a weight or element not below q (0 is allowed in the product)"
+unfoldable pub productReply : ℕ → ℕ → ℕ → Reply
+productReply p a b =
+    pick (ltb p 2) (refusal 6)
+    (pick (ltb 6 p) (refusal 6)
+    (pick (leb (2 ^ p) a) (refusal 11)
+    (pick (leb (2 ^ p) b) (refusal 11)
+    (accepted (product p a b)))))
+
+-- "weight 0, or a weight .. not below q" is refused by 11
+unfoldable pub weightOk : ℕ → ℕ → Bool
+weightOk q h = pick (eqb h 0) false (ltb h q)
+
+abbrev pub weightsOk : ℕ → List ℕ → Bool
+weightsOk q ws = allTo (λ i. weightOk q (getD ws i 0)) (length ws)
+
+-- what a check and an expansion have in common, "6, 9, 11", before the rest. The degree is the number of weights
+abbrev pub weightCases {ℓ} : {A : Type ℓ} → ℕ → List ℕ → (ℕ → A) → A → A
+weightCases p ws bad rest =
+    pick (ltb p 2) (bad 6)
+    (pick (ltb 6 p) (bad 6)
+    (pick (ltb (length ws) 3) (bad 9)
+    (pick (ltb 32 (length ws)) (bad 9)
+    (pick (weightsOk (2 ^ p) ws) rest (bad 11)))))
+
+-- column n has a cost of 0
+unfoldable pub zeroOk : ℕ → List ℕ → ℕ → Bool
+zeroOk q cs n = ltb (firstZero (costsAt q cs n)) q
+
+-- "Check: 6, 9, 11, 12, 13, 4."
+abbrev pub checkCases {ℓ} : {A : Type ℓ} → ℕ → List ℕ → List ℕ → ℕ → (ℕ → A) → A → A
+checkCases p ws cs room bad good =
+    weightCases p ws bad
+    (pick (eqb (length cs) (length ws * 2 ^ p))
+    (pick (allTo (zeroOk (2 ^ p) cs) (length ws))
+    (pick (ltb room (recordLength (ruleFor p) (length ws))) (bad 4) good)
+    (bad 13))
+    (bad 12))
+
+unfoldable pub checkReply : ℕ → List ℕ → List ℕ → List ℕ → Reply
+checkReply p ws cs out = checkCases p ws cs (length out) (λ k. refusal k) (accepted (recordLength (ruleFor p) (length ws)))
+
+unfoldable pub checkLeaves : ℕ → List ℕ → List ℕ → List ℕ → List ℕ
+checkLeaves p ws cs out =
+    checkCases p ws cs (length out) (λ k. out) (recordOf (ruleFor p) (columnsOf (2 ^ p) ws cs) ++ drop (recordLength (ruleFor p) (length ws)) out)
+
+-- "Expand: 6, 9, 11, 16, 2."
+abbrev pub expandCases {ℓ} : {A : Type ℓ} → ℕ → List ℕ → List ℕ → ℕ → (ℕ → A) → A → A
+expandCases p ws r room bad good =
+    weightCases p ws bad
+    (pick (recordOk (ruleFor p) (length ws) r)
+    (pick (ltb room (length ws * 2 ^ p)) (bad 2) good)
+    (bad 16))
+
+unfoldable pub expandReply : ℕ → List ℕ → List ℕ → List ℕ → Reply
+expandReply p ws r out = expandCases p ws r (length out) (λ k. refusal k) (accepted (length ws * 2 ^ p))
+
+unfoldable pub expandLeaves : ℕ → List ℕ → List ℕ → List ℕ → List ℕ
+expandLeaves p ws r out = expandCases p ws r (length out) (λ k. out) (expansion (ruleFor p) ws r ++ drop (length ws * 2 ^ p) out)

@@ -1,0 +1,105 @@
+-- What the inner functions ask of their slices, and what they leave.
+use mathlib.Core.Path.{_≡_}
+use mathlib.Core.Bool.{Bool, false}
+use mathlib.Core.Logic.{_≢_}
+use mathlib.Core.List.{List, map}
+use Prim.Native.Nat.{ℕ, _+_, _-_, _*_, _^_, _≤_, _<_}
+use lib.Dec.{eqb, ltb, leb}
+use lib.ListN.{length, getD, take, drop}
+use Rattle.trellis.specs.Lists.{upTo, tab, pick, allTo}
+use Rattle.trellis.specs.Field.{xor, product}
+use Rattle.trellis.specs.Check.{firstZero}
+use Rattle.trellis.specs.Record.{pairsOk, besideGroup, expandAt}
+use Rattle.trellis.specs.Rules.{ruleFor}
+use Rattle.engine.specs.Fill.{scattered}
+use Rattle.engine.specs.Ready.{termOf, sumTo}
+use Rattle.checknode.specs.Answers.{weightCases}
+
+-- three lists of one key for each of 2 ^ p rows
+pub record Sized (X Y Z : List ℕ) : Type 0 where
+  pub p : ℕ
+  pub power : length X ≡ 2 ^ p
+  pub same-y : length Y ≡ length X
+  pub same-z : length Z ≡ length X
+
+-- each symbol's row is below 2 ^ p
+pub record Placed (costs row : List ℕ) (s : ℕ) (line : List ℕ) : Type 0 where
+  pub p : ℕ
+  pub size : length line ≡ 2 ^ p
+  pub full : length costs ≤ length row
+  pub below : (x : ℕ) → x < length costs → getD row x 0 < 2 ^ p
+  pub s-below : s < 2 ^ p
+
+-- h is an element of the field, p is 2 to 6, and the products of h are elements
+pub record Times (p h : ℕ) : Type 0 where
+  pub low : 2 ≤ p
+  pub high : p ≤ 6
+  pub element : h < 2 ^ p
+  pub closed : (x : ℕ) → x < 2 ^ p → product p h x < 2 ^ p
+
+-- one column's costs in their rows
+abbrev pub lineFrom : ℕ → ℕ → List ℕ → ℕ → List ℕ → List ℕ
+lineFrom p h costs n l = scattered costs (tab (product p h) (2 ^ p)) (product p h (firstZero costs)) n (2 ^ p) l
+
+-- room for 2 ^ p products, keys and rows
+pub record Sizes (p : ℕ) (row line X Y Z : List ℕ) : Type 0 where
+  pub of-row : length row ≡ 2 ^ p
+  pub of-line : length line ≡ 2 ^ p
+  pub of-x : length X ≡ 2 ^ p
+  pub of-y : length Y ≡ 2 ^ p
+  pub of-z : length Z ≡ 2 ^ p
+
+-- the shifts, from each h times z and their sum
+unfoldable pub shiftsOf : ℕ → List ℕ → List ℕ → List ℕ
+shiftsOf p ws cs = tab (λ n. xor (sumTo (termOf p ws cs) (length ws)) (termOf p ws cs n)) (length ws)
+
+-- the number of the first refusal of p and the weights, 0 for none
+unfoldable pub weightsFault : ℕ → List ℕ → ℕ
+weightsFault p ws = weightCases p ws (λ k. k) 0
+
+-- after a pair, the least column that the next used pair may have: one more, 256 after an unused pair, 257 for a fault
+unfoldable pub pairNext : ℕ → ℕ → ℕ → ℕ → ℕ → ℕ
+pairNext c s e d low =
+    pick (eqb c 0xFF) (pick (eqb s 0x00) 256 257)
+    (pick (ltb c low) 257
+    (pick (leb d c) 257
+    (pick (leb s e) 257
+    (c + 1))))
+
+-- recordOk for two pairs a group, with q for 2 ^ p
+unfoldable pub formOk : ℕ → ℕ → List ℕ → Bool
+formOk q d r =
+    pick (eqb (length r) (d + 5 * (q - 1)))
+    (pick (allTo (λ n. ltb (getD r n 0) q) d)
+    (allTo (λ b. pairsOk 2 r (d + 5 * b + 1) (getD r (d + 5 * b) 0) d 0) (q - 1))
+    false)
+    false
+
+-- what a record says for column n at a, from five bytes a group
+unfoldable pub readFrom : ℕ → List ℕ → ℕ → ℕ → ℕ
+readFrom d r n a = pick (eqb a 0) 0 (besideGroup n (take 5 (drop (d + 5 * (a - 1)) r)))
+
+-- one column of an expansion: its products with each symbol, moved by its shift s
+abbrev pub columnFrom : ℕ → List ℕ → ℕ → List ℕ → ℕ → ℕ → ℕ
+columnFrom d r n row s x = readFrom d r n (xor (getD row x 0) s)
+
+-- a record of degree d, with a column's products and shift below 2 ^ p
+pub record Readable (p d : ℕ) (r row : List ℕ) (s : ℕ) : Type 0 where
+  pub long : length r ≡ d + 5 * (2 ^ p - 1)
+  pub full : length row ≡ 2 ^ p
+  pub below : (x : ℕ) → x < 2 ^ p → getD row x 0 < 2 ^ p
+  pub s-below : s < 2 ^ p
+
+-- weights that are accepted, and a record of accepted form
+pub record Expandable (p : ℕ) (ws r : List ℕ) : Type 0 where
+  pub low : 2 ≤ p
+  pub high : p ≤ 6
+  pub few : length ws ≤ 32
+  pub weight-some : (n : ℕ) → n < length ws → getD ws n 0 ≢ 0
+  pub weight-small : (n : ℕ) → n < length ws → getD ws n 0 < 2 ^ p
+  pub long : length r ≡ length ws + 5 * (2 ^ p - 1)
+  pub shift-small : (n : ℕ) → n < length ws → getD r n 0 < 2 ^ p
+
+-- the bytes of column n in an expansion
+abbrev pub columnBytes : ℕ → List ℕ → List ℕ → ℕ → List ℕ
+columnBytes p ws r n = map (expandAt (ruleFor p) ws r n) (upTo (2 ^ p))

@@ -1,0 +1,95 @@
+// The field and one check: product, the packed record of a check's messages, its expansion.
+mod expansion;
+mod field;
+mod form;
+mod num;
+mod products;
+mod record;
+mod rows;
+mod search;
+mod table;
+mod tests;
+
+ghost use mathlib.Core.Path.{_≡_};
+ghost use Rattle.checknode.specs.Answers.{elementReply, productReply, writtenReply, checkReply, checkLeaves, expandReply, expandLeaves};
+
+// A product, or the number of the refusal.
+pub enum Element {
+    Is(u8),
+    Refused(u8),
+}
+
+// How many bytes were written, or the number of the refusal.
+pub enum Written {
+    Bytes(usize),
+    Refused(u8),
+}
+
+// The product of two elements of the field of 2 ^ p. Refused: 6, p not 2 to 6; 11, a or b no element.
+pub fn product(p: u8, a: u8, b: u8) -> Element
+    ensures { λ r. ⌜ elementReply r ≡ productReply p a b ⌝ }
+{
+    if p < 2 {
+        return Element::Refused(6);
+    }
+    if 6 < p {
+        return Element::Refused(6);
+    }
+    let q = field::size(p);
+    if q <= a {
+        return Element::Refused(11);
+    }
+    if q <= b {
+        return Element::Refused(11);
+    }
+    Element::Is(field::times(p, a, b))
+}
+
+// The record of a check: from p, d weights and d times q costs, column by column, d + 5 (q - 1) bytes. Refused: 6, p not 2 to 6; 9, degree
+// not 3 to 32; 11, a weight 0 or no element; 12, cost count; 13, a column without a cost of 0; 4, record buffer too short.
+pub fn check(p: u8, weights: &[u8], costs: &[u8], out: &mut [u8]) -> Written
+    ensures { λ r. ⌜ writtenReply r ≡ checkReply p (now (weights .entry)) (now (costs .entry)) (now (out .entry)) ⌝ }
+    ensures { λ _. ⌜ now (out .exit) ≡ checkLeaves p (now (weights .entry)) (now (costs .entry)) (now (out .entry)) ⌝ }
+{
+    let k = tests::weights_fault(p, weights);
+    if k != 0 {
+        return Written::Refused(k);
+    }
+    let d = weights.len();
+    let w = num::index(field::size(p));
+    if costs.len() != d * w {
+        return Written::Refused(12);
+    }
+    if !tests::zeros_ok(costs, d, w) {
+        return Written::Refused(13);
+    }
+    let n = d + 5 * (w - 1);
+    if out.len() < n {
+        return Written::Refused(4);
+    }
+    record::record_in(p, w, weights, costs, &mut out[..n]);
+    Written::Bytes(n)
+}
+
+// The expansion of a record: from p, d weights and a record, d times q bytes, column by column, each column by x. Refused: 6, p not 2 to 6;
+// 9, degree not 3 to 32; 11, a weight 0 or no element; 16, the record's form; 2, buffer too short.
+pub fn expand(p: u8, weights: &[u8], bytes: &[u8], out: &mut [u8]) -> Written
+    ensures { λ r. ⌜ writtenReply r ≡ expandReply p (now (weights .entry)) (now (bytes .entry)) (now (out .entry)) ⌝ }
+    ensures { λ _. ⌜ now (out .exit) ≡ expandLeaves p (now (weights .entry)) (now (bytes .entry)) (now (out .entry)) ⌝ }
+{
+    let k = tests::weights_fault(p, weights);
+    if k != 0 {
+        return Written::Refused(k);
+    }
+    let d = weights.len();
+    let w = num::index(field::size(p));
+    if !form::record_ok(bytes, d, w) {
+        return Written::Refused(16);
+    }
+    let n = d * w;
+    if out.len() < n {
+        return Written::Refused(2);
+    }
+    expansion::expand_in(p, w, weights, bytes, &mut out[..n]);
+    Written::Bytes(n)
+}

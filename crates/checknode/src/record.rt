@@ -1,0 +1,124 @@
+// The record of an accepted check.
+use crate::rows;
+use crate::search;
+ghost use mathlib.Core.Path.{_≡_};
+ghost use Prim.Native.Nat.{_^_, _≤_};
+ghost use lib.ListN.{length};
+ghost use Rattle.trellis.specs.Record.{recordOf, recordLength};
+ghost use Rattle.trellis.specs.Rules.{ruleFor, columnsOf};
+ghost use Rattle.engine.specs.Ready.{Ready, keysOf};
+ghost use Rattle.engine.specs.Fill.{rowsOf, started, filled};
+ghost use Rattle.checknode.specs.Asks.{Sizes, shiftsOf};
+
+// No key in any row.
+fn begin(k0: &mut [u16], k1: &mut [u16], k2: &mut [u16])
+    requires { ⌜ (length (now k1) ≡ length (now k0)) × (length (now k2) ≡ length (now k0)) ⌝ }
+    ensures { λ _. ⌜ rowsOf (now (k0 .exit)) (now (k1 .exit)) (now (k2 .exit)) ≡ started (length (now (k0 .entry))) ⌝ }
+{
+    rows::set_all(k0, 65533);
+    rows::set_all(k1, 65534);
+    rows::set_all(k2, 65535);
+}
+
+// The rows, and the shifts.
+fn shifts_with(
+    p: u8,
+    weights: &[u8],
+    costs: &[u8],
+    row: &mut [u8],
+    line: &mut [u16],
+    k0: &mut [u16],
+    k1: &mut [u16],
+    k2: &mut [u16],
+    out: &mut [u8],
+)
+    requires { ⌜ Ready p (now weights) (now costs) ⌝ }
+    requires { ⌜ Sizes p (now row) (now line) (now k0) (now k1) (now k2) ⌝ }
+    requires { ⌜ (length (now out) ≡ length (now weights)) × (rowsOf (now k0) (now k1) (now k2) ≡ started (2 ^ p)) ⌝ }
+    ensures { λ _. ⌜ rowsOf (now (k0 .exit)) (now (k1 .exit)) (now (k2 .exit)) ≡ filled (keysOf p (now (weights .entry)) (now (costs .entry))) (2 ^ p) (length (now (weights .entry))) ⌝ }
+    ensures { λ _. ⌜ now (out .exit) ≡ shiftsOf p (now (weights .entry)) (now (costs .entry)) ⌝ }
+{
+    let sum = rows::columns(p, weights, costs, row, line, k0, k1, k2, out);
+    rows::shift_all(out, sum);
+}
+
+// The record of an accepted check, in room of the caller's.
+fn record_with(
+    p: u8,
+    weights: &[u8],
+    costs: &[u8],
+    row: &mut [u8],
+    line: &mut [u16],
+    k0: &mut [u16],
+    k1: &mut [u16],
+    k2: &mut [u16],
+    out: &mut [u8],
+)
+    requires { ⌜ Ready p (now weights) (now costs) ⌝ }
+    requires { ⌜ Sizes p (now row) (now line) (now k0) (now k1) (now k2) ⌝ }
+    requires { ⌜ length (now out) ≡ recordLength (ruleFor p) (length (now weights)) ⌝ }
+    ensures { λ _. ⌜ now (out .exit) ≡ recordOf (ruleFor p) (columnsOf (2 ^ p) (now (weights .entry)) (now (costs .entry))) ⌝ }
+{
+    begin(k0, k1, k2);
+    let d = weights.len();
+    let e = out.len();
+    shifts_with(p, weights, costs, row, line, k0, k1, k2, &mut out[..d]);
+    search::put_groups(k0, k1, k2, &mut out[d..e]);
+}
+
+// The parts of the room that the check takes.
+fn record_room(
+    p: u8,
+    w: usize,
+    weights: &[u8],
+    costs: &[u8],
+    row: &mut [u8],
+    line: &mut [u16],
+    k0: &mut [u16],
+    k1: &mut [u16],
+    k2: &mut [u16],
+    out: &mut [u8],
+)
+    requires { ⌜ Ready p (now weights) (now costs) ⌝ }
+    requires { ⌜ ((w ≤ length (now row)) × (w ≤ length (now line))) × ((w ≤ length (now k0)) × ((w ≤ length (now k1)) × (w ≤ length (now k2)))) ⌝ }
+    requires { ⌜ (w ≡ 2 ^ p) × (length (now out) ≡ recordLength (ruleFor p) (length (now weights))) ⌝ }
+    ensures { λ _. ⌜ now (out .exit) ≡ recordOf (ruleFor p) (columnsOf (2 ^ p) (now (weights .entry)) (now (costs .entry))) ⌝ }
+{
+    record_with(
+        p,
+        weights,
+        costs,
+        &mut row[..w],
+        &mut line[..w],
+        &mut k0[..w],
+        &mut k1[..w],
+        &mut k2[..w],
+        out,
+    );
+}
+
+// The record, with the room that it takes.
+pub fn record_in(p: u8, w: usize, weights: &[u8], costs: &[u8], out: &mut [u8])
+    requires { ⌜ Ready p (now weights) (now costs) ⌝ }
+    requires { ⌜ w ≤ 64 ⌝ }
+    requires { ⌜ (w ≡ 2 ^ p) × (length (now out) ≡ recordLength (ruleFor p) (length (now weights))) ⌝ }
+    ensures { λ _. ⌜ now (out .exit) ≡ recordOf (ruleFor p) (columnsOf (2 ^ p) (now (weights .entry)) (now (costs .entry))) ⌝ }
+{
+    let mut row = [0u8; 64];
+    let mut line = [0u16; 64];
+    let mut k0 = [0u16; 64];
+    let mut k1 = [0u16; 64];
+    let mut k2 = [0u16; 64];
+    record_room(
+        p,
+        w,
+        weights,
+        costs,
+        &mut row,
+        &mut line,
+        &mut k0,
+        &mut k1,
+        &mut k2,
+        out,
+    );
+}

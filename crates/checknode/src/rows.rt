@@ -1,0 +1,140 @@
+// The rows of one check: for each a, the three cheapest entries, filled column by column.
+use crate::num;
+use crate::products;
+ghost use mathlib.Core.Path.{_≡_};
+ghost use Prim.Native.Nat.{_+_, _*_, _^_, _≤_, _<_};
+ghost use lib.ListN.{length, getD};
+ghost use Rattle.trellis.specs.Lists.{tab};
+ghost use Rattle.trellis.specs.Field.{xor, product};
+ghost use Rattle.trellis.specs.Check.{firstZero};
+ghost use Rattle.engine.specs.Fill.{rowsOf, merged, started, filled, scattered};
+ghost use Rattle.engine.specs.Ready.{Ready, termOf, sumTo, keysOf};
+ghost use Rattle.checknode.specs.Asks.{Placed, Times, Sizes, lineFrom};
+
+// v everywhere.
+pub fn set_all(l: &mut [u16], v: u16)
+    ensures { λ _. ⌜ now (l .exit) ≡ tab (λ i. v) (length (now (l .entry))) ⌝ }
+{
+    let mut i = 0;
+    while i < l.len() {
+        l[i] = v;
+        i += 1;
+    }
+}
+
+// One column more: the three least keys of each row.
+fn merge(line: &[u16], k0: &mut [u16], k1: &mut [u16], k2: &mut [u16])
+    requires { ⌜ (length (now k0) ≡ length (now line)) × ((length (now k1) ≡ length (now line)) × (length (now k2) ≡ length (now line))) ⌝ }
+    ensures { λ _. ⌜ rowsOf (now (k0 .exit)) (now (k1 .exit)) (now (k2 .exit)) ≡ merged (now (line .entry)) (rowsOf (now (k0 .entry)) (now (k1 .entry)) (now (k2 .entry))) ⌝ }
+{
+    let mut a = 0;
+    while a < line.len() {
+        let x = line[a];
+        let y = num::greater(k0[a], x);
+        let z = num::greater(k1[a], y);
+        k0[a] = num::lesser(k0[a], x);
+        k1[a] = num::lesser(k1[a], y);
+        k2[a] = num::lesser(k2[a], z);
+        a += 1;
+    }
+}
+
+// One column's keys, put into their rows.
+fn scatter(costs: &[u8], row: &[u8], s: u8, n: u16, line: &mut [u16])
+    requires { ⌜ Placed (now costs) (now row) s (now line) ⌝ }
+    requires { ⌜ n < 256 ⌝ }
+    ensures { λ _. ⌜ now (line .exit) ≡ scattered (now (costs .entry)) (now (row .entry)) s n (length (now (costs .entry))) (now (line .entry)) ⌝ }
+{
+    let mut x = 0;
+    while x < costs.len() {
+        let a = (row[x] ^ s) as usize;
+        line[a] = num::wide(costs[x]) * 256 + n;
+        x += 1;
+    }
+}
+
+// The smallest symbol of cost 0, or the number of costs where there is none.
+pub fn first_zero(costs: &[u8]) -> usize
+    ensures { λ r. ⌜ (r ≡ firstZero (now (costs .entry))) × (r ≤ length (now (costs .entry))) ⌝ }
+{
+    let mut i = 0;
+    loop {
+        if i == costs.len() {
+            break i;
+        }
+        if costs[i] == 0 {
+            break i;
+        }
+        i += 1;
+    }
+}
+
+// One column: its keys go into the rows. Answers h times z.
+fn column(
+    p: u8,
+    h: u8,
+    costs: &[u8],
+    n: u16,
+    row: &mut [u8],
+    line: &mut [u16],
+    k0: &mut [u16],
+    k1: &mut [u16],
+    k2: &mut [u16],
+) -> u8
+    requires { ⌜ Times p h ⌝ }
+    requires { ⌜ Sizes p (now row) (now line) (now k0) (now k1) (now k2) ⌝ }
+    requires { ⌜ (n < 256) × ((length (now costs) ≡ 2 ^ p) × (firstZero (now costs) < 2 ^ p)) ⌝ }
+    ensures { λ r. ⌜ r ≡ product p h (firstZero (now (costs .entry))) ⌝ }
+    ensures { λ _. ⌜ rowsOf (now (k0 .exit)) (now (k1 .exit)) (now (k2 .exit)) ≡ merged (lineFrom p h (now (costs .entry)) n (now (line .entry))) (rowsOf (now (k0 .entry)) (now (k1 .entry)) (now (k2 .entry))) ⌝ }
+{
+    products::fill(p, h, row);
+    let z = first_zero(costs);
+    let s = row[z];
+    scatter(costs, row, s, n, line);
+    merge(line, k0, k1, k2);
+    s
+}
+
+// All columns. Each h times z is left in out, and their sum is the answer.
+pub fn columns(
+    p: u8,
+    weights: &[u8],
+    costs: &[u8],
+    row: &mut [u8],
+    line: &mut [u16],
+    k0: &mut [u16],
+    k1: &mut [u16],
+    k2: &mut [u16],
+    out: &mut [u8],
+) -> u8
+    requires { ⌜ Ready p (now weights) (now costs) ⌝ }
+    requires { ⌜ Sizes p (now row) (now line) (now k0) (now k1) (now k2) ⌝ }
+    requires { ⌜ (length (now out) ≡ length (now weights)) × (rowsOf (now k0) (now k1) (now k2) ≡ started (2 ^ p)) ⌝ }
+    ensures { λ r. ⌜ r ≡ sumTo (termOf p (now (weights .entry)) (now (costs .entry))) (length (now (weights .entry))) ⌝ }
+    ensures { λ _. ⌜ rowsOf (now (k0 .exit)) (now (k1 .exit)) (now (k2 .exit)) ≡ filled (keysOf p (now (weights .entry)) (now (costs .entry))) (2 ^ p) (length (now (weights .entry))) ⌝ }
+    ensures { λ _. ⌜ now (out .exit) ≡ tab (termOf p (now (weights .entry)) (now (costs .entry))) (length (now (weights .entry))) ⌝ }
+{
+    let w = line.len();
+    let mut sum: u8 = 0;
+    let mut n = 0;
+    while n < weights.len() {
+        let a = n * w;
+        let e = a + w;
+        let s = column(p, weights[n], &costs[a..e], n as u16, row, line, k0, k1, k2);
+        out[n] = s;
+        sum = sum ^ s;
+        n += 1;
+    }
+    sum
+}
+
+// The shifts, from each h times z and their sum.
+pub fn shift_all(out: &mut [u8], sum: u8)
+    ensures { λ _. ⌜ now (out .exit) ≡ tab (λ i. xor sum (getD (now (out .entry)) i 0)) (length (now (out .entry))) ⌝ }
+{
+    let mut i = 0;
+    while i < out.len() {
+        out[i] = sum ^ out[i];
+        i += 1;
+    }
+}

@@ -1,0 +1,79 @@
+// The tests behind the refusals of a check and of an expansion.
+use crate::field;
+use crate::num;
+use crate::rows;
+ghost use mathlib.Core.Path.{_≡_};
+ghost use Prim.Native.Nat.{_*_};
+ghost use lib.Dec.{ltb};
+ghost use lib.ListN.{length};
+ghost use Rattle.trellis.specs.Lists.{allTo};
+ghost use Rattle.trellis.specs.Check.{firstZero};
+ghost use Rattle.checknode.specs.Answers.{weightOk, weightsOk, zeroOk};
+ghost use Rattle.checknode.specs.Asks.{weightsFault};
+
+// A weight is an element other than 0.
+fn weight_ok(q: u8, h: u8) -> bool
+    ensures { λ r. ⌜ r ≡ weightOk q h ⌝ }
+{
+    if h == 0 {
+        return false;
+    }
+    h < q
+}
+
+fn weights_ok(q: u8, weights: &[u8]) -> bool
+    ensures { λ r. ⌜ r ≡ weightsOk q (now (weights .entry)) ⌝ }
+{
+    let mut ok = true;
+    let mut i = 0;
+    while i < weights.len() {
+        ok = num::also(ok, weight_ok(q, weights[i]));
+        i += 1;
+    }
+    ok
+}
+
+// 6, 9 or 11, in this order, or 0 for none of them.
+pub fn weights_fault(p: u8, weights: &[u8]) -> u8
+    ensures { λ r. ⌜ r ≡ weightsFault p (now (weights .entry)) ⌝ }
+{
+    if p < 2 {
+        return 6;
+    }
+    if 6 < p {
+        return 6;
+    }
+    if weights.len() < 3 {
+        return 9;
+    }
+    if 32 < weights.len() {
+        return 9;
+    }
+    if weights_ok(field::size(p), weights) {
+        return 0;
+    }
+    11
+}
+
+// Whether a column has a cost of 0.
+fn has_zero(costs: &[u8]) -> bool
+    ensures { λ r. ⌜ r ≡ ltb (firstZero (now (costs .entry))) (length (now (costs .entry))) ⌝ }
+{
+    rows::first_zero(costs) < costs.len()
+}
+
+// Whether each of d columns has one.
+pub fn zeros_ok(costs: &[u8], d: usize, w: usize) -> bool
+    requires { ⌜ length (now costs) ≡ d * w ⌝ }
+    ensures { λ r. ⌜ r ≡ allTo (zeroOk w (now (costs .entry))) d ⌝ }
+{
+    let mut ok = true;
+    let mut n = 0;
+    while n < d {
+        let a = n * w;
+        let e = a + w;
+        ok = num::also(ok, has_zero(&costs[a..e]));
+        n += 1;
+    }
+    ok
+}

@@ -1,0 +1,3 @@
+pub mod Keys
+pub mod Fill
+pub mod Ready

@@ -1,0 +1,9 @@
+pub mod Lists
+pub mod Lines
+pub mod Updates
+pub mod Ranges
+pub mod Literal
+pub mod Demand
+pub mod Lent
+pub mod Tables
+pub mod Examples

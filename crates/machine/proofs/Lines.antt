@@ -1,0 +1,177 @@
+-- What a code line that is read has: the ranges of its numbers.
+use mathlib.Core.Path.{_≡_, refl, sym, ap}
+use mathlib.Core.Bool.{Bool, true, false}
+use mathlib.Core.Logic.{_≢_}
+use mathlib.Core.List.{List, [], _∷_}
+use Prim.Native.Nat.{ℕ, zero, suc, _+_, _*_, _-_, _^_, _≤_, _<_}
+use native.Mathlib.Nat.{not-suc-le-zero}
+use native.Mathlib.Omega.{arith}
+use lib.Dec.{eqb, ltb, leb}
+use lib.ListN.{length, getD}
+use borrow.Author.Tests.{ltb-false, leb-false, eqb-false}
+use Rattle.trellis.specs.Lists.{pick}
+use Rattle.machine.specs.CodeLine.{Read, good, bad, then, Edge, Code, edge, wordAt, readEdge, edges, checkAt, checks, parse, size, check, edgeAt}
+
+-- tests that refuse, in their order
+abbrev guard : {A : Type 0} → List (Bool × ℕ) → Read A → Read A
+guard [] y = y
+guard (x ∷ l) y = pick (x .0) (bad (x .1)) (guard l y)
+
+abbrev AllFalse : List (Bool × ℕ) → Type 0
+AllFalse [] = Unit {0}
+AllFalse (x ∷ l) = (x .0 ≡ false) × AllFalse l
+
+passed : {A : Type 0} (l : List (Bool × ℕ)) (y : Read A) (a : A) → guard l y ≡ good a → AllFalse l × (y ≡ good a)
+passed [] y a h = (tt, h)
+passed (x ∷ l) y a h = go (x .0) refl (passed l y a) h
+  where
+    go : (b : Bool) → x .0 ≡ b → (guard l y ≡ good a → AllFalse l × (y ≡ good a)) → pick b (bad (x .1)) (guard l y) ≡ good a → AllFalse (x ∷ l) × (y ≡ good a)
+    go true e f k = let z : _≡_ {A = ℕ} 0 1 = cc in absurd (omega arith)
+    go false e f k = ((e, f k .0), f k .1)
+
+then-good : {A B : Type 0} (r : Read A) (k : A → Read B) (b : B) → then r k ≡ good b → (a : A) × (r ≡ good a) × (k a ≡ good b)
+then-good (good a) k b h = (a, refl, h)
+then-good (bad n) k b h = let z : _≡_ {A = ℕ} 0 1 = cc in absurd (omega arith)
+
+good-one : {A : Type 0} (a b : A) → _≡_ {A = Read A} (good a) (good b) → a ≡ b
+good-one a b h = cc
+
+pub record GoodEdge (n q : ℕ) (e : Edge) : Type 0 where
+  pub column-small : e .column < n
+  pub weight-some : e .weight ≢ 0
+  pub weight-small : e .weight < q
+
+pub record GoodEdges (n q low c : ℕ) (es : List Edge) : Type 0 where
+  pub count : length es ≡ c
+  pub each-edge : (k : ℕ) → k < length es → GoodEdge n q (edgeAt es k)
+  pub from-low : (k : ℕ) → k < length es → low ≤ edgeAt es k .column
+  pub rising : (j k : ℕ) → j < k → k < length es → edgeAt es j .column < edgeAt es k .column
+
+edge-good : (s : List ℕ) (at n q low : ℕ) (e : Edge) → readEdge s at n q low ≡ good e → GoodEdge n q e × (low ≤ e .column)
+unfolding readEdge
+edge-good s at n q low e h =
+    let w : ℕ = wordAt s at in
+    let v : ℕ = getD s (at + 2) 0 in
+    let a = passed ((leb n w, 10) ∷ (ltb w low, 10) ∷ (eqb v 0, 11) ∷ (leb q v, 11) ∷ []) _ e h in
+    let i : e ≡ edge w v = sym (good-one _ e (a .1)) in
+    rw i (record { column-small = leb-false _ _ (a .0 .0); weight-some = eqb-false _ _ (a .0 .1 .1 .0); weight-small = leb-false _ _ (a .0 .1 .1 .1 .0) }, ltb-false _ _ (a .0 .1 .0))
+
+pub edges-good : (c : ℕ) (s : List ℕ) (at n q low : ℕ) (es : List Edge) → edges c s at n q low ≡ good es → GoodEdges n q low c es
+unfolding edges
+edges-good zero s at n q low es h =
+    let e : es ≡ [] = sym (good-one [] es h) in
+    rw e
+    record {
+      count = refl;
+      each-edge = λ k l. absurd (not-suc-le-zero l);
+      from-low = λ k l. absurd (not-suc-le-zero l);
+      rising = λ j k i l. absurd (not-suc-le-zero l);
+    }
+edges-good (suc c) s at n q low es h =
+    let a = then-good (readEdge s at n q low) _ es h in
+    let g = edge-good s at n q low (a .0) (a .1) in
+    let b = then-good (edges c s (at + 3) n q (a .0 .column + 1)) _ es (a .2) in
+    let r = edges-good c s (at + 3) n q (a .0 .column + 1) (b .0) (b .1) in
+    let e : es ≡ a .0 ∷ b .0 = sym (good-one _ es (b .2)) in
+    more (a .0) (b .0) e (g .0) (g .1) r
+  where
+    more : (e : Edge) (l : List Edge) → es ≡ e ∷ l → GoodEdge n q e → low ≤ e .column → GoodEdges n q (e .column + 1) c l → GoodEdges n q low (suc c) es
+    more e l x g i r = rw x record { count = ap suc (r .count); each-edge = one; from-low = two; rising = three }
+      where
+        one : (k : ℕ) → k < length (e ∷ l) → GoodEdge n q (edgeAt (e ∷ l) k)
+        one zero h = g
+        one (suc k) h = r .each-edge k (omega arith)
+
+        two : (k : ℕ) → k < length (e ∷ l) → low ≤ edgeAt (e ∷ l) k .column
+        two zero h = i
+        two (suc k) h = omega (arith, r .from-low k (omega arith))
+
+        three : (j k : ℕ) → j < k → k < length (e ∷ l) → edgeAt (e ∷ l) j .column < edgeAt (e ∷ l) k .column
+        three j zero a h = absurd (not-suc-le-zero a)
+        three zero (suc k) a h = omega (arith, r .from-low k (omega arith))
+        three (suc j) (suc k) a h = r .rising j k (omega arith) (omega arith)
+
+pub record GoodCheck (n q : ℕ) (es : List Edge) : Type 0 where
+  pub low : 3 ≤ length es
+  pub high : length es ≤ 32
+  pub each-edge : (k : ℕ) → k < length es → GoodEdge n q (edgeAt es k)
+  pub rising : (j k : ℕ) → j < k → k < length es → edgeAt es j .column < edgeAt es k .column
+
+check-good : (s : List ℕ) (at n q total : ℕ) (es : List Edge) → checkAt s at n q total ≡ good es → GoodCheck n q es × (total + length es ≤ 1024)
+unfolding checkAt
+check-good s at n q total es h =
+    let d : ℕ = getD s at 0 in
+    let a = passed ((leb (length s) at, 5) ∷ (ltb d 3, 9) ∷ (ltb 32 d, 9) ∷ (ltb 1024 (total + d), 9) ∷ (ltb (length s - (at + 1)) (3 * d), 5) ∷ []) _ es h in
+    let r = edges-good d s (at + 1) n q 0 es (a .1) in (
+      record { low = omega (arith, ltb-false d 3 (a .0 .1 .0), r .count); high = omega (arith, ltb-false 32 d (a .0 .1 .1 .0), r .count); each-edge = r .each-edge; rising = r .rising },
+      omega (arith, ltb-false 1024 (total + d) (a .0 .1 .1 .1 .0), r .count),
+    )
+
+pub check-count : (s : List ℕ) (at n q total : ℕ) (es : List Edge) → checkAt s at n q total ≡ good es → length es ≡ getD s at 0
+unfolding checkAt
+check-count s at n q total es h =
+    let d : ℕ = getD s at 0 in
+    let a = passed ((leb (length s) at, 5) ∷ (ltb d 3, 9) ∷ (ltb 32 d, 9) ∷ (ltb 1024 (total + d), 9) ∷ (ltb (length s - (at + 1)) (3 * d), 5) ∷ []) _ es h in
+    edges-good d s (at + 1) n q 0 es (a .1) .count
+
+checks-good : (c : ℕ) (s : List ℕ) (at n q total : ℕ) (l : List (List Edge)) → checks c s at n q total ≡ good l
+    → (length l ≡ c) × ((m : ℕ) → m < length l → GoodCheck n q (getD l m []))
+unfolding checks
+checks-good zero s at n q total l h = go (eqb at (length s)) h
+  where
+    go : (b : Bool) → pick b (good []) (bad 5) ≡ good l → (length l ≡ 0) × ((m : ℕ) → m < length l → GoodCheck n q (getD l m []))
+    go true k = let e : l ≡ [] = sym (good-one [] l k) in rw e (refl, λ m i. absurd (not-suc-le-zero i))
+    go false k = let z : _≡_ {A = ℕ} 0 1 = cc in absurd (omega arith)
+checks-good (suc c) s at n q total l h =
+    let a = then-good (checkAt s at n q total) _ l h in
+    let b = then-good (checks c s (at + 1 + 3 * getD s at 0) n q (total + getD s at 0)) _ l (a .2) in
+    let e : l ≡ a .0 ∷ b .0 = sym (good-one _ l (b .2)) in
+    let r = checks-good c s (at + 1 + 3 * getD s at 0) n q (total + getD s at 0) (b .0) (b .1) in
+    more (a .0) (b .0) e (check-good s at n q total (a .0) (a .1) .0) r
+  where
+    at-more : (es : List Edge) (k : List (List Edge)) → GoodCheck n q es → ((m : ℕ) → m < length k → GoodCheck n q (getD k m []))
+        → (m : ℕ) → m < length (es ∷ k) → GoodCheck n q (getD (es ∷ k) m [])
+    at-more es k g r zero h = g
+    at-more es k g r (suc m) h = r m (omega arith)
+
+    more : (es : List Edge) (k : List (List Edge)) → l ≡ es ∷ k → GoodCheck n q es → (length k ≡ c) × ((m : ℕ) → m < length k → GoodCheck n q (getD k m []))
+        → (length l ≡ suc c) × ((m : ℕ) → m < length l → GoodCheck n q (getD l m []))
+    more es k e g r = rw e (ap suc (r .0), at-more es k g (r .1))
+
+pub record GoodCode (C : Code) : Type 0 where
+  pub p-low : 2 ≤ C .p
+  pub p-high : C .p ≤ 6
+  pub columns-low : 1 ≤ C .columns
+  pub columns-high : C .columns ≤ 256
+  pub scale-low : 1 ≤ C .scale
+  pub scale-high : C .scale ≤ 16
+  pub limit-low : 1 ≤ C .limit
+  pub checks-low : 1 ≤ length (C .checks)
+  pub checks-high : length (C .checks) ≤ 128
+  pub each-check : (m : ℕ) → m < length (C .checks) → GoodCheck (C .columns) (size C) (check C m)
+
+pub parse-good : (s : List ℕ) (C : Code) → parse s ≡ good C → GoodCode C
+unfolding parse
+parse-good s C h =
+    let p : ℕ = getD s 0 0 in
+    let n : ℕ = wordAt s 1 in
+    let m : ℕ = getD s 3 0 in
+    let g : ℕ = getD s 4 0 in
+    let i : ℕ = getD s 5 0 in
+    let a = passed ((ltb (length s) 6, 5) ∷ (ltb p 2, 6) ∷ (ltb 6 p, 6) ∷ (ltb n 1, 7) ∷ (ltb 256 n, 7) ∷ (ltb m 1, 7) ∷ (ltb 128 m, 7) ∷ (ltb g 1, 8) ∷ (ltb 16 g, 8) ∷ (ltb i 1, 8) ∷ []) _ C h in
+    let b = then-good (checks m s 6 n (2 ^ p) 0) _ C (a .1) in
+    let r = checks-good m s 6 n (2 ^ p) 0 (b .0) (b .1) in
+    let e : C ≡ record { p = p; columns = n; scale = g; limit = i; checks = b .0 } = sym (good-one _ C (b .2)) in
+    rw e
+    record {
+      p-low = ltb-false _ _ (a .0 .1 .0);
+      p-high = ltb-false _ _ (a .0 .1 .1 .0);
+      columns-low = ltb-false _ _ (a .0 .1 .1 .1 .0);
+      columns-high = ltb-false _ _ (a .0 .1 .1 .1 .1 .0);
+      scale-low = ltb-false _ _ (a .0 .1 .1 .1 .1 .1 .1 .1 .0);
+      scale-high = ltb-false _ _ (a .0 .1 .1 .1 .1 .1 .1 .1 .1 .0);
+      limit-low = ltb-false _ _ (a .0 .1 .1 .1 .1 .1 .1 .1 .1 .1 .0);
+      checks-low = omega (arith, ltb-false m 1 (a .0 .1 .1 .1 .1 .1 .0), r .0);
+      checks-high = omega (arith, ltb-false 128 m (a .0 .1 .1 .1 .1 .1 .1 .0), r .0);
+      each-check = r .1;
+    }

@@ -1,0 +1,124 @@
+-- What a decode call replies and leaves in its buffers, refused calls included; and demand 3.
+use mathlib.Core.Path.{_≡_}
+use mathlib.Core.Logic.{_↔_}
+use mathlib.Core.Bool.{false}
+use mathlib.Core.List.{List, _++_}
+use Prim.Native.Nat.{ℕ, _*_, _≤_, _<_}
+use lib.Dec.{eqb, ltb}
+use lib.ListN.{length, take, drop}
+use Rattle.trellis.specs.Lists.{pick, others, put}
+use Rattle.trellis.specs.Check.{Rule, Column, Fits, deviations, weightedSum, costOf, shift, sent}
+use Rattle.trellis.specs.Reply.{Reply, refusal, foundIn, notFoundIn}
+use Rattle.machine.specs.CodeLine.{Read, good, bad, Code, size, rule, check, parse, frameFault}
+use Rattle.machine.specs.Machine.{made, Status, found, notFound, Result, run, symbols, records, used, lastOf, columnsIn}
+
+-- the reply, and the three buffers afterwards
+pub record After : Type 0 where
+  pub reply : Reply
+  pub symbols : List ℕ
+  pub costs : List ℕ
+  pub store : List ℕ
+
+-- "The result is found (0) or not found (1), with t."
+abbrev pub outcome : Status → ℕ → Reply
+outcome found t = foundIn t
+outcome notFound t = notFoundIn t
+
+-- "The symbol buffer then holds the N decisions, the cost buffer .. holds P, N times q of them, and the record store holds the records ..
+-- With t = 0 the store is untouched." "Elements past the used part .. keep their old content."
+abbrev pub filled : Code → Result → List ℕ → List ℕ → List ℕ → After
+filled C r y c s =
+    record {
+      reply = outcome (r .status) (r .end .t);
+      symbols = symbols C (r .end .costs) ++ drop (C .columns) y;
+      costs = r .end .costs ++ drop (C .columns * size C) c;
+      store = pick (eqb (r .end .t) 0) s (records C (r .end) ++ drop (used C) s);
+    }
+
+-- "A refusal returns its number with t = 0; no lent buffer changes."
+abbrev pub refused : ℕ → List ℕ → List ℕ → List ℕ → After
+refused k y c s = record { reply = refusal k; symbols = y; costs = c; store = s }
+
+-- 2, 3, 4, in this order
+unfoldable pub inBuffers : Code → List ℕ → List ℕ → List ℕ → List ℕ → After
+inBuffers C f y c s =
+    pick (ltb (length y) (C .columns)) (refused 2 y c s)
+    (pick (ltb (length c) (C .columns * size C)) (refused 3 y c s)
+    (pick (ltb (length s) (used C)) (refused 4 y c s)
+    (filled C (run C f) y c s)))
+
+-- "Decode: code, 12, 13, 2, 3, 4."
+abbrev pub underCode : Read Code → List ℕ → List ℕ → List ℕ → List ℕ → After
+underCode (bad k) f y c s = refused k y c s
+underCode (good C) f y c s = pick (eqb (frameFault C f) 0) (inBuffers C f y c s) (refused (frameFault C f) y c s)
+
+unfoldable pub decoding : List ℕ → List ℕ → List ℕ → List ℕ → List ℕ → After
+decoding code f y c s = underCode (parse code) f y c s
+
+-- what a call of decode promises: its reply, and each buffer afterwards
+pub record Decodes (code frame symbols costs store : List ℕ) (reply : Reply) (symbols′ costs′ store′ : List ℕ) : Type 0 where
+  pub replies : reply ≡ decoding code frame symbols costs store .reply
+  pub symbols-then : symbols′ ≡ decoding code frame symbols costs store .symbols
+  pub costs-then : costs′ ≡ decoding code frame symbols costs store .costs
+  pub store-then : store′ ≡ decoding code frame symbols costs store .store
+
+-- "A frame is accepted under a code line when none of 5 to 13 applies to the two."
+pub record Accepts (code frame : List ℕ) (C : Code) : Type 0 where
+  pub line : parse code ≡ good C
+  pub fits : frameFault C frame ≡ 0
+
+-- "buffers long enough"
+pub record Room (C : Code) (symbols costs store : List ℕ) : Type 0 where
+  pub for-symbols : C .columns ≤ length symbols
+  pub for-costs : C .columns * size C ≤ length costs
+  pub for-store : used C ≤ length store
+
+-- the columns of the last update of check m in the run on a frame
+abbrev pub lastUpdate : Code → List ℕ → ℕ → List Column
+lastUpdate C f m = columnsIn (lastOf (run C f .end) m)
+
+-- "all choices for the other columns that depart from at most two hard decisions and, together with that symbol, satisfy the check"
+pub record Completes (R : Rule) (cs : List Column) (n x : ℕ) (w : List ℕ) : Type 0 where
+  pub fits : Fits (R .size) (others n cs) w
+  pub few : deviations (others n cs) w ≤ R .most
+  pub satisfies : weightedSum R cs (put n x w) ≡ 0
+
+-- v is the least cost over these
+pub record LeastSent (R : Rule) (cs : List Column) (n x v : ℕ) : Type 0 where
+  pub choice : List ℕ
+  pub completes : Completes R cs n x choice
+  pub attained : costOf R (others n cs) choice ≡ v
+  pub least : (w : List ℕ) → Completes R cs n x w → v ≤ costOf R (others n cs) w
+
+-- one run, and what its decoding left: it is not refused, every check was updated, the store's used part is the records of the last
+-- updates, and each sent cost is the least that demand 3 names
+pub record Kept (C : Code) (f : List ℕ) (reply : Reply) (store : List ℕ) : Type 0 where
+  pub not-refused : reply .refused ≡ false
+  pub replies : reply ≡ outcome (run C f .status) (run C f .end .t)
+  pub updated : (m : ℕ) → m < length (C .checks) → lastOf (run C f .end) m ≡ made (lastUpdate C f m)
+  pub used-part : take (used C) store ≡ records C (run C f .end)
+  pub sent-least : (m : ℕ) → m < length (C .checks) → (n : ℕ) → n < length (check C m) → (x : ℕ) → x < size C
+      → LeastSent (rule C) (lastUpdate C f m) n x (sent (rule C) (lastUpdate C f m) n x)
+
+-- "at the last update of every check, each column was sent the same sum of the other columns' weighted hard decisions and, at each symbol,
+-- the same least cost before scaling"
+pub record Agree (C : Code) (f f′ : List ℕ) : Type 0 where
+  pub shifts : (m : ℕ) → m < length (C .checks) → (n : ℕ) → n < length (check C m) → shift (rule C) (lastUpdate C f m) n ≡ shift (rule C) (lastUpdate C f′ m) n
+  pub sents : (m : ℕ) → m < length (C .checks) → (n : ℕ) → n < length (check C m) → (x : ℕ) → x < size C
+      → sent (rule C) (lastUpdate C f m) n x ≡ sent (rule C) (lastUpdate C f′ m) n x
+
+-- "the two used parts are equal, byte for byte, exactly when the two runs agree in this"
+pub record Compared (C : Code) (f f′ : List ℕ) (reply reply′ : Reply) (store store′ : List ℕ) : Type 0 where
+  pub one : Kept C f reply store
+  pub other : Kept C f′ reply′ store′
+  pub equal : (take (used C) store ≡ take (used C) store′) ↔ Agree C f f′
+
+-- demand 3: any code line, two frames accepted under it on which the machine makes at least one iteration, any decoding of each in buffers
+-- long enough, whatever these held before
+abbrev pub Demand-3 : Type 0
+Demand-3 =
+    (code : List ℕ) (C : Code) (f f′ : List ℕ) → Accepts code f C → Accepts code f′ C
+    → 0 < run C f .end .t → 0 < run C f′ .end .t
+    → (y c s y′ c′ s′ : List ℕ) → Room C y c s → Room C y′ c′ s′
+    → (r r′ : Reply) (z P u z′ P′ u′ : List ℕ) → Decodes code f y c s r z P u → Decodes code f′ y′ c′ s′ r′ z′ P′ u′
+    → Compared C f f′ r r′ u u′

@@ -1,0 +1,8 @@
+-- What a reader must believe: Line, CodeLine, Machine, Decoding, in document 01's order. Tables and Lent say the same in the shape of the code's
+-- loops; proofs/ shows that they do.
+pub mod Line
+pub mod CodeLine
+pub mod Machine
+pub mod Decoding
+pub mod Tables
+pub mod Lent

@@ -1,0 +1,133 @@
+-- Document 01's layered machine: start, one update of a check, one iteration, the run with its result.
+use mathlib.Core.Bool.{Bool}
+use mathlib.Core.List.{List, [], map}
+use Prim.Native.Nat.{ℕ, zero, suc, _+_, _-_, _*_, _/_, _^_, min}
+use lib.Dec.{eqb}
+use lib.ListN.{length, getD, set, replicate}
+use Rattle.trellis.specs.Lists.{upTo, smallest, pick, upto, allTo, patch, blocks}
+use Rattle.trellis.specs.Field.{xor, product}
+use Rattle.trellis.specs.Check.{Column, column, firstZero, sent}
+use Rattle.trellis.specs.Record.{recordOf, recordLength}
+use Rattle.trellis.specs.Rules.{ruleFor}
+use Rattle.machine.specs.CodeLine.{Edge, Code, size, rule, check, edgeAt, columnOf}
+
+-- a check's last update: none so far, or the columns (weights and Q) that it had. "its hard decisions, shifts and sent costs are those of
+-- this Q", and so is its record
+pub data Last : Type 0 where
+  none : Last
+  made : List Column → Last
+
+-- "Its state: the costs P_n(x) (0 to 510), a record or none for each check, and the iteration number t."
+pub record State : Type 0 where
+  pub costs : List ℕ
+  pub last : List Last
+  pub t : ℕ
+
+abbrev pub lastOf : State → ℕ → Last
+lastOf s m = getD (s .last) m none
+
+abbrev pub columnsIn : Last → List Column
+columnsIn none = []
+columnsIn (made cs) = cs
+
+-- "the decisions (smallest symbol of cost 0 in P_n)"
+unfoldable pub symbols : Code → List ℕ → List ℕ
+symbols C P = map (λ c. firstZero (columnOf (size C) P c)) (upTo (C .columns))
+
+-- the sum of h times x over the first n edges
+abbrev pub paritySum : ℕ → List Edge → List ℕ → ℕ → ℕ
+paritySum p es z n = upto (λ k a. xor a (product p (edgeAt es k .weight) (getD z (edgeAt es k .column) 0))) n 0
+
+-- "It is satisfied when the sum of h_n times x_n is 0."
+abbrev pub satisfied : ℕ → List Edge → List ℕ → Bool
+satisfied p es z = eqb (paritySum p es z (length es)) 0
+
+-- the decisions "satisfy every check"
+unfoldable pub settled : Code → List ℕ → Bool
+settled C P = allTo (λ m. satisfied (C .p) (check C m) (symbols C P)) (length (C .checks))
+
+-- "The scaled cost is floor(g times sent cost / 16)."
+abbrev pub scaled : ℕ → ℕ → ℕ
+scaled g c = g * c / 16
+
+-- the scaled costs that column n was sent at a check's last update; "0 if none"
+unfoldable pub message : ℕ → ℕ → Last → ℕ → List ℕ
+message p g none n = map (λ x. 0) (upTo (2 ^ p))
+message p g (made cs) n = map (λ x. scaled g (sent (ruleFor p) cs n x)) (upTo (2 ^ p))
+
+abbrev pub lessLeast : List ℕ → List ℕ
+lessLeast l = map (λ v. v - smallest l) l
+
+abbrev pub capped : List ℕ → List ℕ
+capped l = map (λ v. min 255 v) l
+
+-- "subtract the old record's scaled cost (0 if none), subtract the least over x, and cap at 255; this is Q." A difference may be below 0;
+-- 255, which no scaled cost exceeds, is added first, and goes away again with the least
+unfoldable pub incoming : ℕ → List ℕ → List ℕ → List ℕ
+incoming q P old = capped (lessLeast (map (λ x. getD P x 0 + 255 - getD old x 0) (upTo q)))
+
+-- "The new P is Q plus the scaled cost, less its least over x."
+unfoldable pub outgoing : ℕ → List ℕ → List ℕ → List ℕ
+outgoing q Q new = lessLeast (map (λ x. getD Q x 0 + getD new x 0) (upTo q))
+
+-- the columns of an update of a check with the edges es, where column n's old scaled costs are old n
+unfoldable pub arriving : ℕ → List Edge → (ℕ → List ℕ) → List ℕ → List Column
+arriving p es old P =
+    map (λ n. record { weight = edgeAt es n .weight; costs = incoming (2 ^ p) (columnOf (2 ^ p) P (edgeAt es n .column)) (old n) }) (upTo (length es))
+
+-- P after it, where column n's new scaled costs are new n
+unfoldable pub spread : ℕ → List Edge → List Column → (ℕ → List ℕ) → List ℕ → List ℕ
+spread p es cs new P =
+    upto (λ n (P : List ℕ). patch P (edgeAt es n .column * 2 ^ p) (2 ^ p) (outgoing (2 ^ p) (column cs n .costs) (new n))) (length es) P
+
+-- "This is one update of the check", of check m
+unfoldable pub update : Code → ℕ → State → State
+update C m s =
+    let cs : List Column = arriving (C .p) (check C m) (message (C .p) (C .scale) (lastOf s m)) (s .costs) in
+    record {
+      costs = spread (C .p) (check C m) cs (message (C .p) (C .scale) (made cs)) (s .costs);
+      last = set (s .last) m (made cs);
+      t = s .t;
+    }
+
+-- "An iteration adds 1 to t and takes the checks in code order."
+unfoldable pub iteration : Code → State → State
+iteration C s = upto (update C) (length (C .checks)) (record { costs = s .costs; last = s .last; t = s .t + 1 })
+
+-- "Start: P is the frame, no records, t = 0."
+abbrev pub start : Code → List ℕ → State
+start C f = record { costs = f; last = replicate (length (C .checks)) none; t = 0 }
+
+pub data Status : Type 0 where
+  found : Status
+  notFound : Status
+
+pub record Result : Type 0 where
+  pub status : Status
+  pub end : State
+
+abbrev pub result : Status → State → Result
+result o s = record { status = o; end = s }
+
+-- at most n iterations more. "all checks satisfied means found. Otherwise, if t = I, not found."
+unfoldable pub go : Code → ℕ → State → Result
+go C zero s = pick (settled C (s .costs)) (result found s) (result notFound s)
+go C (suc n) s = pick (settled C (s .costs)) (result found s) (go C n (iteration C s))
+
+unfoldable pub run : Code → List ℕ → Result
+run C f = go C (C .limit) (start C f)
+
+-- the place of check m's record in the store; "as many bytes as the M record lengths add up to"
+unfoldable pub place : Code → ℕ → ℕ
+place C m = upto (λ k a. a + recordLength (rule C) (length (check C k))) m 0
+
+abbrev pub used : Code → ℕ
+used C = place C (length (C .checks))
+
+-- "the record store holds the records end to end in code order": those of the last updates
+abbrev pub recordIn : Code → Last → List ℕ
+recordIn C none = []
+recordIn C (made cs) = recordOf (rule C) cs
+
+unfoldable pub records : Code → State → List ℕ
+records C s = blocks (λ m. recordIn C (lastOf s m)) (length (C .checks))

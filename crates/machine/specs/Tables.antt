@@ -1,0 +1,65 @@
+-- The code line read into tables, as the code reads it: the degrees, and all columns and weights end to end.
+-- proofs/Tables.antt shows that it is parse.
+use mathlib.Core.Path.{_≡_}
+use mathlib.Core.List.{List, [], _∷_, _++_, map}
+use Prim.Native.Nat.{ℕ, zero, suc, _+_, _-_, _*_}
+use lib.Dec.{eqb, ltb, leb}
+use lib.ListN.{length, getD, take}
+use Rattle.trellis.specs.Lists.{each, pick, upto}
+use Rattle.machine.specs.CodeLine.{Read, good, bad, then, Edge, Code, edge, readEdge}
+
+-- columns and weights
+pub record Flat : Type 0 where
+  pub columns : List ℕ
+  pub weights : List ℕ
+
+abbrev pub flat : List ℕ → List ℕ → Flat
+flat cs ws = record { columns = cs; weights = ws }
+
+-- c edges, after those in cs and ws
+unfoldable pub edgesInto : ℕ → List ℕ → ℕ → ℕ → ℕ → ℕ → List ℕ → List ℕ → Read Flat
+edgesInto zero s at n q low cs ws = good (flat cs ws)
+edgesInto (suc c) s at n q low cs ws =
+    then (readEdge s at n q low) (λ (e : Edge). edgesInto c s (at + 3) n q (e .column + 1) (cs ++ (e .column ∷ [])) (ws ++ (e .weight ∷ [])))
+
+unfoldable pub checkInto : List ℕ → ℕ → ℕ → ℕ → ℕ → List ℕ → List ℕ → Read Flat
+checkInto s at n q total cs ws =
+    pick (leb (length s) at) (bad 5)
+    (pick (ltb (getD s at 0) 3) (bad 9)
+    (pick (ltb 32 (getD s at 0)) (bad 9)
+    (pick (ltb 1024 (total + getD s at 0)) (bad 9)
+    (pick (ltb (length s - (at + 1)) (3 * getD s at 0)) (bad 5)
+    (edgesInto (getD s at 0) s (at + 1) n q 0 cs ws)))))
+
+pub record Tables : Type 0 where
+  pub degrees : List ℕ
+  pub edges : Flat
+
+abbrev pub tables : List ℕ → List ℕ → List ℕ → Tables
+tables ds cs ws = record { degrees = ds; edges = flat cs ws }
+
+unfoldable pub checksInto : ℕ → List ℕ → ℕ → ℕ → ℕ → ℕ → List ℕ → List ℕ → List ℕ → Read Tables
+checksInto zero s at n q total ds cs ws = pick (eqb at (length s)) (good (tables ds cs ws)) (bad 5)
+checksInto (suc c) s at n q total ds cs ws =
+    then (checkInto s at n q total cs ws) (λ (f : Flat).
+    checksInto c s (at + 1 + 3 * getD s at 0) n q (total + getD s at 0) (ds ++ (getD s at 0 ∷ [])) (f .columns) (f .weights))
+
+-- the tables of a list of checks
+abbrev pub tablesOf : List (List Edge) → Tables
+tablesOf l = tables (map (λ es. length es) l) (each (map (λ e. e .column)) l) (each (map (λ e. e .weight)) l)
+
+-- a check's edges from its parts of the tables
+abbrev pub edgesOf : List ℕ → List ℕ → List Edge
+edgesOf [] ws = []
+edgesOf (c ∷ cs) [] = []
+edgesOf (c ∷ cs) (w ∷ ws) = edge c w ∷ edgesOf cs ws
+
+-- where check m's edges start
+abbrev pub before : List ℕ → ℕ → ℕ
+before ds m = upto (λ k a. a + getD ds k 0) m 0
+
+-- tables that start with those of a code's checks
+pub record Tabled (C : Code) (ds cs ws : List ℕ) : Type 0 where
+  pub degrees : take (length (tablesOf (C .checks) .degrees)) ds ≡ tablesOf (C .checks) .degrees
+  pub columns : take (length (tablesOf (C .checks) .edges .columns)) cs ≡ tablesOf (C .checks) .edges .columns
+  pub weights : take (length (tablesOf (C .checks) .edges .weights)) ws ≡ tablesOf (C .checks) .edges .weights

@@ -1,0 +1,52 @@
+-- The product's recurrence as the code runs it: an element has p bits, so one halving more or less than p changes nothing.
+use mathlib.Core.Path.{_≡_, refl, sym, ap}
+use mathlib.Core.Bool.{Bool, cond, _&&_}
+use Prim.Native.Nat.{ℕ, zero, suc, _/_, _%_, _^_, _≤_, _<_}
+use native.Mathlib.Omega.{arith}
+use lib.Dec.{T, eqb, ltb, ltb→lt}
+use lib.Pow.{pow-mono}
+use borrow.Author.Tests.{eq-eqb, ne-eqb}
+use lib.Bits.{bitXor}
+use Rattle.trellis.specs.Lists.{allTo}
+use Rattle.trellis.specs.Field.{xor, doubled, productIn, product}
+use Rattle.trellis.proofs.Tests.{all-at, each-field}
+use Rattle.trellis.proofs.Xor.{xor-zero}
+
+-- nothing is left to add to 0
+pub product-zero : (n p a : ℕ) → productIn n p a 0 ≡ 0
+product-zero zero p a = refl
+product-zero (suc n) p a = rw (product-zero n p (doubled p a)) (xor-zero 0)
+
+halving-more : (n p a b : ℕ) → b < 2 ^ n → productIn (suc n) p a b ≡ productIn n p a b
+halving-more zero p a b h = let e : b ≡ 0 = omega arith in rw e (xor-zero 0)
+halving-more (suc n) p a b h = ap (xor (cond (eqb (b % 2) 1) a 0)) (halving-more n p (doubled p a) (b / 2) (omega arith))
+
+pub product-step : (p a b : ℕ) → b < 2 ^ p → product p a b ≡ xor (cond (eqb (b % 2) 1) a 0) (product p (doubled p a) (b / 2))
+product-step p a b h = sym (halving-more p p a b h)
+
+module _ (p a b d r : ℕ) (h : b < 2 ^ p) (e : d ≡ doubled p a) (q : r ≡ product p d (b / 2)) where
+  pub product-odd : b % 2 ≡ 1 → bitXor a r ≡ product p a b
+  unfolding xor
+  product-odd o = rw (product-step p a b h, eq-eqb (b % 2) 1 o, q, e)
+
+  pub product-even : (b % 2 ≡ 1 → ⊥) → r ≡ product p a b
+  product-even o = rw (product-step p a b h, ne-eqb (b % 2) 1 o, q, e) (sym (xor-zero _))
+
+-- doubling stays in the field: a test of every element of each field
+doubles : ℕ → Bool
+doubles p = allTo (λ a. ltb (doubled p a) (2 ^ p)) (2 ^ p)
+
+all-double : T (doubles 2 && (doubles 3 && (doubles 4 && (doubles 5 && doubles 6))))
+unfolding doubles xor
+all-double = tt
+
+pub doubled-small : (p a : ℕ) → 2 ≤ p → p ≤ 6 → a < 2 ^ p → doubled p a < 2 ^ p
+unfolding doubles
+doubled-small p a l h k = ltb→lt (doubled p a) (2 ^ p) (all-at (λ a. ltb (doubled p a) (2 ^ p)) (2 ^ p) (each-field doubles all-double p l h) a k)
+
+-- a byte holds twice an element, and q
+pub size-64 : (p : ℕ) → p ≤ 6 → 2 ^ p ≤ 64
+size-64 p h = pow-mono {i = p} {j = 6} h
+
+pub size-4 : (p : ℕ) → 2 ≤ p → 4 ≤ 2 ^ p
+size-4 p h = pow-mono {i = 2} {j = p} h

@@ -1,0 +1,8 @@
+-- What a reader must believe, in document 01's order: the field, one check, the record, the replies.
+pub mod Lists
+pub mod Field
+pub mod Check
+pub mod Record
+pub mod Rows
+pub mod Rules
+pub mod Reply

@@ -1,0 +1,139 @@
+//! The code line. Document 01, "Code line as bytes": "p; N as two bytes, high first (1 to 256);
+//! M (1 to 128); scale g (1 to 16); iteration limit I (1 to 255). Then M checks: degree byte, then
+//! for each edge the column (two bytes, high first, below N, rising within the check) and weight."
+
+use crate::check::DEGREES;
+use crate::field::Field;
+use crate::record;
+use crate::refusal::Refusal;
+
+/// "N as two bytes, high first (1 to 256)"
+pub const MOST_COLUMNS: usize = 256;
+/// "M (1 to 128)"
+pub const MOST_CHECKS: usize = 128;
+/// "scale g (1 to 16)"
+pub const MOST_SCALE: u8 = 16;
+/// "All checks together have at most 1,024 edges."
+pub const MOST_EDGES: usize = 1_024;
+
+/// The bytes before the checks: p, N high, N low, M, g, I.
+pub const HEADER_LENGTH: usize = 6;
+/// The bytes of an edge: column high, column low, weight.
+pub const EDGE_LENGTH: usize = 3;
+
+/// An accepted code line.
+#[derive(Clone, Debug, PartialEq, Eq)]
+pub struct Code {
+    /// p; the field has 2^p elements.
+    pub p: u8,
+    /// N, the number of columns.
+    pub n: usize,
+    /// M, the number of checks.
+    pub m: usize,
+    /// g, the scale.
+    pub g: u8,
+    /// I, the iteration limit.
+    pub limit: u8,
+    /// The M checks in code order.
+    pub checks: Vec<CheckNode>,
+}
+
+/// One check of a code: edge k leads to column `columns[k]` of the code with weight `weights[k]`.
+#[derive(Clone, Debug, PartialEq, Eq)]
+pub struct CheckNode {
+    /// The columns of the code, rising.
+    pub columns: Vec<usize>,
+    /// The nonzero weight of each edge.
+    pub weights: Vec<u8>,
+}
+
+impl Code {
+    /// The field of the code's symbols.
+    pub fn field(&self) -> Field {
+        Field::new(self.p).expect("an accepted p")
+    }
+
+    /// "A frame is N times q costs, column by column."
+    pub fn frame_length(&self) -> usize {
+        self.n * self.field().size()
+    }
+
+    /// The used part of the store: "as many bytes as the M record lengths add up to".
+    pub fn store_length(&self) -> usize {
+        self.checks
+            .iter()
+            .map(|check| record::length(self.field(), check.weights.len()))
+            .sum()
+    }
+}
+
+/// Reads a code line. "Code: 5 if under six bytes, 6, 7, 8; in each check 5 for the degree byte, 9,
+/// 5 for its edges, then 10 and 11 edge by edge; last 5 for bytes left over."
+///
+/// The edge total is tested with the degree, so before 5 for the check's edges.
+pub fn code_line(bytes: &[u8]) -> Result<Code, Refusal> {
+    let (header, mut rest) = bytes
+        .split_first_chunk::<HEADER_LENGTH>()
+        .ok_or(Refusal::CodeBytes)?;
+    let [p, n_high, n_low, m, g, limit] = *header;
+    let field = Field::new(p)?;
+    let n = two_bytes(n_high, n_low);
+    let m = usize::from(m);
+    if !(1..=MOST_COLUMNS).contains(&n) || !(1..=MOST_CHECKS).contains(&m) {
+        return Err(Refusal::ColumnsOrChecks);
+    }
+    if !(1..=MOST_SCALE).contains(&g) || limit == 0 {
+        return Err(Refusal::ScaleOrLimit);
+    }
+    let mut checks = Vec::new();
+    let mut edge_total = 0;
+    for _ in 0..m {
+        let (&degree, after_degree) = rest.split_first().ok_or(Refusal::CodeBytes)?;
+        let degree = usize::from(degree);
+        edge_total += degree;
+        if !DEGREES.contains(&degree) || edge_total > MOST_EDGES {
+            return Err(Refusal::Degree);
+        }
+        let (edges, after_edges) = after_degree
+            .split_at_checked(EDGE_LENGTH * degree)
+            .ok_or(Refusal::CodeBytes)?;
+        checks.push(check_node(field, n, edges)?);
+        rest = after_edges;
+    }
+    if !rest.is_empty() {
+        return Err(Refusal::CodeBytes);
+    }
+    Ok(Code {
+        p,
+        n,
+        m,
+        g,
+        limit,
+        checks,
+    })
+}
+
+/// The check with these edges, or the first refusal "10 and 11 edge by edge".
+fn check_node(field: Field, n: usize, edges: &[u8]) -> Result<CheckNode, Refusal> {
+    let mut columns: Vec<usize> = Vec::new();
+    let mut weights = Vec::new();
+    for edge in edges.chunks_exact(EDGE_LENGTH) {
+        let column = two_bytes(edge[0], edge[1]);
+        let weight = edge[2];
+        // "Rising, here and below, means each greater than the one before."
+        if column >= n || columns.last().is_some_and(|&before| column <= before) {
+            return Err(Refusal::Column);
+        }
+        if weight == 0 || !field.contains(weight) {
+            return Err(Refusal::Weight);
+        }
+        columns.push(column);
+        weights.push(weight);
+    }
+    Ok(CheckNode { columns, weights })
+}
+
+/// A number of two bytes, high first.
+fn two_bytes(high: u8, low: u8) -> usize {
+    usize::from(u16::from_be_bytes([high, low]))
+}

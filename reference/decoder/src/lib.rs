@@ -1,0 +1,30 @@
+//! The reference decoder: document 01 (`01-scope.md`) written out once more, in Rust. The proved
+//! library is compared with it, so it is written from the document alone, without that library's
+//! code: the least costs of a check come from listing the choices, as document 01 defines them.
+//!
+//! The entry points are [`product`], [`check`](check()), [`expand`], [`line`](line()),
+//! [`code_line`], [`decode`], [`frame_line`] and [`program`](program()). Each answers a [`Refusal`]
+//! in document 01's order or fills the used part of its lent buffers. The module [`sample`] makes
+//! inputs for tests.
+
+#![forbid(unsafe_code)]
+#![deny(missing_docs)]
+
+pub mod check;
+pub mod code;
+pub mod field;
+pub mod line;
+pub mod machine;
+pub mod program;
+pub mod record;
+pub mod refusal;
+pub mod sample;
+
+pub use check::check;
+pub use code::{code_line, CheckNode, Code};
+pub use field::product;
+pub use line::line;
+pub use machine::{decode, Outcome};
+pub use program::{frame_line, program};
+pub use record::expand;
+pub use refusal::Refusal;

@@ -1,0 +1,195 @@
+//! The layered decoder. Document 01, "Layered machine": "Its state: the costs P_n(x) (0 to 510), a
+//! record or none for each check, and the iteration number t."
+
+use crate::check::{accept_costs, hard_decision, Messages};
+use crate::code::{code_line, Code};
+use crate::field::sum;
+use crate::record;
+use crate::refusal::Refusal;
+
+/// "cap at 255; this is Q"
+const COST_CAP: i32 = 255;
+
+/// "The result is found (0) or not found (1), with t."
+#[derive(Clone, Copy, Debug, PartialEq, Eq)]
+pub enum Outcome {
+    /// The decisions satisfy every check after this many iterations.
+    Found(u8),
+    /// The decisions do not satisfy every check after this many iterations, the limit.
+    NotFound(u8),
+}
+
+impl Outcome {
+    /// "found (0) or not found (1)"
+    pub fn status(self) -> u8 {
+        match self {
+            Outcome::Found(_) => 0,
+            Outcome::NotFound(_) => 1,
+        }
+    }
+
+    /// t.
+    pub fn iterations(self) -> u8 {
+        match self {
+            Outcome::Found(t) | Outcome::NotFound(t) => t,
+        }
+    }
+}
+
+/// Decodes one frame. Order: "Decode: code, 12, 13, 2, 3, 4." "The symbol buffer then holds the N
+/// decisions, the cost buffer (16-bit numbers) holds P, N times q of them, and the record store
+/// holds the records end to end in code order. With t = 0 the store is untouched."
+///
+/// A store too short is refused whatever t would be.
+pub fn decode(
+    code: &[u8],
+    frame: &[u8],
+    symbols: &mut [u8],
+    costs: &mut [u16],
+    store: &mut [u8],
+) -> Result<Outcome, Refusal> {
+    let code = code_line(code)?;
+    accept_costs(code.field(), code.n, frame)?;
+    if symbols.len() < code.n {
+        return Err(Refusal::ShortBuffer);
+    }
+    if costs.len() < code.frame_length() {
+        return Err(Refusal::ShortCosts);
+    }
+    if store.len() < code.store_length() {
+        return Err(Refusal::ShortStore);
+    }
+    let mut machine = Machine::start(&code, frame);
+    let outcome = machine.run();
+    symbols[..code.n].copy_from_slice(&machine.decisions());
+    for (out, &cost) in costs.iter_mut().zip(machine.costs.iter().flatten()) {
+        *out = u16::try_from(cost).expect("P is 0 to 510");
+    }
+    // With t = 0 no check has a record, so nothing is written here.
+    let records = machine.records.iter().flatten().flatten();
+    for (out, &byte) in store.iter_mut().zip(records) {
+        *out = byte;
+    }
+    Ok(outcome)
+}
+
+/// The state of one run.
+#[derive(Clone, Debug, PartialEq, Eq)]
+pub struct Machine<'a> {
+    code: &'a Code,
+    /// P_n(x), as `costs[n][x]`.
+    pub costs: Vec<Vec<i32>>,
+    /// The record of each check, none before its first update.
+    pub records: Vec<Option<Vec<u8>>>,
+    /// The messages at the last update of each check, none before its first: "its hard decisions,
+    /// shifts and sent costs are those of this Q". The machine does not read them again.
+    pub last_messages: Vec<Option<Messages>>,
+    /// t.
+    pub iterations: u8,
+}
+
+impl<'a> Machine<'a> {
+    /// "Start: P is the frame, no records, t = 0." The frame is accepted under the code.
+    pub fn start(code: &'a Code, frame: &[u8]) -> Machine<'a> {
+        let column = |costs: &[u8]| costs.iter().map(|&cost| i32::from(cost)).collect();
+        Machine {
+            code,
+            costs: frame.chunks(code.field().size()).map(column).collect(),
+            records: vec![None; code.m],
+            last_messages: vec![None; code.m],
+            iterations: 0,
+        }
+    }
+
+    /// Runs from the start to the result.
+    pub fn run(&mut self) -> Outcome {
+        loop {
+            if self.satisfies_every_check() {
+                return Outcome::Found(self.iterations);
+            }
+            // "Otherwise, if t = I, not found." At the start t is 0 and I is at least 1.
+            if self.iterations == self.code.limit {
+                return Outcome::NotFound(self.iterations);
+            }
+            self.iterate();
+        }
+    }
+
+    /// "the decisions (smallest symbol of cost 0 in P_n)"
+    pub fn decisions(&self) -> Vec<u8> {
+        self.costs
+            .iter()
+            .map(|costs| hard_decision(costs))
+            .collect()
+    }
+
+    /// Whether the decisions satisfy every check.
+    pub fn satisfies_every_check(&self) -> bool {
+        let decisions = self.decisions();
+        self.code.checks.iter().all(|check| {
+            let terms = check
+                .columns
+                .iter()
+                .zip(&check.weights)
+                .map(|(&column, &weight)| self.code.field().product(weight, decisions[column]));
+            sum(terms) == 0
+        })
+    }
+
+    /// "An iteration adds 1 to t and takes the checks in code order."
+    pub fn iterate(&mut self) {
+        self.iterations += 1;
+        for check in 0..self.code.m {
+            self.update(check);
+        }
+    }
+
+    /// One update of the check with this place in code order: "Work out the new record." "The new P
+    /// is Q plus the scaled cost, less its least over x."
+    pub fn update(&mut self, check: usize) {
+        let field = self.code.field();
+        let node = &self.code.checks[check];
+        let brought = self.brought_costs(check);
+        let messages = Messages::new(field, &node.weights, &brought);
+        let columns = node.columns.iter().zip(brought.chunks(field.size()));
+        for ((&column, brought), sent) in columns.zip(&messages.sent) {
+            let sums = brought.iter().zip(self.scaled(sent));
+            let sums = sums.map(|(&cost, scaled)| i32::from(cost) + scaled);
+            self.costs[column] = less_the_least(sums.collect());
+        }
+        self.records[check] = Some(record::pack(&messages));
+        self.last_messages[check] = Some(messages);
+    }
+
+    /// Q, column by column: "For each column of the check, subtract the old record's scaled cost (0
+    /// if none), subtract the least over x, and cap at 255; this is Q."
+    fn brought_costs(&self, check: usize) -> Vec<u8> {
+        let field = self.code.field();
+        let node = &self.code.checks[check];
+        let old = match &self.records[check] {
+            Some(record) => self.scaled(&record::expansion(field, &node.weights, record)),
+            None => vec![0; node.weights.len() * field.size()],
+        };
+        let mut brought = Vec::new();
+        for (&column, old) in node.columns.iter().zip(old.chunks(field.size())) {
+            let differences = self.costs[column].iter().zip(old);
+            let differences = differences.map(|(cost, old)| cost - old).collect();
+            for cost in less_the_least(differences) {
+                brought.push(u8::try_from(cost.min(COST_CAP)).expect("Q is 0 to 255"));
+            }
+        }
+        brought
+    }
+
+    /// "The scaled cost is floor(g times sent cost / 16)."
+    fn scaled(&self, sent: &[u8]) -> Vec<i32> {
+        let g = i32::from(self.code.g);
+        sent.iter().map(|&cost| g * i32::from(cost) / 16).collect()
+    }
+}
+
+/// The costs of a column, each less the least of them.
+fn less_the_least(costs: Vec<i32>) -> Vec<i32> {
+    let least = costs.iter().min().expect("a column has q costs");
+    costs.iter().map(|cost| cost - least).collect()
+}

@@ -1,0 +1,170 @@
+//! Codes and frames.
+
+use std::ops::RangeInclusive;
+
+use super::{checks, costs, Generator, Style};
+use crate::code::{Code, MOST_EDGES, MOST_SCALE};
+use crate::field::{sum, Field};
+
+/// The ranges from which a code's numbers are taken. A check takes fewer edges than its range says
+/// where the columns or the edge total leave no room for them.
+#[derive(Clone, Debug, PartialEq, Eq)]
+pub struct Size {
+    /// p.
+    pub p: RangeInclusive<u8>,
+    /// N, at least 3.
+    pub columns: RangeInclusive<usize>,
+    /// M.
+    pub checks: RangeInclusive<usize>,
+    /// The degree of each check.
+    pub degree: RangeInclusive<usize>,
+    /// I.
+    pub limit: RangeInclusive<u8>,
+}
+
+impl Size {
+    /// Codes of a few columns, for many runs.
+    pub const SMALL: Size = Size {
+        p: 2..=3,
+        columns: 3..=8,
+        checks: 1..=4,
+        degree: 3..=5,
+        limit: 1..=5,
+    };
+    /// Codes of every p on which a decoding is still short.
+    pub const MEDIUM: Size = Size {
+        p: 2..=6,
+        columns: 8..=48,
+        checks: 2..=16,
+        degree: 3..=8,
+        limit: 1..=10,
+    };
+    /// Every accepted size. A decoding may take up to 255 iterations over 1,024 edges.
+    pub const FULL: Size = Size {
+        p: 2..=6,
+        columns: 3..=256,
+        checks: 1..=128,
+        degree: 3..=32,
+        limit: 1..=255,
+    };
+    /// The limits of p, N, M and the edge total together.
+    pub const MOST_CHECKS: Size = Size {
+        p: 6..=6,
+        columns: 256..=256,
+        checks: 128..=128,
+        degree: 8..=8,
+        limit: 1..=3,
+    };
+    /// The limits of p, N, the degree and the edge total together.
+    pub const MOST_DEGREE: Size = Size {
+        p: 6..=6,
+        columns: 256..=256,
+        checks: 32..=32,
+        degree: 32..=32,
+        limit: 1..=3,
+    };
+}
+
+/// A code line with a word of its code.
+#[derive(Clone, Debug, PartialEq, Eq)]
+pub struct CodeSample {
+    /// The accepted code line.
+    pub line: Vec<u8>,
+    /// N symbols that satisfy every check: all 0 or all different from 0.
+    pub word: Vec<u8>,
+}
+
+/// An accepted code line, and a word of its code, with numbers in the ranges of the size.
+pub fn code(generator: &mut Generator, size: &Size) -> CodeSample {
+    let p = generator.byte(size.p.clone());
+    let n = generator.between(size.columns.clone());
+    let m = generator.between(size.checks.clone());
+    let word = word(generator, p, n);
+    let mut line = vec![p];
+    line.extend(two_bytes(n));
+    line.push(u8::try_from(m).expect("M is at most 128"));
+    line.push(generator.byte(1..=MOST_SCALE));
+    line.push(generator.byte(size.limit.clone()));
+    let mut edges_left = MOST_EDGES;
+    for checks_left in (0..m).rev() {
+        let most = n.min(edges_left - 3 * checks_left).min(*size.degree.end());
+        let degree = generator.between(most.min(*size.degree.start())..=most);
+        edges_left -= degree;
+        let columns = generator.rising(degree, n);
+        let weights = weights_for_word(generator, p, &columns, &word);
+        line.push(u8::try_from(degree).expect("a degree is at most 32"));
+        for (column, weight) in columns.into_iter().zip(weights) {
+            line.extend(two_bytes(column));
+            line.push(weight);
+        }
+    }
+    CodeSample { line, word }
+}
+
+/// A frame of random columns in one style.
+pub fn frame(generator: &mut Generator, code: &Code, style: Style) -> Vec<u8> {
+    costs::columns(generator, code.field().size(), code.n, style)
+}
+
+/// A frame whose hard decisions are the word's symbols but in `wrong` columns, where another symbol
+/// is decided and the word's symbol costs little.
+pub fn noisy_frame(
+    generator: &mut Generator,
+    code: &Code,
+    word: &[u8],
+    wrong: usize,
+    style: Style,
+) -> Vec<u8> {
+    let q = code.field().size();
+    let greatest = (1 << code.p) - 1;
+    let wrong_columns = generator.rising(wrong.min(code.n), code.n);
+    let mut frame = Vec::new();
+    for (n, &symbol) in word.iter().enumerate() {
+        if wrong_columns.contains(&n) {
+            let other = symbol ^ generator.byte(1..=greatest);
+            let mut column = costs::column_deciding(generator, q, style, other);
+            let cost = &mut column[usize::from(symbol)];
+            *cost = (*cost / 4).max(1);
+            frame.extend(column);
+        } else {
+            frame.extend(costs::column_deciding(generator, q, style, symbol));
+        }
+    }
+    frame
+}
+
+/// All 0, or all different from 0: for both, some weights satisfy a check on any three columns.
+fn word(generator: &mut Generator, p: u8, n: usize) -> Vec<u8> {
+    let greatest = (1 << p) - 1;
+    let zero = generator.once_in(4);
+    let symbol = |_| {
+        if zero {
+            0
+        } else {
+            generator.byte(1..=greatest)
+        }
+    };
+    (0..n).map(symbol).collect()
+}
+
+/// Weights with which the word satisfies the check on these columns; about one draw in q does.
+fn weights_for_word(generator: &mut Generator, p: u8, columns: &[usize], word: &[u8]) -> Vec<u8> {
+    let field = Field::new(p).expect("an accepted p");
+    loop {
+        let weights = checks::weights(generator, p, columns.len());
+        let terms = columns
+            .iter()
+            .zip(&weights)
+            .map(|(&column, &weight)| field.product(weight, word[column]));
+        if sum(terms) == 0 {
+            return weights;
+        }
+    }
+}
+
+/// A number as two bytes, high first.
+fn two_bytes(number: usize) -> [u8; 2] {
+    u16::try_from(number)
+        .expect("a number below 65,536")
+        .to_be_bytes()
+}

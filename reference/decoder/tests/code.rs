@@ -1,0 +1,75 @@
+//! Document 01, "Code line as bytes".
+
+use reference_decoder::sample::{self, bytes, Generator, Size};
+use reference_decoder::{code_line, CheckNode, Code};
+
+#[test]
+fn the_fields_of_a_code_line() {
+    let line = bytes("03 0101 02 07 FF 03 000001 000207 010003 04 000105 000206 00FF01 010004");
+    assert_eq!(code_line(&line).map_err(|refusal| refusal.number()), Err(7));
+    let line = bytes("03 0100 02 07 FF 03 000001 000207 00FF03 04 000105 000206 00FE01 00FF04");
+    let expected = Code {
+        p: 3,
+        n: 256,
+        m: 2,
+        g: 7,
+        limit: 255,
+        checks: vec![
+            CheckNode {
+                columns: vec![0, 2, 255],
+                weights: vec![1, 7, 3],
+            },
+            CheckNode {
+                columns: vec![1, 2, 254, 255],
+                weights: vec![5, 6, 1, 4],
+            },
+        ],
+    };
+    assert_eq!(code_line(&line), Ok(expected));
+}
+
+#[test]
+fn the_lengths_of_frame_and_store() {
+    let line = bytes("03 0100 02 07 FF 03 000001 000207 00FF03 04 000105 000206 00FE01 00FF04");
+    let code = code_line(&line).unwrap();
+    assert_eq!(code.frame_length(), 2_048);
+    assert_eq!(code.store_length(), 3 + 35 + 4 + 35);
+}
+
+#[test]
+fn no_line_with_fewer_than_three_columns_is_accepted() {
+    for n in [1, 2] {
+        let line = [2, 0, n, 1, 16, 1, 3, 0, 0, 1, 0, 1, 1, 0, 2, 1];
+        assert_eq!(
+            code_line(&line).map_err(|refusal| refusal.number()),
+            Err(10)
+        );
+    }
+}
+
+#[test]
+fn a_code_line_is_refused_by_5_when_cut_short_or_continued() {
+    let mut generator = Generator::new(30);
+    for _ in 0..50 {
+        let line = sample::code(&mut generator, &Size::SMALL).line;
+        for length in 0..line.len() {
+            let cut = code_line(&line[..length]);
+            assert_eq!(cut.map_err(|refusal| refusal.number()), Err(5));
+        }
+        let continued = [&line[..], &[3]].concat();
+        assert_eq!(
+            code_line(&continued).map_err(|refusal| refusal.number()),
+            Err(5)
+        );
+    }
+}
+
+#[test]
+fn exactly_1024_edges_are_accepted() {
+    let mut generator = Generator::new(31);
+    for size in [Size::MOST_CHECKS, Size::MOST_DEGREE] {
+        let code = code_line(&sample::code(&mut generator, &size).line).unwrap();
+        let edges: usize = code.checks.iter().map(|check| check.columns.len()).sum();
+        assert_eq!((edges, code.n, code.p), (1_024, 256, 6));
+    }
+}

@@ -1,0 +1,177 @@
+//! Document 01, "Who causes which refusal": product, check, expand and line. Each refusal is met on
+//! its own and, for the order, together with the one after it. A refused call changes no lent byte.
+
+use reference_decoder::sample::{bytes, Generator};
+use reference_decoder::{check, expand, line, product, Refusal};
+
+/// Calls with a lent buffer of arbitrary content, `room` long, and gives the refusal's number; the
+/// buffer has not changed.
+fn refused(room: usize, call: impl Fn(&mut [u8]) -> Result<usize, Refusal>) -> u8 {
+    let before = Generator::new(60).bytes(room);
+    let mut buffer = before.clone();
+    let refusal = call(&mut buffer).expect_err("a refusal");
+    assert_eq!(buffer, before);
+    refusal.number()
+}
+
+#[test]
+fn product_6_11() {
+    let number = |p, a, b| product(p, a, b).map_err(|refusal| refusal.number());
+    for p in [0, 1, 7, 255] {
+        assert_eq!(number(p, 0, 0), Err(6));
+        assert_eq!(number(p, 255, 255), Err(6));
+    }
+    for p in 2..=6 {
+        let q = 1 << p;
+        assert_eq!(number(p, 0, q - 1), Ok(0));
+        assert_eq!(number(p, q - 1, 1), Ok(q - 1));
+        for bad in [q, 255] {
+            assert_eq!(number(p, bad, 0), Err(11));
+            assert_eq!(number(p, 0, bad), Err(11));
+        }
+    }
+}
+
+#[test]
+fn check_6_9_11_12_13_4() {
+    let number = |p, weights: &[u8], costs: &[u8], room| {
+        refused(room, |record| check(p, weights, costs, record))
+    };
+    let (weights, costs) = ([1, 2, 3], [0; 12]);
+    let without_zero = [0, 9, 9, 9, 9, 9, 9, 9, 0, 9, 9, 9];
+    for p in [0, 1, 7, 255] {
+        assert_eq!(number(p, &weights, &costs, 18), 6);
+        assert_eq!(number(p, &[1, 2], &costs, 18), 6);
+    }
+    for degree in [0, 1, 2, 33, 34, 256] {
+        assert_eq!(number(2, &vec![1; degree], &vec![0; 4 * degree], 300), 9);
+        assert_eq!(number(2, &vec![0; degree], &vec![0; 4 * degree], 300), 9);
+    }
+    for bad in [0, 4, 255] {
+        for place in 0..3 {
+            let mut weights = weights;
+            weights[place] = bad;
+            assert_eq!(number(2, &weights, &costs, 18), 11);
+            assert_eq!(number(2, &weights, &costs[1..], 18), 11);
+        }
+    }
+    for count in [0, 11, 13, 16] {
+        assert_eq!(number(2, &weights, &vec![0; count], 18), 12);
+        assert_eq!(number(2, &weights, &vec![9; count], 18), 12);
+    }
+    assert_eq!(number(2, &weights, &without_zero, 18), 13);
+    assert_eq!(number(2, &weights, &without_zero, 17), 13);
+    for room in [0, 17] {
+        assert_eq!(number(2, &weights, &costs, room), 4);
+    }
+    assert_eq!(check(2, &weights, &costs, &mut [0; 18]), Ok(18));
+}
+
+#[test]
+fn expand_6_9_11_16_2() {
+    let number = |p, weights: &[u8], record: &[u8], room| {
+        refused(room, |out| expand(p, weights, record, out))
+    };
+    let weights = [1, 2, 3];
+    let record = bytes("010203 0900FF020A FFFF00FF00 000101FF00");
+    for p in [0, 1, 7, 255] {
+        assert_eq!(number(p, &weights, &record, 12), 6);
+        assert_eq!(number(p, &[1, 2], &record, 12), 6);
+    }
+    for degree in [0, 1, 2, 33, 256] {
+        assert_eq!(number(2, &vec![1; degree], &vec![0; degree + 15], 2_000), 9);
+        assert_eq!(number(2, &vec![0; degree], &vec![0; degree + 15], 2_000), 9);
+    }
+    for bad in [0, 4, 255] {
+        assert_eq!(number(2, &[1, bad, 3], &record, 12), 11);
+        assert_eq!(number(2, &[1, bad, 3], &record[1..], 12), 11);
+    }
+    assert_eq!(number(2, &weights, &record[1..], 12), 16);
+    assert_eq!(number(2, &weights, &record[1..], 11), 16);
+    for room in [0, 11] {
+        assert_eq!(number(2, &weights, &record, room), 2);
+    }
+    assert_eq!(expand(2, &weights, &record, &mut [0; 12]), Ok(12));
+}
+
+#[test]
+fn each_fault_of_a_record_is_16() {
+    for (record, fault) in [
+        ("000000 00FF00FF00 00FF00FF00 00FF00FF", "a byte missing"),
+        (
+            "000000 00FF00FF00 00FF00FF00 00FF00FF00 00",
+            "a byte left over",
+        ),
+        ("", "no bytes"),
+        (
+            "000400 00FF00FF00 00FF00FF00 00FF00FF00",
+            "a shift not below q",
+        ),
+        ("0000FF 00FF00FF00 00FF00FF00 00FF00FF00", "a shift of FF"),
+        (
+            "000000 00FF01FF00 00FF00FF00 00FF00FF00",
+            "an unused pair FF 01, first",
+        ),
+        (
+            "000000 000001FFFF 00FF00FF00 00FF00FF00",
+            "an unused pair FF FF, second",
+        ),
+        (
+            "000000 00FF000001 00FF00FF00 00FF00FF00",
+            "an unused pair before a used one",
+        ),
+        ("000000 00FF00FF00 0002010101 00FF00FF00", "falling columns"),
+        ("000000 00FF00FF00 0001010101 00FF00FF00", "equal columns"),
+        (
+            "000000 00FF00FF00 000301FF00 00FF00FF00",
+            "a column not below d, first",
+        ),
+        (
+            "000000 00FF00FF00 0000010301 00FF00FF00",
+            "a column not below d, second",
+        ),
+        ("000000 00FF00FF00 00FE01FF00 00FF00FF00", "a column of FE"),
+        (
+            "000000 00FF00FF00 00FF00FF00 050005FF00",
+            "S equal to E, first",
+        ),
+        (
+            "000000 00FF00FF00 00FF00FF00 0500060105",
+            "S equal to E, second",
+        ),
+        ("000000 00FF00FF00 00FF00FF00 050004FF00", "S below E"),
+        (
+            "000000 00FF00FF00 00FF00FF00 FF00FFFF00",
+            "E of 255 with a pair",
+        ),
+    ] {
+        let number = refused(12, |out| expand(2, &[1, 1, 1], &bytes(record), out));
+        assert_eq!(number, 16, "{fault}");
+    }
+}
+
+#[test]
+fn line_15_14_2() {
+    let number = |text: &[u8], room| refused(room, |out| line(text, out));
+    for count in [32_769, 32_770, 100_000] {
+        assert_eq!(number(&vec![b'0'; count], count), 15);
+        assert_eq!(number(&vec![b'x'; count], count), 15);
+    }
+    for text in [
+        &b"0"[..],
+        b"000",
+        b"0x",
+        b"0\n",
+        b"\n0",
+        b"0a",
+        b"00\r\n",
+        b"  ",
+    ] {
+        assert_eq!(number(text, 2), 14);
+        assert_eq!(number(text, 0), 14);
+    }
+    assert_eq!(number(b"0000", 1), 2);
+    assert_eq!(number(b"00", 0), 2);
+    assert_eq!(line(b"0000", &mut [0; 2]), Ok(2));
+    assert_eq!(line(b"", &mut []), Ok(0));
+}

@@ -1,0 +1,205 @@
+//! Document 01, "Who causes which refusal": the code line and decode. Each refusal is met on its
+//! own and, for the order, together with the one after it. A refused decoding changes no lent
+//! element.
+
+use reference_decoder::sample::{bytes, Generator};
+use reference_decoder::{code_line, decode};
+
+const CODE: &str = "020003011001 03 000001 000101 000201";
+const FRAME: &str = "05000907 00040803 0006020A";
+
+/// The refusal of a code line, which a decoding answers too.
+fn refused_code(line: &[u8]) -> u8 {
+    let number = code_line(line).expect_err("a refusal").number();
+    assert_eq!(refused_decoding(line, &bytes(FRAME), [0, 0, 0]), number);
+    assert_eq!(refused_decoding(line, &[], [300, 20_000, 50_000]), number);
+    number
+}
+
+/// The refusal of a decoding in buffers of arbitrary content, which has not changed. The lengths
+/// are those of the symbol buffer, the cost buffer and the store.
+fn refused_decoding(code: &[u8], frame: &[u8], lengths: [usize; 3]) -> u8 {
+    let mut generator = Generator::new(70);
+    let before_symbols = generator.bytes(lengths[0]);
+    let before_costs = generator.numbers(lengths[1]);
+    let before_store = generator.bytes(lengths[2]);
+    let mut symbols = before_symbols.clone();
+    let mut costs = before_costs.clone();
+    let mut store = before_store.clone();
+    let outcome = decode(code, frame, &mut symbols, &mut costs, &mut store);
+    assert_eq!(
+        (symbols, costs, store),
+        (before_symbols, before_costs, before_store)
+    );
+    outcome.expect_err("a refusal").number()
+}
+
+/// The code line with bytes replaced from a place on.
+fn with(place: usize, replacement: &str) -> Vec<u8> {
+    let mut line = bytes(CODE);
+    let replacement = bytes(replacement);
+    line[place..place + replacement.len()].copy_from_slice(&replacement);
+    line
+}
+
+#[test]
+fn under_six_bytes_is_5_before_6() {
+    for length in 0..6 {
+        assert_eq!(refused_code(&bytes(CODE)[..length]), 5);
+        assert_eq!(refused_code(&bytes("FF0000000000")[..length]), 5);
+    }
+}
+
+#[test]
+fn p_is_6_before_7() {
+    for p in ["00", "01", "07", "08", "FF"] {
+        assert_eq!(refused_code(&with(0, p)), 6);
+        assert_eq!(refused_code(&with(0, &format!("{p}0000"))), 6);
+    }
+}
+
+#[test]
+fn n_and_m_are_7_before_8() {
+    for fault in [
+        "0000 01", "0101 01", "FFFF 01", "0003 00", "0003 81", "0003 FF",
+    ] {
+        assert_eq!(refused_code(&with(1, fault)), 7);
+        assert_eq!(refused_code(&with(1, &format!("{fault} 00"))), 7);
+    }
+}
+
+#[test]
+fn g_and_i_are_8_before_5_and_9() {
+    for fault in ["00 01", "11 01", "FF 01", "10 00"] {
+        assert_eq!(refused_code(&with(4, fault)), 8);
+        assert_eq!(refused_code(&with(4, fault)[..6]), 8);
+        assert_eq!(refused_code(&with(4, &format!("{fault} 02"))), 8);
+    }
+    for accepted in ["01 01", "10 01", "10 FF"] {
+        assert!(code_line(&with(4, accepted)).is_ok());
+    }
+}
+
+#[test]
+fn a_missing_degree_byte_is_5() {
+    assert_eq!(refused_code(&bytes(CODE)[..6]), 5);
+    let second_check_missing = with(3, "02");
+    assert_eq!(refused_code(&second_check_missing), 5);
+}
+
+#[test]
+fn a_degree_is_9_before_5_for_the_edges() {
+    for degree in ["00", "02", "21", "FF"] {
+        assert_eq!(refused_code(&with(6, degree)), 9);
+        assert_eq!(refused_code(&with(6, degree)[..7]), 9);
+    }
+}
+
+#[test]
+fn an_edge_total_above_1024_is_9_before_5_for_the_edges() {
+    let mut line = bytes("06 0100 21 10 01");
+    for _ in 0..32 {
+        line.push(32);
+        line.extend((0..32).flat_map(|column| [0, column, 1]));
+    }
+    assert_eq!(refused_code(&line), 5);
+    line.push(3);
+    assert_eq!(refused_code(&line), 9);
+    line.extend(bytes("000001 000101 000201"));
+    assert_eq!(refused_code(&line), 9);
+}
+
+#[test]
+fn missing_edge_bytes_are_5_before_10() {
+    assert_eq!(refused_code(&bytes(CODE)[..15]), 5);
+    assert_eq!(refused_code(&with(7, "FFFF")[..15]), 5);
+}
+
+#[test]
+fn a_column_is_10_before_11_of_the_same_edge() {
+    for (place, fault) in [
+        (7, "0003"),
+        (7, "FFFF"),
+        (10, "0000"),
+        (10, "0100"),
+        (13, "0001"),
+        (13, "0000"),
+        (13, "0003"),
+    ] {
+        assert_eq!(refused_code(&with(place, fault)), 10);
+        assert_eq!(refused_code(&with(place, &format!("{fault}00"))), 10);
+    }
+}
+
+#[test]
+fn a_weight_is_11_before_later_faults() {
+    for weight in ["00", "04", "FF"] {
+        for place in [9, 12, 15] {
+            assert_eq!(refused_code(&with(place, weight)), 11);
+        }
+        let next_column_too = with(9, &format!("{weight} 0000"));
+        assert_eq!(refused_code(&next_column_too), 11);
+        let left_over_too = [with(15, weight), vec![0]].concat();
+        assert_eq!(refused_code(&left_over_too), 11);
+        let mut next_degree_too = [with(15, weight), vec![2]].concat();
+        next_degree_too[3] = 2;
+        assert_eq!(refused_code(&next_degree_too), 11);
+    }
+}
+
+#[test]
+fn bytes_left_over_are_5() {
+    assert_eq!(refused_code(&[bytes(CODE), vec![0]].concat()), 5);
+    assert_eq!(
+        refused_code(&[bytes(CODE), bytes("03000001000101000201")].concat()),
+        5
+    );
+}
+
+#[test]
+fn decode_12_13_2_3_4() {
+    let code = bytes(CODE);
+    let number = |frame: &str, lengths| refused_decoding(&code, &bytes(frame), lengths);
+    let long_enough = [3, 12, 18];
+    for frame in [
+        "",
+        "05000907 00040803 000602",
+        "05000907 00040803 0006020A 00",
+    ] {
+        assert_eq!(number(frame, long_enough), 12);
+    }
+    assert_eq!(number("05010907 01040803 010602", long_enough), 12);
+    let without_zero = "05000907 01040803 0006020A";
+    assert_eq!(number(without_zero, long_enough), 13);
+    assert_eq!(number(without_zero, [2, 12, 18]), 13);
+    assert_eq!(number(FRAME, [2, 12, 18]), 2);
+    assert_eq!(number(FRAME, [0, 11, 18]), 2);
+    assert_eq!(number(FRAME, [3, 11, 18]), 3);
+    assert_eq!(number(FRAME, [3, 0, 17]), 3);
+    assert_eq!(number(FRAME, [3, 12, 17]), 4);
+    assert_eq!(number(FRAME, [3, 12, 0]), 4);
+    let accepted = decode(
+        &code,
+        &bytes(FRAME),
+        &mut [0; 3],
+        &mut [0; 12],
+        &mut [0; 18],
+    );
+    assert!(accepted.is_ok());
+}
+
+#[test]
+fn a_column_in_no_check_needs_a_cost_of_0() {
+    let code = bytes("020004011001 03 000001 000101 000201");
+    let frame = bytes("05000907 00040803 0006020A 01010101");
+    assert_eq!(refused_decoding(&code, &frame, [4, 16, 18]), 13);
+}
+
+#[test]
+fn a_short_store_is_4_even_when_no_iteration_is_made() {
+    let satisfied = "00040803 00040803 0006020A";
+    assert_eq!(
+        refused_decoding(&bytes(CODE), &bytes(satisfied), [3, 12, 17]),
+        4
+    );
+}

@@ -1,0 +1,145 @@
+//! The samples: those meant to be accepted are, they spread over their ranges, and damage meets
+//! every refusal of the code line. (The other refusals are counted in `buffers.rs`.)
+
+use std::collections::BTreeSet;
+
+use reference_decoder::record::has_accepted_form;
+use reference_decoder::sample::{self, Generator, Size, Style};
+use reference_decoder::{code_line, decode, program, Outcome, Refusal};
+
+#[test]
+fn a_seed_gives_the_same_samples() {
+    let sample = |seed| sample::code(&mut Generator::new(seed), &Size::MEDIUM);
+    assert_eq!(sample(1), sample(1));
+    assert_ne!(sample(1), sample(2));
+}
+
+#[test]
+fn rising_numbers_are_different_and_below_the_bound() {
+    let mut generator = Generator::new(90);
+    for bound in 1..40 {
+        let count = generator.between(0..=bound);
+        let numbers = generator.rising(count, bound);
+        assert_eq!(numbers.len(), count);
+        assert!(numbers.windows(2).all(|pair| pair[0] < pair[1]));
+        assert!(numbers.iter().all(|&number| number < bound));
+    }
+    assert_eq!(generator.rising(5, 5), [0, 1, 2, 3, 4]);
+}
+
+#[test]
+fn codes_are_accepted_and_their_words_satisfy_them() {
+    let mut generator = Generator::new(91);
+    let mut sizes = BTreeSet::new();
+    for size in [
+        Size::SMALL,
+        Size::MEDIUM,
+        Size::FULL,
+        Size::MOST_CHECKS,
+        Size::MOST_DEGREE,
+    ] {
+        for _ in 0..40 {
+            let sample = sample::code(&mut generator, &size);
+            let code = code_line(&sample.line).expect("an accepted code line");
+            let field = code.field();
+            for check in &code.checks {
+                let mut sum = 0;
+                for (&column, &weight) in check.columns.iter().zip(&check.weights) {
+                    sum ^= field.product(weight, sample.word[column]);
+                }
+                assert_eq!(sum, 0);
+                assert!(size.degree.contains(&check.weights.len()) || size == Size::FULL);
+            }
+            assert!(size.columns.contains(&code.n) && size.checks.contains(&code.m));
+            sizes.insert(code.p);
+        }
+    }
+    assert_eq!(sizes, BTreeSet::from([2, 3, 4, 5, 6]));
+}
+
+#[test]
+fn frames_are_accepted_and_runs_end_in_every_way() {
+    let mut generator = Generator::new(92);
+    let mut kinds = BTreeSet::new();
+    for _ in 0..300 {
+        let sample = sample::code(&mut generator, &Size::SMALL);
+        let code = code_line(&sample.line).unwrap();
+        let style = generator.one_of(&Style::ALL);
+        let wrong = generator.below(code.n);
+        let frames = [
+            sample::frame(&mut generator, &code, style),
+            sample::noisy_frame(&mut generator, &code, &sample.word, wrong, style),
+        ];
+        for frame in frames {
+            let mut symbols = vec![0; code.n];
+            let mut costs = vec![0; code.frame_length()];
+            let mut store = vec![0; code.store_length()];
+            let outcome = decode(&sample.line, &frame, &mut symbols, &mut costs, &mut store);
+            kinds.insert(match outcome.expect("an accepted frame") {
+                Outcome::Found(0) => "found at the start",
+                Outcome::Found(1) => "found after one iteration",
+                Outcome::Found(_) => "found after more iterations",
+                Outcome::NotFound(_) => "not found",
+            });
+        }
+    }
+    assert_eq!(kinds.len(), 4, "{kinds:?}");
+}
+
+#[test]
+fn a_noisy_frame_without_wrong_columns_decides_for_the_word() {
+    let mut generator = Generator::new(93);
+    for style in Style::ALL {
+        let sample = sample::code(&mut generator, &Size::MEDIUM);
+        let code = code_line(&sample.line).unwrap();
+        for wrong in [0, 3] {
+            let frame = sample::noisy_frame(&mut generator, &code, &sample.word, wrong, style);
+            let columns = frame.chunks(code.field().size());
+            let decisions = columns.map(|costs| costs.iter().position(|&cost| cost == 0));
+            let differences = decisions
+                .zip(&sample.word)
+                .filter(|&(decision, &symbol)| decision != Some(usize::from(symbol)));
+            assert_eq!(differences.count(), wrong);
+        }
+    }
+}
+
+#[test]
+fn records_have_accepted_form() {
+    let mut generator = Generator::new(94);
+    for _ in 0..300 {
+        let p = generator.byte(2..=6);
+        let degree = generator.between(3..=32);
+        let record = sample::record(&mut generator, p, degree);
+        let field = reference_decoder::field::Field::new(p).unwrap();
+        assert!(has_accepted_form(field, degree, &record));
+    }
+}
+
+#[test]
+fn damaged_codes_meet_every_refusal() {
+    let mut generator = Generator::new(95);
+    let mut numbers = BTreeSet::new();
+    for _ in 0..2_000 {
+        let line = sample::code(&mut generator, &Size::SMALL).line;
+        let damaged = sample::damaged_code(&mut generator, &line);
+        numbers.insert(code_line(&damaged).err().map_or(0, Refusal::number));
+    }
+    assert_eq!(numbers, BTreeSet::from([0, 5, 6, 7, 8, 9, 10, 11]));
+}
+
+#[test]
+fn program_inputs_meet_results_and_refusals() {
+    let mut generator = Generator::new(96);
+    let mut starts = BTreeSet::new();
+    for _ in 0..300 {
+        let output = program(&sample::program_input(&mut generator, &Size::SMALL, 5));
+        let lines = output
+            .split(|&byte| byte == b'\n')
+            .filter(|line| !line.is_empty());
+        starts.extend(lines.map(|line| String::from_utf8_lossy(&line[..2]).into_owned()));
+    }
+    for status in ["00", "01", "05", "0C", "0D", "0E", "0F"] {
+        assert!(starts.contains(status), "{status}");
+    }
+}
