@@ -9,3 +9,4 @@ pub mod CheckCall
 pub mod Expanding
 pub mod Forming
 pub mod ExpandCall
+pub mod Values

@@ -87,7 +87,7 @@ fault-case p ws bad rest e n = go (ltb p 2) (ltb 6 p) (ltb (length ws) 3) (ltb 3
     go false false false false true e n = absurd (n e)
 
 module _ (p : ℕ) (ws : List ℕ) (W : Weighed p ws) where
-  rest-case : {A : Type 0} (bad : ℕ → A) (rest : A) → weightCases p ws bad rest ≡ rest
+  pub rest-case : {A : Type 0} (bad : ℕ → A) (rest : A) → weightCases p ws bad rest ≡ rest
   rest-case bad rest = simp (le-ltb _ _ (W .low), le-ltb _ _ (W .high), le-ltb _ _ (W .three), le-ltb _ _ (W .few), W .ok)
 
   pub weight-at : (n : ℕ) → n < length ws → (getD ws n 0 ≢ 0) × (getD ws n 0 < 2 ^ p)

@@ -4164,7 +4164,7 @@ const PRODUCTS: [u8; 4096] = [
     40,
     23,
     21,
-    42,
+    42, // 63 times 63
 ];
 
 // a times b at p = 6.

@@ -6,12 +6,12 @@ use native.Mathlib.Omega.{arith}
 use lib.ListN.{length}
 use Rattle.trellis.specs.Lists.{others, put}
 use Rattle.trellis.specs.Field.{xor}
-use Rattle.trellis.specs.Check.{Rule, Column, Fits, Allowed, IsLeast, weigh, weightedSum, shift, sent, column}
+use Rattle.trellis.specs.Check.{Rule, Column, Fits, Allowed, IsLeast, weigh, weightedSum, sent, column}
 use Rattle.machine.specs.Decoding.{Completes, LeastSent}
-use Rattle.trellis.proofs.Xor.{xor-self, xor-assoc, xor-right, xor-cancel}
+use Rattle.trellis.proofs.Xor.{xor-self, xor-right, xor-cancel}
 use Rattle.trellis.proofs.Total.{total-others, fits-put, others-put, at-put}
-use Rattle.trellis.proofs.Sent.{Proper, sent-is, xors}
-use Rattle.trellis.proofs.Records.{size-xor, shift-small, sent-at}
+use Rattle.trellis.proofs.Sent.{Proper, xors}
+use Rattle.trellis.proofs.Records.{sent-exists}
 
 module _ (R : Rule) (cs : List Column) (P : Proper R cs) (n x : ℕ) (l : n < length cs) (h : x < R .size) where
   abbrev hx : ℕ
@@ -31,10 +31,7 @@ module _ (R : Rule) (cs : List Column) (P : Proper R cs) (n x : ℕ) (l : n < le
   -- the sent cost is that least cost
   pub sent-least : LeastSent R cs n x (sent R cs n x)
   sent-least =
-      let a : ℕ = xor hx (shift R cs n) in
-      let i = sent-is R cs P a (size-xor R cs P _ _ (P .sound n l .closed x h) (shift-small R cs P n l)) n l in
-      let e : xor a (shift R cs n) ≡ hx = rw (xor-assoc hx, xor-self, xor-right) in
-      let j : IsLeast R (others n cs) hx (sent R cs n x) = rw (sent-at R cs P n x) (rw e at i) in
+      let j : IsLeast R (others n cs) hx (sent R cs n x) = sent-exists R cs P n x l h in
       record { choice = j .choice; completes = of-allowed _ (j .allowed); attained = j .attained; least = λ w c. j .least w (to-allowed w c) }
 
   -- and there is only one

@@ -1,7 +1,6 @@
 -- P stays within 0 to 510 with a 0 in each column; every scaled cost is at most 255; the offset of 255 goes away.
 use mathlib.Core.Path.{_≡_, refl, sym, ap, _∙_}
 use mathlib.Core.Bool.{Bool, true, false}
-use mathlib.Core.Logic.{_≢_}
 use mathlib.Core.List.{List, [], _∷_, _++_, map, List·Memᴰ, List·Memᴰ·head, List·Memᴰ·tail, Memᴰ·map, Memᴰ·of-map}
 use Prim.Native.Nat.{ℕ, zero, suc, _+_, _*_, _-_, _≤_, _<_, min}
 use native.Mathlib.Nat.{not-suc-le-zero, mul-le-mul, mul-le-mul-right, suc-mul, div-le-of-le-mul, zero-sub}
@@ -12,37 +11,16 @@ use borrow.Author.Tests.{eqb-true}
 use lib.ListN.{length, getD, take, drop, length-map, length-append, length-take, length-drop, take-append-drop, List·getD-map, List·getD-eq-default}
 use lib.Seq.{take-at, drop-at, take-append-le, drop-append-le, drop-append-add, drop-drop, getD-drop, length-take-le}
 use Rattle.trellis.specs.Lists.{upTo, smallest, pick, upto, part, patch, allTo}
-use Rattle.trellis.specs.Field.{xor}
-use Rattle.trellis.specs.Check.{Rule, Column, weigh, shift, sent, sentAt, firstZero, column}
+use Rattle.trellis.specs.Check.{Column, firstZero, column}
 use Rattle.machine.specs.CodeLine.{Edge, Code, size, rule, check, edgeAt, columnOf, zeroIn, frameFault}
 use Rattle.machine.specs.Machine.{made, State, scaled, message, lessLeast, capped, incoming, outgoing, spread, update, iteration, start, result, found, notFound, go, run, settled}
 use Rattle.trellis.proofs.Lists.{in-upTo, of-upTo, smallest-in, smallest-le}
 use Rattle.trellis.proofs.Places.{length-count}
 use Rattle.trellis.proofs.Tests.{fst-T, snd-T}
-use Rattle.trellis.proofs.Sent.{Proper, sent-one, symbol}
-use Rattle.trellis.proofs.Records.{size-xor, shift-small, sent-at}
+use Rattle.trellis.proofs.Records.{sent-small}
 use Rattle.machine.proofs.Lists.{at-upTo, pick-elim}
 use Rattle.machine.proofs.Lines.{GoodCheck, GoodCode}
 use Rattle.machine.proofs.Updates.{Below, less-zero, Made, made-proper, arriving-made, size-some}
-
--- a sent cost is at most what one deviation costs
-pub sent-small : (R : Rule) (cs : List Column) → Proper R cs → (b : ℕ) → ((n : ℕ) → n < length cs → Below b (column cs n .costs))
-    → (n x : ℕ) → n < length cs → x < R .size → sent R cs n x ≤ b
-sent-small R cs P b B n x l h =
-    rw (sent-at R cs P n x)
-    (elim (ℕ-discrete n 0) [
-      | yes e ↦ by 1 (omega (arith, P .two)) (omega arith)
-      | no e ↦ by 0 (omega arith) e
-    ])
-  where
-    a : ℕ
-    a = xor (weigh R (column cs n) x) (shift R cs n)
-
-    small : a < R .size
-    small = size-xor R cs P _ _ (P .sound n l .closed x h) (shift-small R cs P n l)
-
-    by : (m : ℕ) → m < length cs → n ≢ m → sentAt R cs n a ≤ b
-    by m j ne = omega (arith, sent-one R cs P a small n m l j ne, B m j (symbol R cs P a small m j))
 
 pub scaled-small : (g c : ℕ) → g ≤ 16 → c ≤ 255 → scaled g c ≤ 255
 scaled-small g c h k = div-le-of-le-mul 16 (mul-le-mul h k)

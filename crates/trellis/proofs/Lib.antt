@@ -12,3 +12,4 @@ pub mod Kept
 pub mod Instances
 pub mod FieldLaws
 pub mod Recurrence
+pub mod Bench

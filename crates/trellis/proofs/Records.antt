@@ -1,23 +1,23 @@
 -- A record expands to the sent costs; so two records are equal exactly when the shifts and the sent costs are.
 use mathlib.Core.Path.{_≡_, refl, sym, ap, ap₂, _∙_}
 use mathlib.Core.Bool.{Bool}
-use mathlib.Core.Logic.{_↔_}
+use mathlib.Core.Logic.{_≢_, _↔_}
 use mathlib.Core.List.{List, [], _∷_, _++_}
-use Prim.Native.Nat.{ℕ, zero, suc, _+_, _*_, _-_, _<_}
+use Prim.Native.Nat.{_≤_, ℕ, zero, suc, _+_, _*_, _-_, _<_}
 use native.Mathlib.Nat.{zero-add}
-use native.Mathlib.Decide.{decLt}
+use native.Mathlib.Decide.{decLt, ℕ-discrete}
 use native.Mathlib.Omega.{arith}
 use lib.Dec.{ltb, ltb→lt, lt→ltb}
 use lib.ListN.{length, getD, length-append, length-map, List·getD-append, List·getD-map}
 use lib.Seq.{drop-at, drop-drop}
 use lib.Pow.{pow-pos}
-use Rattle.trellis.specs.Lists.{smallest, keep, each, countFrom, upTo}
+use Rattle.trellis.specs.Lists.{smallest, keep, each, countFrom, upTo, others}
 use Rattle.trellis.specs.Field.{xor}
-use Rattle.trellis.specs.Check.{column, blank, Rule, Column, weigh, decision, decided, shift, sentAt, extra, leastSent, sent, weights, allSent}
+use Rattle.trellis.specs.Check.{column, blank, Rule, Column, weigh, decision, decided, shift, sentAt, extra, leastSent, sent, weights, allSent, IsLeast}
 use Rattle.trellis.specs.Record.{shifts, above, group, recordOf, besideGroup, groupLength, readAt, expandAt, expansion}
 use Rattle.trellis.proofs.Lists.{of-count, in-upTo, of-upTo, in-keep, of-keep}
 use Rattle.trellis.proofs.Xor.{xor-self, xor-assoc, xor-right, xor-lt, xor-cancel}
-use Rattle.trellis.proofs.Sent.{Proper, Sound, sent-zero, split-decided, extra-is, extra-le, above-few}
+use Rattle.trellis.proofs.Sent.{Proper, Sound, sent-zero, split-decided, extra-is, extra-le, above-few, sent-is, sent-one, symbol}
 use Rattle.trellis.proofs.Places.{map-ext, each-ext, keep-ext, length-count, at-map-count, slice-each, length-each, beside-in, beside-out, beside-pads}
 
 module _ (R : Rule) (cs : List Column) (P : Proper R cs) where
@@ -88,6 +88,31 @@ module _ (R : Rule) (cs : List Column) (P : Proper R cs) where
   pub sent-at : (n x : ℕ) → sent R cs n x ≡ sentAt R cs n (xor (weigh R (column cs n) x) (shift R cs n))
   unfolding sent sentAt
   sent-at n x = rw (xor-assoc (weigh R (column cs n) x), xor-self, xor-right)
+
+  -- "One always exists, with a cost of at most 255, since one deviation is enough."
+  pub sent-exists : (n x : ℕ) → n < length cs → x < R .size → IsLeast R (others n cs) (weigh R (column cs n) x) (sent R cs n x)
+  sent-exists n x l h =
+      let a : ℕ = xor (weigh R (column cs n) x) (shift R cs n) in
+      let i = sent-is R cs P a (size-xor _ _ (P .sound n l .closed x h) (shift-small n l)) n l in
+      let e : xor a (shift R cs n) ≡ weigh R (column cs n) x = rw (xor-assoc (weigh R (column cs n) x), xor-self, xor-right) in
+      rw (sent-at n x) (rw e at i)
+
+  pub sent-small : (b : ℕ) → ((n : ℕ) → n < length cs → (y : ℕ) → getD (column cs n .costs) y 0 ≤ b) → (n x : ℕ) → n < length cs → x < R .size → sent R cs n x ≤ b
+  sent-small b B n x l h =
+      rw (sent-at n x)
+      (elim (ℕ-discrete n 0) [
+        | yes e ↦ by 1 (omega (arith, P .two)) (omega arith)
+        | no e ↦ by 0 (omega arith) e
+      ])
+    where
+      a : ℕ
+      a = xor (weigh R (column cs n) x) (shift R cs n)
+
+      small : a < R .size
+      small = size-xor _ _ (P .sound n l .closed x h) (shift-small n l)
+
+      by : (m : ℕ) → m < length cs → n ≢ m → sentAt R cs n a ≤ b
+      by m j ne = omega (arith, sent-one R cs P a small n m l j ne, B m j (symbol R cs P a small m j))
 
   -- expansion recovers every sent cost
   pub expand-record : (n x : ℕ) → n < length cs → x < R .size → expandAt R (weights cs) (recordOf R cs) n x ≡ sent R cs n x

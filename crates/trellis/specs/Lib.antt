@@ -6,3 +6,4 @@ pub mod Record
 pub mod Rows
 pub mod Rules
 pub mod Reply
+pub mod Bench

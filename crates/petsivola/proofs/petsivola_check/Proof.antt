@@ -1,0 +1,28 @@
+-- The reply of the call, packed; what it writes is short enough for the lower half.
+use mathlib.Core.Path.{ap, _∙_}
+use native.Mathlib.Omega.{arith}
+use Rattle.checknode.proofs.Values.{check-short}
+use Rattle.petsivola.specs.Packed.{packed}
+use borrow.Author.Needs.{needs}
+use Rattle.petsivola.proofs.petsivola_check.Statement.{statement}
+use Rattle.petsivola.proofs.petsivola_check.Tie as tie
+
+check-requires : tie.Need-check-requires
+check-requires c κs = search needs
+
+of-written-requires : tie.Need-of-written-requires
+of-written-requires c κs =
+    let at-call = c .before .before in
+    let s = at-call .before .before .before .before .before in
+    rw (at-call .check .ensures .0) (omega (arith, check-short (s .args .p) (s .args .weights .now) (s .args .costs .now) (s .args .out .now)))
+
+same-length : tie.Need-same-length
+same-length c = search needs
+
+returns : tie.Need-returns
+returns c =
+    let at-call = c .before .before .before in
+    (c .of-written .ensures ∙ ap packed (at-call .check .ensures .0), at-call .check .ensures .1)
+
+pub petsivola-check-spec : {M : Type 1} → statement M
+petsivola-check-spec = tie.close (tie.spec check-requires of-written-requires same-length returns)

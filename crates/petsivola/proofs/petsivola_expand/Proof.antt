@@ -1,0 +1,29 @@
+-- The reply of the call, packed; what it writes is short enough for the lower half.
+use mathlib.Core.Path.{ap, _∙_}
+use native.Mathlib.Omega.{arith}
+use Rattle.checknode.proofs.Values.{expand-short}
+use Rattle.petsivola.specs.Packed.{packed}
+use borrow.Author.Needs.{needs}
+use Rattle.petsivola.proofs.petsivola_expand.Statement.{statement}
+use Rattle.petsivola.proofs.petsivola_expand.Tie as tie
+
+expand-requires : tie.Need-expand-requires
+expand-requires c κs = search needs
+
+of-written-requires : tie.Need-of-written-requires
+of-written-requires c κs =
+    let at-call = c .before .before in
+    let s = at-call .before .before .before .before .before in
+    rw (at-call .expand .ensures .0) (omega (arith, expand-short (s .args .p) (s .args .weights .now) (s .args .bytes .now) (s .args .out .now)))
+
+same-length : tie.Need-same-length
+same-length c = search needs
+
+returns : tie.Need-returns
+returns c =
+    let at-call = c .before .before .before in
+    (c .of-written .ensures ∙ ap packed (at-call .expand .ensures .0), at-call .expand .ensures .1)
+
+pub petsivola-expand-spec : {M : Type 1} → statement M
+petsivola-expand-spec =
+    tie.close (tie.spec expand-requires of-written-requires same-length returns)

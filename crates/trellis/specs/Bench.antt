@@ -1,0 +1,65 @@
+-- Document 01's bench table, the cases marked #: what is asked and what is expected.
+use mathlib.Core.List.{List, [], _∷_, map, _++_}
+use Prim.Native.Nat.{ℕ, _+_, _-_}
+use lib.ListN.{replicate}
+use Rattle.trellis.specs.Lists.{each, countFrom, upTo}
+use Rattle.trellis.specs.Field.{product}
+use Rattle.trellis.specs.Check.{Column, extra}
+use Rattle.trellis.specs.Record.{shifts, recordOf}
+use Rattle.trellis.specs.Rules.{ruleFor}
+
+-- a product, a check's record, its shifts, its E for each a from 1 on
+pub data Case : Type 0 where
+  productOf : (p a b : ℕ) → Case
+  recordAt : List Column → Case
+  shiftsAt : List Column → Case
+  extrasAt : List Column → Case
+
+-- what a case means, as a list of numbers. "p = 2, weights 1, unless said."
+abbrev pub meaning : Case → List ℕ
+meaning (productOf p a b) = product p a b ∷ []
+meaning (recordAt cs) = recordOf (ruleFor 2) cs
+meaning (shiftsAt cs) = shifts (ruleFor 2) cs
+meaning (extrasAt cs) = map (extra (ruleFor 2) cs) (countFrom 1 3)
+
+pub record Line : Type 0 where
+  pub case : Case
+  pub expected : List ℕ
+
+abbrev gives : Case → List ℕ → Line
+gives c l = record { case = c; expected = l }
+
+abbrev columns : List (List ℕ) → List Column
+columns = map (λ l. record { weight = 1; costs = l })
+
+abbrev weighted : ℕ → List ℕ → Column
+weighted h l = record { weight = h; costs = l }
+
+-- d shifts of 0 and, for each a, E = 0 with two unused pairs
+abbrev nothingAbove : List ℕ
+nothingAbove = replicate 3 0 ++ each (λ a. 0 ∷ 0xFF ∷ 0 ∷ 0xFF ∷ 0 ∷ []) (upTo 3)
+
+unfoldable pub table : List Line
+table =
+    -- p = 3: 3 times 3 = 5; 4 times 4 = 6. p = 4: 2 times 9 = 1. p = 6: 2 times 32 = 3
+    gives (productOf 3 3 3) (5 ∷ []) ∷
+    gives (productOf 3 4 4) (6 ∷ []) ∷
+    gives (productOf 4 2 9) (1 ∷ []) ∷
+    gives (productOf 6 2 32) (3 ∷ []) ∷
+    -- Columns 0 5 7 9 / 0 4 8 3 / 0 6 2 10: record 000000 040105FF00 020207FF00 030107FF00
+    gives (recordAt (columns ((0 ∷ 5 ∷ 7 ∷ 9 ∷ []) ∷ (0 ∷ 4 ∷ 8 ∷ 3 ∷ []) ∷ (0 ∷ 6 ∷ 2 ∷ 10 ∷ []) ∷ [])))
+    (0x00 ∷ 0x00 ∷ 0x00 ∷ 0x04 ∷ 0x01 ∷ 0x05 ∷ 0xFF ∷ 0x00 ∷ 0x02 ∷ 0x02 ∷ 0x07 ∷ 0xFF ∷ 0x00 ∷ 0x03 ∷ 0x01 ∷ 0x07 ∷ 0xFF ∷ 0x00 ∷ []) ∷
+    -- Column 0 as 5 0 9 7 instead: shifts 000101, the rest equal
+    gives (recordAt (columns ((5 ∷ 0 ∷ 9 ∷ 7 ∷ []) ∷ (0 ∷ 4 ∷ 8 ∷ 3 ∷ []) ∷ (0 ∷ 6 ∷ 2 ∷ 10 ∷ []) ∷ [])))
+    (0x00 ∷ 0x01 ∷ 0x01 ∷ 0x04 ∷ 0x01 ∷ 0x05 ∷ 0xFF ∷ 0x00 ∷ 0x02 ∷ 0x02 ∷ 0x07 ∷ 0xFF ∷ 0x00 ∷ 0x03 ∷ 0x01 ∷ 0x07 ∷ 0xFF ∷ 0x00 ∷ []) ∷
+    -- Columns 0 1 9 9 / 0 9 1 9 / 0 9 9 9: 000000 010009FF00 010109FF00 0200090109
+    gives (recordAt (columns ((0 ∷ 1 ∷ 9 ∷ 9 ∷ []) ∷ (0 ∷ 9 ∷ 1 ∷ 9 ∷ []) ∷ (0 ∷ 9 ∷ 9 ∷ 9 ∷ []) ∷ [])))
+    (0x00 ∷ 0x00 ∷ 0x00 ∷ 0x01 ∷ 0x00 ∷ 0x09 ∷ 0xFF ∷ 0x00 ∷ 0x01 ∷ 0x01 ∷ 0x09 ∷ 0xFF ∷ 0x00 ∷ 0x02 ∷ 0x00 ∷ 0x09 ∷ 0x01 ∷ 0x09 ∷ []) ∷
+    -- All costs 0: shifts and E all 0, no pairs used
+    gives (recordAt (columns (replicate 3 (0 ∷ 0 ∷ 0 ∷ 0 ∷ [])))) nothingAbove ∷
+    -- Three columns 0 255 255 255: each E is 255
+    gives (extrasAt (columns (replicate 3 (0 ∷ 255 ∷ 255 ∷ 255 ∷ [])))) (255 ∷ 255 ∷ 255 ∷ []) ∷
+    -- Weights 1, 2, 3, decisions all 1: shifts 010203
+    gives (shiftsAt (weighted 1 (9 ∷ 0 ∷ 9 ∷ 9 ∷ []) ∷ weighted 2 (9 ∷ 0 ∷ 9 ∷ 9 ∷ []) ∷ weighted 3 (9 ∷ 0 ∷ 9 ∷ 9 ∷ []) ∷ []))
+    (0x01 ∷ 0x02 ∷ 0x03 ∷ []) ∷
+    []

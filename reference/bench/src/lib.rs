@@ -1,0 +1,3 @@
+//! b
+pub mod same;
+pub mod sweeps;

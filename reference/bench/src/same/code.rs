@@ -1,0 +1,112 @@
+//! The code line, read once into tables. Crate `layered`.
+
+use super::record::record_length;
+use super::Refusal;
+
+/// "M (1 to 128)"
+const MOST_CHECKS: usize = 128;
+/// "All checks together have at most 1,024 edges."
+const MOST_EDGES: usize = 1_024;
+/// Column, two bytes, and weight.
+const EDGE: usize = 3;
+
+/// The numbers of an accepted code line, and its checks end to end.
+pub struct Code {
+    pub p: u8,
+    pub n: usize,
+    pub m: usize,
+    pub g: u16,
+    pub limit: u8,
+    degrees: [u8; MOST_CHECKS],
+    columns: [u16; MOST_EDGES],
+    weights: [u8; MOST_EDGES],
+}
+
+impl Code {
+    /// "Code: 5 if under six bytes, 6, 7, 8; in each check 5 for the degree byte, 9, 5 for its edges,
+    /// then 10 and 11 edge by edge; last 5 for bytes left over."
+    pub fn read(bytes: &[u8]) -> Result<Code, Refusal> {
+        let (&[p, n_high, n_low, m, g, limit], mut rest) =
+            bytes.split_first_chunk().ok_or(5)?;
+        if !(2..=6).contains(&p) {
+            return Err(6);
+        }
+        let n = usize::from(u16::from_be_bytes([n_high, n_low]));
+        let m = usize::from(m);
+        if !(1..=256).contains(&n) || !(1..=MOST_CHECKS).contains(&m) {
+            return Err(7);
+        }
+        if !(1..=16).contains(&g) || limit == 0 {
+            return Err(8);
+        }
+        let mut code = Code {
+            p,
+            n,
+            m,
+            g: u16::from(g),
+            limit,
+            degrees: [0; MOST_CHECKS],
+            columns: [0; MOST_EDGES],
+            weights: [0; MOST_EDGES],
+        };
+        let mut edges = 0;
+        for check in 0..m {
+            let (&degree, after) = rest.split_first().ok_or(5)?;
+            let d = usize::from(degree);
+            if !(3..=32).contains(&d) || edges + d > MOST_EDGES {
+                return Err(9);
+            }
+            let (line, after) = after.split_at_checked(EDGE * d).ok_or(5)?;
+            code.degrees[check] = degree;
+            code.read_edges(line, edges)?;
+            edges += d;
+            rest = after;
+        }
+        if rest.is_empty() {
+            Ok(code)
+        } else {
+            Err(5)
+        }
+    }
+
+    /// The edges of one check, into the tables from a place on.
+    fn read_edges(&mut self, line: &[u8], from: usize) -> Result<(), Refusal> {
+        let mut low = 0;
+        for (place, edge) in (from..).zip(line.chunks_exact(EDGE)) {
+            let column = u16::from_be_bytes([edge[0], edge[1]]);
+            if usize::from(column) >= self.n || column < low {
+                return Err(10);
+            }
+            if edge[2] == 0 || edge[2] >> self.p != 0 {
+                return Err(11);
+            }
+            self.columns[place] = column;
+            self.weights[place] = edge[2];
+            low = column + 1;
+        }
+        Ok(())
+    }
+
+    /// q.
+    pub fn q(&self) -> usize {
+        1 << self.p
+    }
+
+    /// The checks in code order: columns and weights.
+    pub fn checks(&self) -> impl Iterator<Item = (&[u16], &[u8])> {
+        let mut from = 0;
+        self.degrees[..self.m].iter().map(move |&degree| {
+            let part = from..from + usize::from(degree);
+            from = part.end;
+            (&self.columns[part.clone()], &self.weights[part])
+        })
+    }
+
+    /// "as many bytes as the M record lengths add up to"
+    pub fn store_length(&self) -> usize {
+        let degrees = self.degrees[..self.m].iter();
+        degrees
+            .map(|&degree| record_length(usize::from(degree), self.q()))
+            .sum()
+    }
+}

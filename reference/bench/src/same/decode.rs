@@ -1,0 +1,142 @@
+//! The layered decoder. Crate `layered`: P stands in the lent cost buffer, the records in the lent
+//! store, the decisions in the lent symbol buffer; one check's Q and expansion in local arrays.
+
+use super::code::Code;
+use super::expansion::expand;
+use super::field::times;
+use super::record::{check, record_length};
+use super::rows::first_zero;
+use super::Refusal;
+
+/// The costs of one check at the most: 32 columns of 64.
+const MOST_COSTS: usize = 32 * 64;
+
+/// "Decode: code, 12, 13, 2, 3, 4." The answer is 0 (found) or 1 (not found), with t.
+pub fn decode(
+    code: &[u8],
+    frame: &[u8],
+    symbols: &mut [u8],
+    costs: &mut [u16],
+    store: &mut [u8],
+) -> Result<(u8, u8), Refusal> {
+    let code = Code::read(code)?;
+    let (q, length) = (code.q(), code.n * code.q());
+    if frame.len() != length {
+        return Err(12);
+    }
+    if frame.chunks_exact(q).any(|column| first_zero(column) == q) {
+        return Err(13);
+    }
+    if symbols.len() < code.n {
+        return Err(2);
+    }
+    if costs.len() < length {
+        return Err(3);
+    }
+    let used = code.store_length();
+    if store.len() < used {
+        return Err(4);
+    }
+    for (cost, &first) in costs.iter_mut().zip(frame) {
+        *cost = u16::from(first);
+    }
+    let symbols = &mut symbols[..code.n];
+    Ok(run(&code, symbols, &mut costs[..length], &mut store[..used]))
+}
+
+/// "If the decisions satisfy every check: found, t = 0." Then iteration by iteration.
+fn run(code: &Code, symbols: &mut [u8], costs: &mut [u16], store: &mut [u8]) -> (u8, u8) {
+    let mut t = 0;
+    loop {
+        decide(code.q(), costs, symbols);
+        if satisfied(code, symbols) {
+            return (0, t);
+        }
+        if t == code.limit {
+            return (1, t);
+        }
+        iterate(code, t == 0, costs, store);
+        t += 1;
+    }
+}
+
+/// "the decisions (smallest symbol of cost 0 in P_n)"
+fn decide(q: usize, costs: &[u16], symbols: &mut [u8]) {
+    for (symbol, column) in symbols.iter_mut().zip(costs.chunks_exact(q)) {
+        let zero = column.iter().position(|&cost| cost == 0);
+        *symbol = zero.unwrap_or(0) as u8;
+    }
+}
+
+/// Whether the decisions satisfy every check.
+fn satisfied(code: &Code, symbols: &[u8]) -> bool {
+    code.checks().all(|(columns, weights)| {
+        let edges = columns.iter().zip(weights);
+        let term = |(&column, &weight)| times(code.p, weight, symbols[usize::from(column)]);
+        edges.map(term).fold(0, |sum, term| sum ^ term) == 0
+    })
+}
+
+/// "An iteration adds 1 to t and takes the checks in code order."
+fn iterate(code: &Code, first: bool, costs: &mut [u16], store: &mut [u8]) {
+    let mut rest = store;
+    for (columns, weights) in code.checks() {
+        let (record, after) = rest.split_at_mut(record_length(weights.len(), code.q()));
+        update(code, columns, weights, first, costs, record);
+        rest = after;
+    }
+}
+
+/// One update of a check.
+fn update(
+    code: &Code,
+    columns: &[u16],
+    weights: &[u8],
+    first: bool,
+    costs: &mut [u16],
+    record: &mut [u8],
+) {
+    let q = code.q();
+    let mut brought = [0; MOST_COSTS];
+    let mut sent = [0; MOST_COSTS];
+    let brought = &mut brought[..columns.len() * q];
+    let sent = &mut sent[..columns.len() * q];
+    if !first {
+        let _ = expand(code.p, weights, record, sent);
+    }
+    let parts = sent.chunks_exact(q).zip(brought.chunks_exact_mut(q));
+    for (&column, (sent, brought)) in columns.iter().zip(parts) {
+        bring(code.g, &costs[usize::from(column) * q..][..q], sent, brought);
+    }
+    let _ = check(code.p, weights, brought, record);
+    let _ = expand(code.p, weights, record, sent);
+    let parts = sent.chunks_exact(q).zip(brought.chunks_exact(q));
+    for (&column, (sent, brought)) in columns.iter().zip(parts) {
+        take(code.g, brought, sent, &mut costs[usize::from(column) * q..][..q]);
+    }
+}
+
+/// "The scaled cost is floor(g times sent cost / 16)."
+fn scaled(g: u16, sent: u8) -> u16 {
+    g * u16::from(sent) / 16
+}
+
+/// Q of one column; each difference is raised by 255, so that none is below 0.
+fn bring(g: u16, costs: &[u16], sent: &[u8], brought: &mut [u8]) {
+    let raised = |(&cost, &sent): (&u16, &u8)| cost + 255 - scaled(g, sent);
+    let differences = costs.iter().zip(sent).map(raised);
+    let least = differences.clone().fold(u16::MAX, u16::min);
+    for (brought, difference) in brought.iter_mut().zip(differences) {
+        *brought = (difference - least).min(255) as u8;
+    }
+}
+
+/// The new P of one column.
+fn take(g: u16, brought: &[u8], sent: &[u8], costs: &mut [u16]) {
+    let sum = |(&brought, &sent): (&u8, &u8)| u16::from(brought) + scaled(g, sent);
+    let sums = brought.iter().zip(sent).map(sum);
+    let least = sums.clone().fold(u16::MAX, u16::min);
+    for (cost, sum) in costs.iter_mut().zip(sums) {
+        *cost = sum - least;
+    }
+}

@@ -1,0 +1,73 @@
+//! The products of one weight with every symbol. Crate `checknode`, modules `field`, `products` and
+//! `table`.
+
+/// The largest q.
+pub const MOST: usize = 64;
+
+/// "a constant table of 4,096 numbers": a times b at p = 6 stands at 64 a + b.
+static PRODUCTS: [[u8; MOST]; MOST] = table();
+
+const fn table() -> [[u8; MOST]; MOST] {
+    let mut table = [[0; MOST]; MOST];
+    let mut a = 0;
+    while a < MOST {
+        let mut b = 0;
+        while b < MOST {
+            table[a][b] = times(6, a as u8, b as u8);
+            b += 1;
+        }
+        a += 1;
+    }
+    table
+}
+
+/// "7, 0B, 13, 25, 43 for p = 2 to 6"
+const fn reducer(p: u8) -> u8 {
+    match p {
+        2 => 0x07,
+        3 => 0x0B,
+        4 => 0x13,
+        5 => 0x25,
+        _ => 0x43,
+    }
+}
+
+/// "doubled by a shift and reduced by the polynomial"
+const fn double(p: u8, a: u8) -> u8 {
+    let shifted = a << 1;
+    if (shifted >> p) & 1 == 1 {
+        shifted ^ reducer(p)
+    } else {
+        shifted
+    }
+}
+
+/// "The product follows its own recurrence, halving the second factor each time".
+pub const fn times(p: u8, a: u8, b: u8) -> u8 {
+    if b == 0 {
+        return 0;
+    }
+    let rest = times(p, double(p, a), b / 2);
+    if b % 2 == 1 {
+        a ^ rest
+    } else {
+        rest
+    }
+}
+
+/// h times x for each symbol x: from the table at p = 6, else by doubling.
+pub fn fill(p: u8, h: u8, row: &mut [u8]) {
+    if p == 6 {
+        row.copy_from_slice(&PRODUCTS[usize::from(h)]);
+        return;
+    }
+    row[0] = 0;
+    let mut term = h;
+    for i in 0..p {
+        let (low, high) = row.split_at_mut(1 << i);
+        for (next, known) in high.iter_mut().zip(low) {
+            *next = *known ^ term;
+        }
+        term = double(p, term);
+    }
+}

@@ -1,0 +1,73 @@
+//! The rows of one check: for each a, the three cheapest entries, filled column by column. Crate
+//! `checknode`, module `rows`. An entry is one number, its key: cost times 256 plus column.
+
+use super::field;
+
+/// The three rising keys of each row, in three slices of q.
+pub struct Rows<'a> {
+    /// The least keys.
+    pub first: &'a mut [u16],
+    /// The second keys.
+    pub second: &'a mut [u16],
+    /// The third keys.
+    pub third: &'a mut [u16],
+}
+
+impl Rows<'_> {
+    /// No key in any row.
+    pub fn clear(&mut self) {
+        self.first.fill(65_533);
+        self.second.fill(65_534);
+        self.third.fill(65_535);
+    }
+
+    /// All columns: leaves the shifts in `shifts`.
+    pub fn fill(
+        &mut self,
+        p: u8,
+        weights: &[u8],
+        costs: &[u8],
+        row: &mut [u8],
+        line: &mut [u16],
+        shifts: &mut [u8],
+    ) {
+        let mut sum = 0;
+        let columns = weights.iter().zip(costs.chunks_exact(line.len()));
+        for ((n, (&weight, costs)), shift) in (0..).zip(columns).zip(shifts.iter_mut()) {
+            field::fill(p, weight, row);
+            *shift = row[first_zero(costs)];
+            sum ^= *shift;
+            scatter(costs, row, *shift, n, line);
+            self.merge(line);
+        }
+        for shift in shifts {
+            *shift ^= sum;
+        }
+    }
+
+    /// One column more: the three least keys of each row.
+    fn merge(&mut self, line: &[u16]) {
+        let rows = self.first.iter_mut().zip(self.second.iter_mut());
+        let rows = rows.zip(self.third.iter_mut());
+        for (&key, ((first, second), third)) in line.iter().zip(rows) {
+            let middle = key.max(*first);
+            let last = middle.max(*second);
+            *first = key.min(*first);
+            *second = middle.min(*second);
+            *third = last.min(*third);
+        }
+    }
+}
+
+/// One column's keys, put into their rows.
+fn scatter(costs: &[u8], row: &[u8], hard_term: u8, n: u16, line: &mut [u16]) {
+    for (&cost, &term) in costs.iter().zip(row) {
+        line[usize::from(term ^ hard_term)] = u16::from(cost) * 256 + n;
+    }
+}
+
+/// "the smallest symbol of cost 0", or the number of costs where there is none.
+pub fn first_zero(costs: &[u8]) -> usize {
+    let zero = costs.iter().position(|&cost| cost == 0);
+    zero.unwrap_or(costs.len())
+}

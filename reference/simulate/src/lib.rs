@@ -1,0 +1,20 @@
+//! The simulation of issue 5: frame error rates over BPSK and white noise, with the decoder called
+//! through the static library, beside the Trellis Min-Max rule of source document 003.
+
+#![forbid(unsafe_code)]
+#![deny(missing_docs)]
+
+pub mod array;
+pub mod channel;
+pub mod chart;
+pub mod code;
+pub mod decoder;
+pub mod encoder;
+pub mod field;
+pub mod layered;
+pub mod library;
+pub mod min_max;
+pub mod progress;
+pub mod quantiser;
+pub mod tally;
+pub mod trial;

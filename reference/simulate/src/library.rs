@@ -1,0 +1,47 @@
+//! The proved decoder, called through the static library.
+
+use reference_decoder as petsivola;
+
+use crate::code::Code;
+use crate::decoder::{Decoder, Outcome};
+
+/// A decoder of one code line, with the buffers that it lends.
+pub struct Library {
+    line: Vec<u8>,
+    symbols: Vec<u8>,
+    costs: Vec<u16>,
+    store: Vec<u8>,
+}
+
+impl Library {
+    /// A decoder of the code with scale g and iteration limit I.
+    pub fn new(code: &Code, g: u8, limit: u8) -> Library {
+        Library {
+            line: code.line(g, limit),
+            symbols: vec![0; code.columns],
+            costs: vec![0; code.frame_length()],
+            store: vec![0; code.store_length()],
+        }
+    }
+}
+
+impl Decoder for Library {
+    fn decode(&mut self, frame: &[u8]) -> Outcome {
+        let outcome = petsivola::decode(
+            &self.line,
+            frame,
+            &mut self.symbols,
+            &mut self.costs,
+            &mut self.store,
+        )
+        .expect("an accepted code line, an accepted frame and buffers long enough");
+        Outcome {
+            found: outcome.status() == 0,
+            iterations: outcome.iterations(),
+        }
+    }
+
+    fn symbols(&self) -> &[u8] {
+        &self.symbols
+    }
+}
