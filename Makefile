@@ -1,8 +1,21 @@
-# make test: the gate. make check: prove what changed.
-.PHONY: test check
+# make -s run < examples/first.hex   decode standard input (proves and builds the program first)
+# make test                          the gate
+.PHONY: run test check mutants compare bench simulate library
+
+run:
+	@rt check decode < /dev/null >&2
+	@target/bin/decode
 
 test:
 	bash .ci/run
 
+# Proves what changed.
 check:
 	rt check
+
+# The must-fail edits that stand outside the gate: every one must be refused.
+mutants:
+	bash scripts/mutants
+
+library:
+	rt staticlib petsivola < /dev/null

@@ -1,3 +1,4 @@
+-- Laws by topic; a function's own proof stands in a folder of its name.
 pub mod Arithmetic
 pub mod Tables
 pub mod Filling

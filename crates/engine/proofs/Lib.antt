@@ -1,3 +1,4 @@
+-- The engine's mathematics: rows of three keys, the choices they give, and the record.
 pub mod Form
 pub mod Rows
 pub mod Few

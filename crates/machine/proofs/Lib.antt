@@ -1,3 +1,4 @@
+-- The machine's laws; Demand.antt has demand 3.
 pub mod Lists
 pub mod Lines
 pub mod Updates

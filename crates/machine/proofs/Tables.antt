@@ -30,7 +30,7 @@ then-ext : {A B : Type 0} (r : Read A) (f g : A → Read B) → ((a : A) → r �
 then-ext (good a) f g h = h a refl
 then-ext (bad k) f g h = refl
 
-pick-then : {A B : Type 0} (b : Bool) (k : ℕ) (r : Read A) (f : A → Read B) → then (pick b (bad k) r) f ≡ pick b (bad k) (then r f)
+pub pick-then : {A B : Type 0} (b : Bool) (k : ℕ) (r : Read A) (f : A → Read B) → then (pick b (bad k) r) f ≡ pick b (bad k) (then r f)
 pick-then true k r f = refl
 pick-then false k r f = refl
 

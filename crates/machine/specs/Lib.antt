@@ -4,5 +4,6 @@ pub mod Line
 pub mod CodeLine
 pub mod Machine
 pub mod Decoding
+pub mod Printing
 pub mod Tables
 pub mod Lent

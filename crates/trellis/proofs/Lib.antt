@@ -1,3 +1,4 @@
+-- Tests and lists, the field's laws, then the theorems about one check.
 pub mod Tests
 pub mod Lists
 pub mod Least

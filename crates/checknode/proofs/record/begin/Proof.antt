@@ -1,3 +1,4 @@
+-- Three slices set to keys that no entry has.
 use borrow.Author.Needs.{needs}
 use Rattle.checknode.proofs.Recording.{begin-law}
 use Rattle.checknode.proofs.record.begin.Statement.{statement}

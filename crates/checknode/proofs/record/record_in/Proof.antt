@@ -1,3 +1,4 @@
+-- Arrays of 64 have room for w at most 64.
 use native.Mathlib.Omega.{arith}
 use borrow.Author.Needs.{needs}
 use Rattle.checknode.proofs.record.record_in.Statement.{statement}

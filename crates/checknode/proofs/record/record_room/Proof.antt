@@ -1,3 +1,4 @@
+-- The first w elements of each array are slices of w.
 use native.Mathlib.Omega.{arith}
 use borrow.Author.Needs.{needs}
 use lib.ListN.{length-take}

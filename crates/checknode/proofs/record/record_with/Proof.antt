@@ -1,3 +1,4 @@
+-- Shifts first, then the groups: together the record.
 use Rattle.checknode.proofs.Recording.{shifts-length}
 use lib.Pow.{pow-pos}
 use mathlib.Core.Path.{refl, ap, _∙_}

@@ -1,3 +1,4 @@
+-- The shifts are the sum of all terms less each term.
 use borrow.Author.Needs.{needs}
 use Rattle.checknode.proofs.Recording.{shifts-law}
 use Rattle.checknode.proofs.record.shifts_with.Statement.{statement}

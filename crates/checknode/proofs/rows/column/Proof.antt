@@ -1,3 +1,4 @@
+-- Products, decision, placing and merging: each callee's equation in turn.
 use native.Mathlib.Omega.{arith}
 use borrow.Author.Needs.{needs}
 use Rattle.checknode.proofs.Filling.{column-placed, column-term, column-done}

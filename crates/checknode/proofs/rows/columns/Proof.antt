@@ -1,3 +1,4 @@
+-- After n turns the rows hold the three least keys of the first n columns, and the terms h times z of these stand in out.
 use Rattle.engine.proofs.Record.{costs-length}
 use mathlib.Core.Path.{_≡_, refl, ap, _∙_}
 use mathlib.Core.List.{_++_}

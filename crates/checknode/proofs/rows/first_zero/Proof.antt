@@ -1,3 +1,4 @@
+-- The search's place plus the first zero of the rest is the first zero of all.
 use mathlib.Core.Path.{_≡_}
 use Prim.Native.Nat.{_+_, _≤_, _<_, _-_}
 use native.Mathlib.Numerals.{add-one}

@@ -1,3 +1,4 @@
+-- After a turns the first a rows hold one column more.
 use mathlib.Core.Path.{_≡_}
 use mathlib.Core.List.{_++_}
 use Prim.Native.Nat.{_≤_, _-_}

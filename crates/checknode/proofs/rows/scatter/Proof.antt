@@ -1,3 +1,4 @@
+-- After x turns the first x symbols stand in their rows.
 use mathlib.Core.Path.{_≡_, refl}
 use Prim.Native.Nat.{_≤_, _-_}
 use native.Mathlib.Numerals.{add-one}

@@ -1,3 +1,4 @@
+-- After i turns the first i elements are v.
 use mathlib.Core.Path.{_≡_}
 use mathlib.Core.List.{_++_}
 use Prim.Native.Nat.{_≤_, _-_}

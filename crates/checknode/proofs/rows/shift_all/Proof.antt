@@ -1,3 +1,4 @@
+-- After i turns the first i shifts stand.
 use Rattle.trellis.specs.Lists.{tab}
 use Rattle.trellis.specs.Field.{xor}
 use Rattle.trellis.proofs.Loops.{tab-more, tab-seam, tab-whole}

@@ -1,3 +1,4 @@
+-- Two tests of the column, in the definition's order.
 use borrow.Author.Tests.{eq-eqb, ne-eqb}
 use Rattle.engine.specs.Keys.{free}
 use Rattle.checknode.proofs.search.avoids.Statement.{statement}

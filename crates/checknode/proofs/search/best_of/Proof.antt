@@ -1,3 +1,4 @@
+-- After b turns the best choice is that of the first b rows; the cost never rises, so it stays below 256.
 use mathlib.Core.Path.{_≡_}
 use Prim.Native.Nat.{_+_, _≤_, _<_, _-_}
 use native.Mathlib.Numerals.{add-one}

@@ -1,3 +1,4 @@
+-- Five stores into a slice of five.
 use Rattle.checknode.proofs.Searching.{five-sets}
 use native.Mathlib.Omega.{arith}
 use borrow.Author.Needs.{needs}

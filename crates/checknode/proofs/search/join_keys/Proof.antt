@@ -1,3 +1,4 @@
+-- Costs add in 16 bits and the two columns stand below: what the definition joins.
 use borrow.Author.Needs.{needs}
 use Rattle.engine.specs.Keys.{joined}
 use Rattle.checknode.proofs.search.join_keys.Statement.{statement}

@@ -1,3 +1,4 @@
+-- Two candidates: the cheapest of one row with the cheapest of the other in another column, and the other way round.
 use Rattle.checknode.proofs.Searching.{pair-law}
 use borrow.Author.Needs.{needs}
 use Rattle.checknode.proofs.search.pair_at.Statement.{statement}

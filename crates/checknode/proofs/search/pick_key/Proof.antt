@@ -1,3 +1,4 @@
+-- The first of three keys that avoids both columns.
 use mathlib.Core.Path.{_≡_}
 use mathlib.Core.Bool.{true, false}
 use borrow.Author.Needs.{needs}

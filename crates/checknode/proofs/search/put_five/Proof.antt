@@ -1,3 +1,4 @@
+-- Which pairs stand above E decides between the four layouts.
 use borrow.Author.Needs.{needs}
 use borrow.Author.Tests.{lt-ltb, le-ltb}
 use Rattle.engine.specs.Keys.{fiveOf}

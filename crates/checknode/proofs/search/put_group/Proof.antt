@@ -1,3 +1,4 @@
+-- The bytes of a from its cheapest choice: each callee computes one part of the definition, and one law puts them together.
 use mathlib.Core.Path.{_∙_}
 use borrow.Author.Needs.{needs}
 use lib.ListN.{length}

@@ -1,3 +1,4 @@
+-- After i turns the bytes of the first i groups stand end to end.
 use mathlib.Core.Path.{_≡_, refl}
 use mathlib.Core.List.{_++_}
 use Prim.Native.Nat.{_+_, _*_, _≤_, _-_}

@@ -1,3 +1,4 @@
+-- With one column there is no second; else the search that leaves column n out.
 use borrow.Author.Needs.{needs}
 use borrow.Author.Tests.{eq-eqb, ne-eqb}
 use Rattle.engine.specs.Keys.{secondOf}

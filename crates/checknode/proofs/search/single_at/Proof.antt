@@ -1,3 +1,4 @@
+-- The cheapest entry of row a, as a choice of one column.
 use native.Mathlib.Omega.{arith}
 use borrow.Author.Needs.{needs}
 use Rattle.engine.specs.Keys.{singleAt}

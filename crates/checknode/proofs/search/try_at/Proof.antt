@@ -1,3 +1,4 @@
+-- A pair of rows that cannot win is skipped, as the definition skips it.
 use native.Mathlib.Omega.{arith}
 use borrow.Author.Needs.{needs}
 use borrow.Author.Tests.{lt-ltb}

@@ -1,3 +1,4 @@
+-- The first zero lies inside where there is one.
 use lib.Dec.{ltb}
 use mathlib.Core.Path.{ap}
 use borrow.Author.Needs.{needs}

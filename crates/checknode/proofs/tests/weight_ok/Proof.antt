@@ -1,3 +1,4 @@
+-- Two tests, in the definition's order.
 use borrow.Author.Tests.{eq-eqb, ne-eqb}
 use Rattle.checknode.specs.Answers.{weightOk}
 use Rattle.checknode.proofs.tests.weight_ok.Statement.{statement}

@@ -1,3 +1,4 @@
+-- After n turns the test is that of the first n columns.
 use mathlib.Core.Path.{_≡_}
 use Prim.Native.Nat.{_≤_, _-_}
 use native.Mathlib.Numerals.{add-one}
