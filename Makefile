@@ -19,3 +19,15 @@ mutants:
 
 library:
 	rt staticlib petsivola < /dev/null
+
+# The static library and the program beside the independent decoder, ROUNDS times as long as in the gate.
+compare: library
+	@rt check decode < /dev/null >&2
+	cargo run --manifest-path reference/Cargo.toml --release --offline -p compare --bin compare -- $(ROUNDS)
+
+# Rewrites docs/bench and docs/simulation.
+bench: library
+	cargo run --manifest-path reference/Cargo.toml --release --offline -p bench
+
+simulate: library
+	cargo run --manifest-path reference/Cargo.toml --release --offline -p simulate

@@ -8,7 +8,7 @@ use native.Mathlib.Nat.{not-suc-le-zero}
 use native.Mathlib.Decide.{ℕ-discrete}
 use native.Mathlib.Omega.{arith}
 use lib.Dec.{eqb}
-use lib.ListN.{length, take, drop, length-take, length-drop, length-replicate, getD-replicate, take-append-drop}
+use lib.ListN.{length, take, drop, length-take, length-drop, length-replicate, getD-replicate, take-append-drop, length-append}
 use lib.Seq.{take-at, drop-at, take-add}
 use borrow.Author.Tests.{ne-eqb}
 use Rattle.trellis.specs.Lists.{pick, upto, part, patch, blocks}
@@ -20,9 +20,10 @@ use Rattle.machine.specs.Lent.{Lent, weightsOf, heard, gathered, turn, p
 use Rattle.trellis.proofs.Lists.{of-upTo}
 use Rattle.trellis.proofs.Places.{map-ext}
 use Rattle.trellis.proofs.Records.{expand-record}
+use Rattle.trellis.proofs.Form.{record-length}
 use Rattle.trellis.proofs.Loops.{length-blocks, blocks-ext}
 use Rattle.machine.proofs.Lines.{GoodCheck, GoodCode}
-use Rattle.machine.proofs.Updates.{Made, made-proper, arriving-made, record-length, Fine, IsMade, Kept, MadeTo, updates-kept, last-same, last-other, iteration-kept}
+use Rattle.machine.proofs.Updates.{Made, made-proper, arriving-made, Fine, IsMade, Kept, MadeTo, updates-kept, last-same, last-other, iteration-kept}
 
 -- blocks: one of them, and one of them replaced
 blocks-split : (f : ℕ → List ℕ) (n : ℕ) (r : List ℕ) (m : ℕ) → m < n → (t : List ℕ) × (blocks f n ++ r ≡ blocks f m ++ (f m ++ t))
@@ -45,11 +46,11 @@ part-at x y t a n e k = rw (drop-at x (y ++ t) a e) (take-at y t n k)
 patch-at : (x y t s : List ℕ) (a n : ℕ) → length x ≡ a → length y ≡ n → patch (x ++ (y ++ t)) a n s ≡ x ++ (s ++ t)
 patch-at x y t s a n e k = rw (take-at x (y ++ t) a e, drop-at x (y ++ t) a e, drop-at y t n k)
 
-arriving-ext : (p : ℕ) (es : List Edge) (f g : ℕ → List ℕ) (P : List ℕ) → ((n : ℕ) → n < length es → f n ≡ g n) → arriving p es f P ≡ arriving p es g P
+pub arriving-ext : (p : ℕ) (es : List Edge) (f g : ℕ → List ℕ) (P : List ℕ) → ((n : ℕ) → n < length es → f n ≡ g n) → arriving p es f P ≡ arriving p es g P
 unfolding arriving
 arriving-ext p es f g P h = map-ext (λ n i. rw (h n (of-upTo i)))
 
-spread-ext : (p : ℕ) (es : List Edge) (cs : List Column) (f g : ℕ → List ℕ) (P : List ℕ) → ((n : ℕ) → n < length es → f n ≡ g n) → spread p es cs f P ≡ spread p es cs g P
+pub spread-ext : (p : ℕ) (es : List Edge) (cs : List Column) (f g : ℕ → List ℕ) (P : List ℕ) → ((n : ℕ) → n < length es → f n ≡ g n) → spread p es cs f P ≡ spread p es cs g P
 unfolding spread
 spread-ext p es cs f g P h = upto-ext (length es) _ _ P (λ n i Q. rw (h n i))
   where
@@ -101,6 +102,10 @@ module _ (C : Code) (G : GoodCode C) (s₀ : List ℕ) (room : used C ≤ length
     length-front : (m : ℕ) → m ≤ length (C .checks) → length (blocks (λ m. pieceOf C s₀ m (lastOf s m)) m) ≡ place C m
     unfolding place
     length-front m h = length-blocks (λ m. pieceOf C s₀ m (lastOf s m)) (len C) m (λ k i. length-piece k (omega arith) (lastOf s k) (K .fine k (omega arith)))
+
+    pub length-held : length (held C s₀ s) ≡ length s₀
+    unfolding held
+    length-held = simp (length-append, length-drop) (omega (arith, length-front (length (C .checks)) (omega arith)))
 
     module _ (m : ℕ) (h : m < length (C .checks)) where
       pub held-part : part (held C s₀ s) (place C m) (len C m) ≡ pieceOf C s₀ m (lastOf s m)
@@ -162,7 +167,7 @@ module _ (C : Code) (G : GoodCode C) (s₀ : List ℕ) (room : used C ≤ length
           (arriving-ext (C .p) es _ _ (s .costs) (heard-message es H first m (lastOf s m) (K .fine m h) w))
 
   -- the checks from k on are as they were
-  untouched : (s : State) → Kept C s → (k : ℕ) → k ≤ length (C .checks) → (j : ℕ) → k ≤ j → lastOf (upto (update C) k s) j ≡ lastOf s j
+  pub untouched : (s : State) → Kept C s → (k : ℕ) → k ≤ length (C .checks) → (j : ℕ) → k ≤ j → lastOf (upto (update C) k s) j ≡ lastOf s j
   untouched s K zero h j i = refl
   untouched s K (suc k) h j i =
       last-other C G (upto (update C) k s) (updates-kept C G s K k (omega arith) .0) k h j (omega arith) ∙ untouched s K k (omega arith) j (omega arith)
@@ -222,7 +227,7 @@ module _ (C : Code) (G : GoodCode C) (s₀ : List ℕ) (room : used C ≤ length
       at false i = (step ∙ i .0, i .1)
 
   -- with no record the store is as it was; with all of them it starts with the records
-  held-none : (s : State) → ((m : ℕ) → m < length (C .checks) → lastOf s m ≡ none) → held C s₀ s ≡ s₀
+  pub held-none : (s : State) → ((m : ℕ) → m < length (C .checks) → lastOf s m ≡ none) → held C s₀ s ≡ s₀
   unfolding held place
   held-none s h = ap (λ b. b ++ drop (used C) s₀) (front (length (C .checks)) (omega arith)) ∙ take-append-drop (used C) s₀
     where

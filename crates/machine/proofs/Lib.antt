@@ -7,4 +7,5 @@ pub mod Literal
 pub mod Demand
 pub mod Lent
 pub mod Tables
+pub mod Edges
 pub mod Examples

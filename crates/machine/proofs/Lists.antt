@@ -1,12 +1,12 @@
 -- Lists that the machine is made of.
 use mathlib.Core.Path.{_≡_, refl, ap, _∙_}
 use mathlib.Core.Bool.{Bool, true, false}
-use mathlib.Core.List.{List, [], _∷_, map, List·Memᴰ, List·Memᴰ·head, List·Memᴰ·tail}
-use Prim.Native.Nat.{ℕ, zero, suc, _+_, _*_, _<_}
+use mathlib.Core.List.{List, [], _∷_, map}
+use Prim.Native.Nat.{ℕ, zero, suc, _+_, _<_}
 use native.Mathlib.Nat.{not-suc-le-zero, le-of-suc-le-suc}
 use native.Mathlib.Omega.{arith}
-use lib.ListN.{length, getD, length-append}
-use Rattle.trellis.specs.Lists.{each, countFrom, upTo, pick}
+use lib.ListN.{getD}
+use Rattle.trellis.specs.Lists.{countFrom, upTo, pick}
 
 pub at-count : {A : Type 0} (f : ℕ → A) (i n j : ℕ) (e : A) → j < n → getD (map f (countFrom i n)) j e ≡ f (i + j)
 at-count f i zero j e h = absurd (not-suc-le-zero h)
@@ -19,10 +19,6 @@ at-upTo f n j e h = at-count f 0 n j e h ∙ ap f (omega arith)
 pub map-after : {A B D : Type 0} (g : B → D) (f : A → B) (l : List A) → map g (map f l) ≡ map (λ x. g (f x)) l
 map-after g f [] = refl
 map-after g f (x ∷ l) = ap (λ r. g (f x) ∷ r) (map-after g f l)
-
-pub length-each : {A : Type 0} (f : A → List ℕ) (w : ℕ) (l : List A) → ((x : A) → List·Memᴰ x l → length (f x) ≡ w) → length (each f l) ≡ w * length l
-length-each f w [] g = omega arith
-length-each f w (x ∷ l) g = rw (length-append (f x), g x (List·Memᴰ·head refl), length-each f w l (λ y m. g y (List·Memᴰ·tail m))) (omega arith)
 
 pub pick-elim : {A : Type 0} (P : A → Type 0) (b : Bool) (x y : A) → P x → P y → P (pick b x y)
 pick-elim P true x y h k = h

@@ -80,7 +80,7 @@ edges-of : (es : List Edge) → edgesOf (cols es) (wts es) ≡ es
 edges-of [] = refl
 edges-of (e ∷ es) = ap (λ l. e ∷ l) (edges-of es)
 
-before-cons : (d : ℕ) (ds : List ℕ) (m : ℕ) → before (d ∷ ds) (suc m) ≡ d + before ds m
+pub before-cons : (d : ℕ) (ds : List ℕ) (m : ℕ) → before (d ∷ ds) (suc m) ≡ d + before ds m
 before-cons d ds zero = omega arith
 before-cons d ds (suc m) = ap (λ a. a + getD ds m 0) (before-cons d ds m) ∙ omega arith
 

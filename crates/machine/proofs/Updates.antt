@@ -1,27 +1,27 @@
 -- Every update's columns are those of an accepted check; after an iteration every check has its last update.
-use mathlib.Core.Path.{_≡_, refl, ap, ap₂, _∙_}
+use mathlib.Core.Path.{_≡_, refl, ap, _∙_}
 use mathlib.Core.Logic.{_≢_}
 use mathlib.Core.List.{List, map, List·Memᴰ, Memᴰ·map, Memᴰ·cast}
 use Prim.Native.Nat.{ℕ, zero, suc, _+_, _*_, _-_, _^_, _≤_, _<_, min}
 use native.Mathlib.Nat.{not-suc-le-zero}
 use native.Mathlib.Decide.{ℕ-discrete}
 use native.Mathlib.Omega.{arith}
-use lib.ListN.{length, getD, length-map, length-set, length-replicate, length-append, getD-replicate, List·getD-map}
+use lib.ListN.{length, getD, length-map, length-set, length-replicate, getD-replicate, List·getD-map}
 use lib.Seq.{getD-set-same, getD-set-other}
 use lib.Pow.{pow-pos}
-use Rattle.trellis.specs.Lists.{upTo, countFrom, smallest, upto}
-use Rattle.trellis.specs.Check.{Rule, Column, weights, column, blank}
-use Rattle.trellis.specs.Record.{recordOf, recordLength, shifts, group}
+use Rattle.trellis.specs.Lists.{upTo, smallest, upto}
+use Rattle.trellis.specs.Check.{Column, weights, column, blank}
+use Rattle.trellis.specs.Record.{recordOf, recordLength}
 use Rattle.machine.specs.CodeLine.{Edge, Code, size, rule, check, edgeAt, columnOf}
 use Rattle.machine.specs.Machine.{Last, none, made, State, lastOf, columnsIn, message, lessLeast, incoming, arriving, update, iteration, start, result, found, notFound, go, run, settled, place, used, recordIn, records}
-use Rattle.trellis.proofs.Lists.{in-upTo, of-count, smallest-in}
+use Rattle.trellis.proofs.Lists.{in-upTo, smallest-in}
 use Rattle.trellis.proofs.Places.{length-count}
 use Rattle.trellis.proofs.Sent.{Proper}
 use Rattle.trellis.proofs.FieldLaws.{fields-at}
 use Rattle.trellis.proofs.Instances.{Accepted, sum-joins, proper}
-use Rattle.trellis.proofs.Records.{group-length, length-shifts}
+use Rattle.trellis.proofs.Form.{record-length}
 use Rattle.trellis.proofs.Loops.{length-blocks}
-use Rattle.machine.proofs.Lists.{at-upTo, map-after, length-each, pick-elim}
+use Rattle.machine.proofs.Lists.{at-upTo, map-after, pick-elim}
 use Rattle.machine.proofs.Lines.{GoodEdge, GoodCheck, GoodCode}
 
 -- no element above b
@@ -90,13 +90,6 @@ made-proper C G es H cs M =
     wide : (p : ℕ) → 2 ≤ p → 2 ≤ 2 ^ p
     wide zero h = absurd (omega arith)
     wide (suc p) h = omega (arith, pow-pos p)
-
-pub record-length : (R : Rule) (cs : List Column) → Proper R cs → length (recordOf R cs) ≡ length cs + (1 + 2 * R .most) * (R .size - 1)
-unfolding recordOf
-record-length R cs P =
-    length-append (shifts R cs) _
-    ∙ ap₂ (λ a b. a + b) (length-shifts R cs P) (length-each (group R cs) (1 + 2 * R .most) (countFrom 1 (R .size - 1)) (λ a m. group-length R cs P a (omega (arith, of-count 1 (R .size - 1) a m, P .wide)))
-    ∙ ap (λ n. (1 + 2 * R .most) * n) (length-count 1 (R .size - 1)))
 
 -- what the last updates of a run keep
 abbrev pub Fine : Code → List Edge → Last → Type 0

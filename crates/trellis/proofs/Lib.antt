@@ -8,6 +8,7 @@ pub mod Sent
 pub mod Places
 pub mod Loops
 pub mod Records
+pub mod Form
 pub mod Ranks
 pub mod Kept
 pub mod Instances

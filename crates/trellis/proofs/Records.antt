@@ -8,13 +8,13 @@ use native.Mathlib.Nat.{zero-add}
 use native.Mathlib.Decide.{decLt, ℕ-discrete}
 use native.Mathlib.Omega.{arith}
 use lib.Dec.{ltb, ltb→lt, lt→ltb}
-use lib.ListN.{length, getD, length-append, length-map, List·getD-append, List·getD-map}
+use lib.ListN.{length, getD, length-append, length-map, List·getD-append, List·getD-map, take, drop}
 use lib.Seq.{drop-at, drop-drop}
 use lib.Pow.{pow-pos}
 use Rattle.trellis.specs.Lists.{smallest, keep, each, countFrom, upTo, others}
 use Rattle.trellis.specs.Field.{xor}
 use Rattle.trellis.specs.Check.{column, blank, Rule, Column, weigh, decision, decided, shift, sentAt, extra, leastSent, sent, weights, allSent, IsLeast}
-use Rattle.trellis.specs.Record.{shifts, above, group, recordOf, besideGroup, groupLength, readAt, expandAt, expansion}
+use Rattle.trellis.specs.Record.{shifts, above, group, recordOf, besideGroup, groupLength, readAt, expandAt, expansion, groupAt}
 use Rattle.trellis.proofs.Lists.{of-count, in-upTo, of-upTo, in-keep, of-keep}
 use Rattle.trellis.proofs.Xor.{xor-self, xor-assoc, xor-right, xor-lt, xor-cancel}
 use Rattle.trellis.proofs.Sent.{Proper, Sound, sent-zero, split-decided, extra-is, extra-le, above-few, sent-is, sent-one, symbol}
@@ -58,17 +58,21 @@ module _ (R : Rule) (cs : List Column) (P : Proper R cs) where
             ∙ beside-pads (λ m. 0) n (extra R cs a) (upTo (R .most - length (above R cs a))) (omega (arith, P .short))
             ∙ omega (arith, extra-le R cs P a small n l)
 
-  -- what a record says at a
-  pub record-says : (n a : ℕ) → n < length cs → a < R .size → readAt R (length cs) (recordOf R cs) n a ≡ sentAt R cs n a
-  unfolding readAt recordOf
-  record-says n zero l h = sym (sent-zero R cs P n l)
-  record-says n (suc b) l h =
+  -- a record's group
+  pub record-group : (b : ℕ) → suc b < R .size → take (groupLength R) (drop (groupAt R (length cs) b) (recordOf R cs)) ≡ group R cs (1 + b)
+  unfolding recordOf
+  record-group b h =
       rw (
         ← drop-drop (groupLength R * b) (length cs) (recordOf R cs),
         drop-at (shifts R cs) (each (group R cs) (countFrom 1 (R .size - 1))) (length cs) length-shifts,
         slice-each (group R cs) (groupLength R) 1 (R .size - 1) b (λ m i k. group-length m (omega arith)) (omega arith),
       )
-      (group-says (1 + b) (omega arith) n l ∙ ap (sentAt R cs n) (omega arith))
+
+  -- what a record says at a
+  pub record-says : (n a : ℕ) → n < length cs → a < R .size → readAt R (length cs) (recordOf R cs) n a ≡ sentAt R cs n a
+  unfolding readAt
+  record-says n zero l h = sym (sent-zero R cs P n l)
+  record-says n (suc b) l h = rw (record-group b h) (group-says (1 + b) (omega arith) n l ∙ ap (sentAt R cs n) (omega arith))
 
   pub size-xor : (a b : ℕ) → a < R .size → b < R .size → xor a b < R .size
   size-xor a b h k = rw (P .power) (xor-lt (P .p) a b (rw (P .power) at h) (rw (P .power) at k))

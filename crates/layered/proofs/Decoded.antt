@@ -1,0 +1,304 @@
+-- What decode's tests and the run leave is what decoding says: each refusal by its own test, and the run by the machine over the lent buffers.
+use mathlib.Core.Path.{_≡_, refl, sym, ap, ap₂, _∙_}
+use mathlib.Core.Bool.{Bool, true, false}
+use mathlib.Core.List.{List, _++_}
+use Prim.Native.Nat.{ℕ, _+_, _-_, _*_, _^_, _≤_, _<_}
+use native.Mathlib.Nat.{add-sub-cancel-left}
+use native.Mathlib.Numerals.{add-one}
+use native.Mathlib.Omega.{arith}
+use lib.Dec.{eqb, ltb}
+use borrow.Author.Tests.{eqb-true, eqb-false, ltb-false, eq-eqb, ne-eqb, lt-ltb, le-ltb}
+use lib.ListN.{length, getD, take, drop, length-map, length-replicate, getD-replicate}
+use lib.Seq.{ext-getD, take-at, drop-at}
+use Rattle.trellis.specs.Lists.{tab, part, allTo, pick}
+use Rattle.trellis.specs.Check.{firstZero}
+use Rattle.trellis.proofs.Loops.{tab-whole, length-tab, getD-tab}
+use Rattle.trellis.specs.Reply.{Reply, refusal}
+use Rattle.machine.specs.CodeLine.{Read, good, bad, Code, Numbers, numbersOf, parse, size, columnOf, zeroIn, frameFault}
+use Rattle.machine.specs.Machine.{none as none′, Status, lastOf, symbols, start, run, used}
+use Rattle.machine.specs.Lent.{Lent, Ended, ended, goLent}
+use Rattle.machine.specs.Decoding.{After, outcome, filled, refused, inBuffers, underCode, decoding, Decodes}
+use Rattle.machine.specs.Tables.{Tabled}
+use Rattle.machine.proofs.Lines.{parse-good}
+use Rattle.machine.proofs.Ranges.{frame-ranged}
+use Rattle.machine.proofs.Lent.{held-none, run-stands}
+use Rattle.layered.specs.declared.Outcome.{Outcome}
+use Rattle.layered.specs.declared.Outcome.the-variants.{Found, NotFound}
+use Rattle.layered.specs.declared.Answer.the-variants.{Decoded}
+use Rattle.layered.specs.declared.Header.{Header}
+use Rattle.layered.specs.declared.Header.the-variants.{Read as HeaderRead, Refused as HeaderRefused}
+use Rattle.layered.specs.Answers.{headerNumbers, answerReply}
+use Rattle.layered.specs.Columns.{Below}
+use Rattle.layered.specs.Parity.{decisionsOf}
+use Rattle.layered.specs.Passes.{graph, lent, placeAt, goOn, endedIn, Tables, RunRoom}
+use Rattle.layered.specs.Frames.{frameFaultOf, roomFault, faultOf, Coded, CodeRoom, Leaves}
+use Rattle.layered.proofs.Columns.{length-part}
+use Rattle.layered.proofs.Satisfied.{all-not}
+use Rattle.layered.proofs.Passes.{place-is, symbols-are, tables-go}
+
+-- the frame copied whole
+list-tab : (l : List ℕ) → tab (λ k. getD l k 0) (length l) ≡ l
+list-tab l = ext-getD 0 (tab (λ k. getD l k 0) (length l)) l (length-tab _ (length l)) (λ i h. getD-tab (λ k. getD l k 0) (length l) i (omega (arith, length-tab (λ k. getD l k 0) (length l))))
+
+pub copied : (f d out : List ℕ) (i : ℕ) → length f ≡ length d → i ≡ length d → out ≡ tab (λ k. getD f k 0) i ++ drop i d → out ≡ f
+copied f d out i e k o = o ∙ rw k (tab-whole (λ k. getD f k 0) d ∙ rw (← e) (list-tab f))
+
+-- a turn of the loop over the frame's columns
+module _ (q n c z : ℕ) (f : List ℕ) (room : c * q + q ≤ length f) (e : z ≡ firstZero (part f (c * q) (c * q + q - c * q))) where
+  whole : part f (c * q) (c * q + q - c * q) ≡ columnOf q f c
+  whole = ap (λ k. part f (c * q) k) (add-sub-cancel-left (c * q) q)
+
+  pub zeros-more : z ≤ length (part f (c * q) (c * q + q - c * q)) → (z ≡ q → ⊥) → allTo (zeroIn q f) c ≡ true → allTo (zeroIn q f) (c + 1) ≡ true
+  zeros-more l h o =
+      let i : z ≡ firstZero (columnOf q f c) = e ∙ ap firstZero whole in
+      let k : length (columnOf q f c) ≡ q = length-part f (c * q) q room in
+      let j : firstZero (columnOf q f c) < q = omega (arith, ap length whole) in
+      rw (add-one c, o) (lt-ltb (firstZero (columnOf q f c)) q j)
+
+  pub zeros-not : z ≡ q → c < n → allTo (zeroIn q f) n ≡ false
+  zeros-not h l = all-not (zeroIn q f) c n l (rw (← whole, ← e) (le-ltb z q (omega arith)))
+
+-- the frame's tests
+module _ (p n q : ℕ) (f : List ℕ) (e : q ≡ 2 ^ p) where
+  pub fault-count : (length f ≡ n * q → ⊥) → 12 ≡ frameFaultOf p n f
+  unfolding frameFaultOf
+  fault-count h = rw (ne-eqb (length f) (n * 2 ^ p) (λ k. h (k ∙ ap (λ y. n * y) (sym e))))
+
+  pub fault-zeros : (b : Bool) → length f ≡ n * q → b ≡ allTo (zeroIn q f) n → pick b 0 13 ≡ frameFaultOf p n f
+  unfolding frameFaultOf
+  fault-zeros b h o = rw (eq-eqb (length f) (n * 2 ^ p) (h ∙ ap (λ y. n * y) e), ← e, ← o)
+
+frame-counted : (p n : ℕ) (f : List ℕ) → frameFaultOf p n f ≡ 0 → length f ≡ n * 2 ^ p
+unfolding frameFaultOf
+frame-counted p n f h = go (eqb (length f) (n * 2 ^ p)) refl (allTo (zeroIn (2 ^ p) f) n) h
+  where
+    go : (a : Bool) → eqb (length f) (n * 2 ^ p) ≡ a → (b : Bool) → _≡_ {A = ℕ} (pick a (pick b 0 13) 12) 0 → length f ≡ n * 2 ^ p
+    go true e b h = eqb-true _ _ e
+    go false e b h = absurd (omega arith)
+
+-- all tests after the code
+module _ (p n : ℕ) (ds f : List ℕ) (y c s k : ℕ) (e : k ≡ frameFaultOf p n f) where
+  pub fault-frame : (k ≡ 0 → ⊥) → k ≡ faultOf p n ds f y c s
+  unfolding faultOf
+  fault-frame h = e ∙ rw (ne-eqb (frameFaultOf p n f) 0 (λ z. h (e ∙ z)))
+
+  pub fault-room : k ≡ 0 → (w u r : ℕ) → w ≡ length f → u ≡ placeAt p ds (length ds) → r ≡ roomFault n w u y c s → r ≡ faultOf p n ds f y c s
+  unfolding faultOf
+  fault-room h w u r i j o = o ∙ rw (i, j, frame-counted p n f (sym e ∙ h), eq-eqb (frameFaultOf p n f) 0 (sym e ∙ h))
+
+-- decoding by the number of its refusal, 0 for none
+module _ (C : Code) (f y c s : List ℕ) where
+  abbrev faultIn : ℕ
+  faultIn = pick (eqb (frameFault C f) 0) (roomFault (C .columns) (C .columns * size C) (used C) (length y) (length c) (length s)) (frameFault C f)
+
+  by-fault : underCode (good C) f y c s ≡ pick (eqb faultIn 0) (filled C (run C f) y c s) (refused faultIn y c s)
+  unfolding inBuffers roomFault
+  by-fault = go (eqb (frameFault C f) 0) refl
+    where
+      rooms : (a b d : Bool) (A : After) → pick a (refused 2 y c s) (pick b (refused 3 y c s) (pick d (refused 4 y c s) A))
+          ≡ pick (eqb (pick a 2 (pick b 3 (pick d 4 0))) 0) A (refused (pick a 2 (pick b 3 (pick d 4 0))) y c s)
+      rooms true b d A = refl
+      rooms false true d A = refl
+      rooms false false true A = refl
+      rooms false false false A = refl
+
+      go : (b : Bool) → eqb (frameFault C f) 0 ≡ b
+          → pick b (inBuffers C f y c s) (refused (frameFault C f) y c s)
+          ≡ pick (eqb (pick b (roomFault (C .columns) (C .columns * size C) (used C) (length y) (length c) (length s)) (frameFault C f)) 0) (filled C (run C f) y c s)
+          (refused (pick b (roomFault (C .columns) (C .columns * size C) (used C) (length y) (length c) (length s)) (frameFault C f)) y c s)
+      go true e = rooms (ltb (length y) (C .columns)) (ltb (length c) (C .columns * size C)) (ltb (length s) (used C)) (filled C (run C f) y c s)
+      go false e = rw e
+
+-- what no refusal says of the buffers
+room-none : (n w u y c s : ℕ) → roomFault n w u y c s ≡ 0 → (n ≤ y) × ((w ≤ c) × (u ≤ s))
+unfolding roomFault
+room-none n w u y c s h = go (ltb y n) refl (ltb c w) refl (ltb s u) refl h
+  where
+    go : (a : Bool) → ltb y n ≡ a → (b : Bool) → ltb c w ≡ b → (d : Bool) → ltb s u ≡ d → _≡_ {A = ℕ} (pick a 2 (pick b 3 (pick d 4 0))) 0 → (n ≤ y) × ((w ≤ c) × (u ≤ s))
+    go true a b i d j h = absurd (omega arith)
+    go false a true i d j h = absurd (omega arith)
+    go false a false i true j h = absurd (omega arith)
+    go false a false i false j h = (ltb-false y n a, (ltb-false c w i, ltb-false s u j))
+
+-- no number but 0 in two steps
+split-fault : (x r : ℕ) → pick (eqb x 0) r x ≡ 0 → (x ≡ 0) × (r ≡ 0)
+split-fault x r h = go (eqb x 0) refl h
+  where
+    go : (b : Bool) → eqb x 0 ≡ b → pick b r x ≡ 0 → (x ≡ 0) × (r ≡ 0)
+    go true e h = (eqb-true x 0 e, h)
+    go false e h = absurd (eqb-false x 0 e h)
+
+-- an outcome is its status and t
+reply-is : (o : Outcome) (l : Lent) (st : Status) (t : ℕ) (l′ : Lent) → endedIn o l ≡ ended st t l′ → (answerReply (Decoded o) ≡ outcome st t) × (l ≡ l′)
+reply-is (Found u) l st t l′ e = (ap₂ outcome (ap (λ (x : Ended). x .status) e) (ap (λ (x : Ended). x .t) e), ap (λ (x : Ended). x .lent) e)
+reply-is (NotFound u) l st t l′ e = (ap₂ outcome (ap (λ (x : Ended). x .status) e) (ap (λ (x : Ended). x .t) e), ap (λ (x : Ended). x .lent) e)
+
+module _ (C : Code) (p n m g limit : ℕ) (ds cs ws : List ℕ) (H : Coded C p n m g limit ds cs ws) where
+  pub coded-tables : Tables C (graph p g (take m ds) cs ws)
+  coded-tables =
+      record {
+        p-is = H .p-is;
+        scale-is = H .scale-is;
+        degrees-is = ap (λ k. take k ds) (H .checks-is ∙ sym (length-map (C .checks) (λ es. length es))) ∙ H .tabled .degrees;
+        columns = H .tabled .columns;
+        weights = H .tabled .weights;
+      }
+
+  degree-count : length (take m ds) ≡ length (C .checks)
+  degree-count = ap length (coded-tables .degrees-is) ∙ length-map (C .checks) (λ es. length es)
+
+  pub degree-slice : m ≡ length (take m ds)
+  degree-slice = H .checks-is ∙ sym degree-count
+
+  pub few : (p ≤ 6) × ((n ≤ 256) × (length (take m ds) ≤ 128))
+  few = rw (degree-count, H .p-is, H .columns-is) (H .good .p-high, (H .good .columns-high, H .good .checks-high))
+
+  used-is : placeAt p (take m ds) (length (take m ds)) ≡ used C
+  used-is = rw (degree-count, H .p-is, coded-tables .degrees-is) (place-is C cs ws (H .tabled .columns) (H .tabled .weights) (length (C .checks)))
+
+  module _ (f y c s : List ℕ) (k : ℕ) (e : k ≡ faultOf p n (take m ds) f (length y) (length c) (length s)) where
+    fault-is : k ≡ faultIn C f y c s
+    unfolding faultOf frameFaultOf frameFault
+    fault-is = e ∙ rw (used-is, H .p-is, H .columns-is)
+
+    -- a refusal
+    pub refused-leaves : (k ≡ 0 → ⊥) → Leaves (underCode (good C) f y c s) (refusal k) y c s
+    refused-leaves h =
+        let x : underCode (good C) f y c s ≡ refused k y c s = by-fault C f y c s ∙ rw (← fault-is, ne-eqb k 0 h) in
+        rw x record { replies = refl; symbols-then = refl; costs-then = refl; store-then = refl }
+
+    -- no refusal
+    module _ (z : k ≡ 0) where
+      none : (frameFault C f ≡ 0) × (roomFault (C .columns) (C .columns * size C) (used C) (length y) (length c) (length s) ≡ 0)
+      none = split-fault (frameFault C f) _ (sym fault-is ∙ z)
+
+      rooms : (C .columns ≤ length y) × ((C .columns * size C ≤ length c) × (used C ≤ length s))
+      rooms = room-none _ _ _ _ _ _ (none .1)
+
+      pub frame-length : length f ≡ n * 2 ^ p
+      unfolding frameFaultOf frameFault
+      frame-length = rw (H .p-is, H .columns-is) (frame-counted (C .p) (C .columns) f (none .0))
+
+      -- the buffers have room
+      pub fits : (n ≤ length y) × (length f ≤ length c)
+      fits = rw (frame-length, H .p-is, H .columns-is) (rooms .0, rooms .1 .0)
+
+      -- the run starts on the frame with no record
+      pub start-room : Below 255 f → (P x : List ℕ) → P ≡ f → length x ≡ n → RunRoom (graph p g (take m ds) cs ws) true P s x
+      start-room b P x i l =
+          let no-record : (j : ℕ) → j < length (C .checks) → lastOf (start C f) j ≡ none′ = λ j h. getD-replicate (length (C .checks)) j none′ none′ h in
+          record {
+            running = record {
+              code = C;
+              good = H .good;
+              tables = coded-tables;
+              old = s;
+              room = rooms .1 .1;
+              state = start C f;
+              kept = record { full = length-replicate (length (C .checks)) none′; fine = λ j h. rw (no-record j h) tt };
+              when = no-record;
+              ranged = frame-ranged C f (none .0) b;
+              holds = ap₂ lent i (sym (held-none C (H .good) s (rooms .1 .1) (start C f) no-record));
+            };
+            symbols = l ∙ H .columns-is;
+          }
+
+      -- and leaves what the machine's run leaves
+      pub run-leaves : (o : Outcome) (P x u : List ℕ) → endedIn o (lent P u) ≡ goOn (graph p g (take m ds) cs ws) n limit 0 (lent f s) → x ≡ decisionsOf (2 ^ p) P n
+          → Leaves (underCode (good C) f y c s) (answerReply (Decoded o)) (x ++ drop n y) (P ++ drop (length f) c) u
+      run-leaves o P x u i j =
+          let a : endedIn o (lent P u) ≡ goLent C (C .limit) 0 (lent f s) =
+          i ∙ ap₂ (λ a b. goOn (graph p g (take m ds) cs ws) a b 0 (lent f s)) (H .columns-is) (H .limit-is) ∙ tables-go C p g (take m ds) cs ws coded-tables (C .limit) 0 (lent f s) in
+          let b = reply-is o (lent P u) _ _ _ (a ∙ run-stands C (H .good) s (rooms .1 .1) f) in
+          let d : P ≡ run C f .end .costs = ap (λ (l : Lent). l .costs) (b .1) in
+          let q : x ≡ symbols C (run C f .end .costs) =
+          j ∙ ap₂ (λ a b. decisionsOf (2 ^ a) P b) (H .p-is) (H .columns-is) ∙ ap (λ l. decisionsOf (size C) l (C .columns)) d ∙ symbols-are C cs ws (H .tabled .columns) (H .tabled .weights) (run C f .end .costs) in
+          let w : length f ≡ C .columns * size C = frame-length ∙ ap₂ (λ a b. a * 2 ^ b) (H .columns-is) (H .p-is) in
+          let v : underCode (good C) f y c s ≡ filled C (run C f) y c s = by-fault C f y c s ∙ rw (← fault-is, eq-eqb k 0 z) in
+          rw v
+          record {
+            replies = b .0;
+            symbols-then = ap₂ (λ a b. a ++ drop b y) q (H .columns-is);
+            costs-then = ap₂ (λ a b. a ++ drop b c) d w;
+            store-then = ap (λ (l : Lent). l .store) (b .1);
+          }
+
+      -- the same with the costs copied into the front of the cost buffer
+      module _ (v : List ℕ) (i : v ≡ f) where
+        copied-front : take (length f) (v ++ drop (length f) c) ≡ f
+        copied-front = ap (λ a. take (length f) (a ++ drop (length f) c)) i ∙ take-at f (drop (length f) c) (length f) refl
+
+        pub copied-room : Below 255 f → (x : List ℕ) → length x ≡ n → RunRoom (graph p g (take m ds) cs ws) true (take (length f) (v ++ drop (length f) c)) s x
+        copied-room b x l = start-room b _ x copied-front l
+
+        pub copied-leaves : (o : Outcome) (P x u w : List ℕ) → length w ≡ n
+            → endedIn o (lent P u) ≡ goOn (graph p g (take m ds) cs ws) (length w) limit 0 (lent (take (length f) (v ++ drop (length f) c)) s)
+            → x ≡ decisionsOf (2 ^ p) P (length w)
+            → Leaves (underCode (good C) f y c s) (answerReply (Decoded o)) (x ++ drop n y) (P ++ drop (length f) (v ++ drop (length f) c)) u
+        copied-leaves o P x u w l a b =
+            let d : drop (length f) (v ++ drop (length f) c) ≡ drop (length f) c = ap (λ a. drop (length f) (a ++ drop (length f) c)) i ∙ drop-at f (drop (length f) c) (length f) refl in
+            rw d (run-leaves o P x u (a ∙ ap₂ (λ k q. goOn (graph p g (take m ds) cs ws) k limit 0 (lent q s)) l copied-front) (b ∙ ap (decisionsOf (2 ^ p) P) l))
+
+-- what the reader's answer says of the line
+module _ (s₀ : List ℕ) (h : Header) (e : headerNumbers h ≡ numbersOf (parse s₀)) where
+  read-refused : (k : ℕ) → h ≡ HeaderRefused k → parse s₀ ≡ bad k
+  read-refused k i = go (parse s₀) (sym e ∙ ap headerNumbers i)
+    where
+      go : (r : Read Code) → numbersOf r ≡ bad k → r ≡ bad k
+      go (good C) o = let z : _≡_ {A = ℕ} 0 1 = cc in absurd (omega arith)
+      go (bad l) o = cc
+
+  pub refused-decodes : (k : ℕ) → h ≡ HeaderRefused k → (f y c s : List ℕ) → Decodes s₀ f y c s (refusal k) y c s
+  unfolding decoding
+  refused-decodes k i f y c s =
+      let x : underCode (parse s₀) f y c s ≡ refused k y c s = ap (λ r. underCode r f y c s) (read-refused k i) in
+      record {
+        replies = sym (ap (λ (a : After). a .reply) x);
+        symbols-then = sym (ap (λ (a : After). a .symbols) x);
+        costs-then = sym (ap (λ (a : After). a .costs) x);
+        store-then = sym (ap (λ (a : After). a .store) x);
+      }
+
+  module _ (p n m g limit : ℕ) (i : h ≡ HeaderRead p n m g limit) where
+    abbrev numbers : Numbers
+    numbers = record { p = p; columns = n; checks = m; scale = g; limit = limit }
+
+    read : (C : Code) × (parse s₀ ≡ good C) × (numbersOf (good C) ≡ good numbers)
+    read = go (parse s₀) refl (sym e ∙ ap headerNumbers i)
+      where
+        go : (r : Read Code) → parse s₀ ≡ r → numbersOf r ≡ good numbers → (C : Code) × (parse s₀ ≡ good C) × (numbersOf (good C) ≡ good numbers)
+        go (good C) j o = (C, j, o)
+        go (bad l) j o = let z : _≡_ {A = ℕ} 0 1 = cc in absurd (omega arith)
+
+    -- with the numbers as wider ones
+    module _ (N M G : ℕ) (j : N ≡ n) (k : M ≡ m) (l : G ≡ g) (ds cs ws : List ℕ) (T : (C : Code) → parse s₀ ≡ good C → Tabled C ds cs ws) where
+      coded : Coded (read .0) p N M G limit ds cs ws
+      coded =
+          let x : _≡_ {A = Read Numbers} (numbersOf (good (read .0))) (good numbers) = read .2 in
+          let v : record { p = read .0 .p; columns = read .0 .columns; checks = length (read .0 .checks); scale = read .0 .scale; limit = read .0 .limit } ≡ numbers = cc in
+          record {
+            good = parse-good s₀ (read .0) (read .1);
+            p-is = sym (ap (λ (a : Numbers). a .p) v);
+            columns-is = j ∙ sym (ap (λ (a : Numbers). a .columns) v);
+            checks-is = k ∙ sym (ap (λ (a : Numbers). a .checks) v);
+            scale-is = l ∙ sym (ap (λ (a : Numbers). a .scale) v);
+            limit-is = sym (ap (λ (a : Numbers). a .limit) v);
+            tabled = T (read .0) (read .1);
+          }
+
+      pub coded-room : (A S : List ℕ) → length A ≡ 2048 → length S ≡ 2048 → CodeRoom p N M G limit ds cs ws A S
+      coded-room A S a b = record { code = read .0; coded = coded; arrived = omega arith; sent = omega arith }
+
+      pub coded-decodes : (f y c s : List ℕ) (r : Reply) (y′ c′ s′ : List ℕ)
+          → ((C : Code) → Coded C p N M G limit ds cs ws → Leaves (underCode (good C) f y c s) r y′ c′ s′)
+          → Decodes s₀ f y c s r y′ c′ s′
+      unfolding decoding
+      coded-decodes f y c s r y′ c′ s′ L =
+          let x : underCode (parse s₀) f y c s ≡ underCode (good (read .0)) f y c s = ap (λ a. underCode a f y c s) (read .1) in
+          let v = L (read .0) coded in
+          record {
+            replies = v .replies ∙ sym (ap (λ (a : After). a .reply) x);
+            symbols-then = v .symbols-then ∙ sym (ap (λ (a : After). a .symbols) x);
+            costs-then = v .costs-then ∙ sym (ap (λ (a : After). a .costs) x);
+            store-then = v .store-then ∙ sym (ap (λ (a : After). a .store) x);
+          }

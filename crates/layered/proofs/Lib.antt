@@ -1,0 +1,10 @@
+-- Laws by topic, and demand 3 bound to decode's own contract (TwoCalls); a function's own proof stands in a folder of its name.
+pub mod Digits
+pub mod Parsing
+pub mod Columns
+pub mod Satisfied
+pub mod Turns
+pub mod Passes
+pub mod Runs
+pub mod Decoded
+pub mod TwoCalls

@@ -1,0 +1,208 @@
+-- What the buffers of a run hold is a state of the machine, so its ranges, its records and its store give all that an update, a test and the next
+-- iteration ask for.
+use mathlib.Core.Path.{_≡_, sym, ap, ap₂, _∙_}
+use mathlib.Core.Bool.{Bool, true, false}
+use mathlib.Core.List.{List}
+use Prim.Native.Nat.{ℕ, suc, _+_, _-_, _*_, _^_, _≤_, _<_}
+use native.Mathlib.Nat.{mul-le-mul, add-sub-cancel-left}
+use native.Mathlib.Numerals.{add-one}
+use native.Mathlib.Omega.{arith}
+use lib.Dec.{eqb}
+use lib.ListN.{length, take, getD}
+use borrow.Author.Tests.{ne-eqb}
+use Rattle.trellis.specs.Lists.{upto, part, patch}
+use Rattle.trellis.specs.Record.{recordLength, recordOk, recordOf}
+use Rattle.trellis.proofs.Form.{record-ok}
+use Rattle.trellis.proofs.Instances.{first-zero}
+use Rattle.trellis.proofs.Recurrence.{size-64}
+use Rattle.machine.specs.CodeLine.{Code, size, rule, check, edgeAt, columnOf}
+use Rattle.machine.specs.Machine.{Last, none, made, State, lastOf, update, iteration, place, used}
+use Rattle.machine.specs.Tables.{tablesOf, before}
+use Rattle.machine.specs.Lent.{Lent, pass}
+use Rattle.machine.proofs.Lines.{GoodCode, GoodEdge}
+use Rattle.machine.proofs.Updates.{Fine, Kept, made-proper, updates-kept, iteration-kept}
+use Rattle.machine.proofs.Ranges.{Ranged, updates-ranged, iteration-ranged, column-room}
+use Rattle.machine.proofs.Lent.{place-suc, place-mono, pieceOf, held, lentOf, When, held-part, length-held, turns-stand, untouched, pass-stands}
+use Rattle.layered.specs.Parity.{SettledRoom}
+use Rattle.layered.specs.Turns.{costsNow, recordNow, UpdateRoom}
+use Rattle.layered.specs.Passes.{Graph, graph, lent, tableAt, lengthAt, placeAt, recordAt, turnAt, passOver, Running, RunRoom}
+use Rattle.layered.proofs.Columns.{length-part}
+use Rattle.layered.proofs.Passes.{count, degree-at, in-columns, in-weights, same-length, weights-length, column-table, weight-table, column-flat, weight-flat, all-columns, all-weights, place-is, turns-are, tables-pass}
+
+module _ (C : Code) (G : GoodCode C) (cs ws : List ℕ) (hc : take (length (tablesOf (C .checks) .edges .columns)) cs ≡ tablesOf (C .checks) .edges .columns)
+    (hw : take (length (tablesOf (C .checks) .edges .weights)) ws ≡ tablesOf (C .checks) .edges .weights) (s₀ : List ℕ) (room : used C ≤ length s₀)
+    (st : State) (K : Kept C st) (first : Bool) (W : (m : ℕ) → m < length (C .checks) → When C first (lastOf st m)) (Rg : Ranged C (st .costs)) where
+  abbrev T : Graph
+  T = graph (C .p) (C .scale) (tablesOf (C .checks) .degrees) cs ws
+
+  abbrev after : ℕ → State
+  after m = upto (update C) m st
+
+  turns-at : (m : ℕ) → m ≤ length (C .checks) → upto (turnAt T first) m (lentOf C s₀ st) ≡ lentOf C s₀ (after m)
+  turns-at m h = turns-are C cs ws hc hw first m h (lentOf C s₀ st) ∙ turns-stand C G s₀ room first st K W m h
+
+  module _ (m : ℕ) (h : m < length (C .checks)) where
+    -- after the first iteration check m has a record of accepted form
+    form-at : first ≡ false → recordOk (rule C) (length (check C m)) (pieceOf C s₀ m (lastOf st m)) ≡ true
+    form-at e = go (lastOf st m) (K .fine m h) (rw e at (W m h))
+      where
+        go : (l : Last) → Fine C (check C m) l → When C false l → recordOk (rule C) (length (check C m)) (pieceOf C s₀ m l) ≡ true
+        go none f w = absurd w
+        go (made c) f w = ap (λ d. recordOk (rule C) d (recordOf (rule C) c)) (sym (f .count)) ∙ record-ok (rule C) c (made-proper C G (check C m) (G .each-check m h) c f)
+
+    held-at : part (held C s₀ (after m)) (placeAt (C .p) (T .degrees) m) (lengthAt (C .p) (T .degrees) m) ≡ pieceOf C s₀ m (lastOf st m)
+    held-at =
+        rw (place-is C cs ws hc hw m, degree-at C cs ws hc hw m)
+        (held-part C G s₀ room (after m) (updates-kept C G st K m (omega arith) .0) m h ∙ ap (pieceOf C s₀ m) (untouched C G s₀ room st K m (omega arith) m (omega arith)))
+
+    pub in-store : placeAt (C .p) (T .degrees) m + lengthAt (C .p) (T .degrees) m ≤ length s₀
+    in-store =
+        rw (place-is C cs ws hc hw m, degree-at C cs ws hc hw m) (omega (arith, place-suc C m, place-mono C (suc m) (length (C .checks)) h))
+
+    update-room : (Q S : List ℕ) → length Q ≡ getD (T .degrees) m 0 * size C → length S ≡ getD (T .degrees) m 0 * size C
+        → UpdateRoom (C .p) (C .scale) first (tableAt (T .degrees) cs m) (tableAt (T .degrees) ws m) (after m .costs) (part (held C s₀ (after m)) (placeAt (C .p) (T .degrees) m) (lengthAt (C .p) (T .degrees) m)) Q S
+    update-room Q S i j =
+        let H = G .each-check m h in
+        let d : length (tableAt (T .degrees) ws m) ≡ length (check C m) = weights-length C cs ws hc hw m h in
+        let e : length (tableAt (T .degrees) cs m) ≡ length (tableAt (T .degrees) ws m) = same-length C cs ws hc hw m h in
+        let n : getD (T .degrees) m 0 ≡ length (tableAt (T .degrees) ws m) = degree-at C cs ws hc hw m ∙ sym d in
+        let R = updates-ranged C G st Rg m (omega arith) in
+        let l : length (held C s₀ (after m)) ≡ length s₀ = length-held C G s₀ room (after m) (updates-kept C G st K m (omega arith) .0) in
+        record {
+          recall = record {
+            weighed = record {
+              low = G .p-low;
+              high = G .p-high;
+              three = omega (arith, H .low);
+              few = omega (arith, H .high);
+              some = λ k u. rw (weight-table C cs ws hc hw m h k) (H .each-edge k (omega arith) .weight-some);
+              small = λ k u. rw (weight-table C cs ws hc hw m h k) (H .each-edge k (omega arith) .weight-small);
+            };
+            form = λ f. rw (d, held-at) (form-at f);
+            full = j ∙ ap (λ x. x * size C) n;
+          };
+          same = e;
+          columns = λ k u. rw (column-table C cs ws hc hw m h k) (omega (arith, R .full, column-room (edgeAt (check C m) k .column) (C .columns) (size C) (H .each-edge k (omega arith) .column-small)));
+          small = R .small;
+          scale = G .scale-high;
+          for-record = length-part (held C s₀ (after m)) (placeAt (C .p) (T .degrees) m) (lengthAt (C .p) (T .degrees) m) (omega (arith, in-store)) ∙ ap (recordLength (rule C)) n;
+          for-costs = i ∙ ap (λ x. x * size C) n;
+        }
+
+-- the same over the tables as they are lent
+module _ (p g : ℕ) (ds cs ws P s : List ℕ) (first : Bool) (R : Running (graph p g ds cs ws) first P s) where
+  abbrev C : Code
+  C = R .code
+
+  -- what an update of check m asks
+  pub turn-room : (m : ℕ) → m < length ds → (l : Lent) → l ≡ upto (turnAt (graph p g ds cs ws) first) m (lent P s)
+      → (Q S : List ℕ) → length Q ≡ getD ds m 0 * 2 ^ p → length S ≡ getD ds m 0 * 2 ^ p
+      → UpdateRoom p g first (tableAt ds cs m) (tableAt ds ws m) (l .costs) (recordAt p ds m (l .store)) Q S
+  turn-room m =
+      rw (R .tables .p-is, R .tables .scale-is, R .tables .degrees-is) (λ h l e Q S i j.
+      let D : Graph = graph (C .p) (C .scale) (tablesOf (C .checks) .degrees) cs ws in
+      let k : m < length (C .checks) = omega (arith, count C cs ws (R .tables .columns) (R .tables .weights)) in
+      let x : l ≡ lentOf C (R .old) (upto (update C) m (R .state)) =
+      e ∙ ap (upto (turnAt D first) m) (R .holds) ∙ turns-at C (R .good) cs ws (R .tables .columns) (R .tables .weights) (R .old) (R .room) (R .state) (R .kept) first (R .when) (R .ranged) m (omega arith) in
+      rw x (update-room C (R .good) cs ws (R .tables .columns) (R .tables .weights) (R .old) (R .room) (R .state) (R .kept) first (R .when) (R .ranged) m k Q S i j))
+
+  pub store-length : length s ≡ length (R .old)
+  store-length = ap (λ (l : Lent). length (l .store)) (R .holds) ∙ length-held C (R .good) (R .old) (R .room) (R .state) (R .kept)
+
+  -- its parts of the tables, of the store and of the lists to work in are inside
+  pub turn-fits : (m : ℕ) → m < length ds
+      → (before ds m + getD ds m 0 ≤ length cs)
+      × (before ds m + getD ds m 0 ≤ length ws)
+      × (placeAt p ds m + lengthAt p ds m ≤ length s)
+      × (getD ds m 0 * 2 ^ p ≤ 2048)
+  turn-fits m =
+      rw (store-length, R .tables .p-is, R .tables .degrees-is) (λ h.
+      let k : m < length (C .checks) = omega (arith, count C cs ws (R .tables .columns) (R .tables .weights)) in (
+        in-columns C cs ws (R .tables .columns) (R .tables .weights) m k,
+        in-weights C cs ws (R .tables .columns) (R .tables .weights) m k,
+        in-store C (R .good) cs ws (R .tables .columns) (R .tables .weights) (R .old) (R .room) (R .state) (R .kept) first (R .when) (R .ranged) m k,
+        mul-le-mul {n₁ = getD (tablesOf (C .checks) .degrees) m 0} {n₂ = 32} (rw (degree-at C cs ws (R .tables .columns) (R .tables .weights) m) (R .good .each-check m k .high)) (size-64 (C .p) (R .good .p-high)),
+      ))
+
+  -- after an iteration
+  pub pass-running : (P′ s′ : List ℕ) → lent P′ s′ ≡ passOver (graph p g ds cs ws) first (lent P s) → Running (graph p g ds cs ws) false P′ s′
+  pass-running P′ s′ e =
+      let k = iteration-kept C (R .good) (R .state) (R .kept) in
+      record {
+        code = C;
+        good = R .good;
+        tables = R .tables;
+        old = R .old;
+        room = R .room;
+        state = iteration C (R .state);
+        kept = k .0;
+        when = k .1;
+        ranged = iteration-ranged C (R .good) (R .state) (R .ranged);
+        holds = e ∙ tables-pass C p g ds cs ws (R .tables) first (lent P s) ∙ ap (pass C first) (R .holds) ∙ pass-stands C (R .good) (R .old) (R .room) first (R .state) (R .kept) (R .when);
+      }
+
+  -- what the test asks
+  pub test-room : (z : List ℕ) → length z ≡ C .columns → SettledRoom p ds cs ws P z
+  test-room z e = rw (R .tables .p-is, R .tables .degrees-is, ap (λ (l : Lent). l .costs) (R .holds)) (at-code z e)
+    where
+      at-code : (z : List ℕ) → length z ≡ C .columns → SettledRoom (C .p) (tablesOf (C .checks) .degrees) cs ws (R .state .costs) z
+      at-code z e =
+          record {
+            low = R .good .p-low;
+            high = R .good .p-high;
+            costs = rw (e, R .ranged .full) (omega arith);
+            zeros = λ c h. omega (arith, first-zero (R .ranged .zero-in c (omega arith)) .0, column-length c (omega arith));
+            in-columns = all-columns C cs ws (R .tables .columns) (R .tables .weights);
+            in-weights = all-weights C cs ws (R .tables .columns) (R .tables .weights);
+            columns = λ m n h i. rw (column-flat C cs ws (R .tables .columns) (R .tables .weights) m (some-check m h) n i, e) (edge-at m n h i .column-small);
+            weights = λ m n h i. rw (weight-flat C cs ws (R .tables .columns) (R .tables .weights) m (some-check m h) n i) (edge-at m n h i .weight-small);
+          }
+        where
+          column-length : (c : ℕ) → c < C .columns → length (columnOf (size C) (R .state .costs) c) ≡ size C
+          column-length c h = length-part (R .state .costs) (c * size C) (size C) (omega (arith, R .ranged .full, column-room c (C .columns) (size C) h))
+
+          some-check : (m : ℕ) → m < length (tablesOf (C .checks) .degrees) → m < length (C .checks)
+          some-check m h = omega (arith, count C cs ws (R .tables .columns) (R .tables .weights))
+
+          edge-at : (m n : ℕ) → m < length (tablesOf (C .checks) .degrees) → n < getD (tablesOf (C .checks) .degrees) m 0 → GoodEdge (C .columns) (size C) (edgeAt (check C m) n)
+          edge-at m n h i = R .good .each-check m (some-check m h) .each-edge n (omega (arith, degree-at C cs ws (R .tables .columns) (R .tables .weights) m))
+
+  -- after iteration t + 1 each check has a record
+  pub run-next : (z z′ P′ s′ : List ℕ) (t : ℕ) → length z ≡ C .columns → length z′ ≡ length z → lent P′ s′ ≡ passOver (graph p g ds cs ws) first (lent P s) → RunRoom (graph p g ds cs ws) (eqb (t + 1) 0) P′ s′ z′
+  unfolding pass-running
+  run-next z z′ P′ s′ t e k o =
+      let f : eqb (t + 1) 0 ≡ false = ne-eqb (t + 1) 0 (λ (y : t + 1 ≡ 0). omega arith) in
+      rw f record { running = pass-running P′ s′ o; symbols = k ∙ e }
+
+  -- a turn of the loop over the checks, at the places that it carries
+  module _ (m at place d q groups : ℕ) (h : m < length ds) (a : at ≡ before ds m) (b : place ≡ placeAt p ds m) (i : d ≡ getD ds m 0) (e : q ≡ 2 ^ p) (j : groups ≡ 5 * (q - 1)) where
+    record-end : d + groups ≡ lengthAt p ds m
+    record-end = rw (j, e, i)
+
+    pub turn-places : (at + d ≤ length cs) × ((at + d ≤ length ws) × ((place + (d + groups) ≤ length s) × (d * q ≤ 2048)))
+    turn-places =
+        let t = turn-fits m h in
+        (rw (a, i) (t .0), (rw (a, i) (t .1), (rw (b, record-end) (t .2), rw (i, e) (t .3))))
+
+    pub next-place : place + (d + groups) ≡ placeAt p ds (m + 1)
+    unfolding placeAt
+    next-place = rw (add-one m, b, record-end)
+
+    module _ (P′ s′ : List ℕ) (l : lent P′ s′ ≡ upto (turnAt (graph p g ds cs ws) first) m (lent P s)) where
+      pub turn-asks : (Q S : List ℕ) → length Q ≡ d * q → length S ≡ d * q
+          → UpdateRoom p g first (part cs at (at + d - at)) (part ws at (at + d - at)) P′ (part s′ place (place + (d + groups) - place)) Q S
+      turn-asks Q S x y =
+          let u : at + d - at ≡ d = add-sub-cancel-left at d in
+          let v : place + (d + groups) - place ≡ d + groups = add-sub-cancel-left place (d + groups) in
+          let w : d * q ≡ getD ds m 0 * 2 ^ p = ap₂ (λ a b. a * b) i e in
+          rw (u, v, record-end, a, b, i) (turn-room m h (lent P′ s′) l Q S (x ∙ w) (y ∙ w))
+
+      pub turn-done : (P″ r : List ℕ)
+          → P″ ≡ costsNow p g first (part cs at (at + d - at)) (part ws at (at + d - at)) (part s′ place (place + (d + groups) - place)) P′
+          → r ≡ recordNow p g first (part cs at (at + d - at)) (part ws at (at + d - at)) (part s′ place (place + (d + groups) - place)) P′
+          → lent P″ (patch s′ place (place + (d + groups) - place) r) ≡ upto (turnAt (graph p g ds cs ws) first) (m + 1) (lent P s)
+      unfolding turnAt
+      turn-done P″ r x y =
+          let u : at + d - at ≡ d = add-sub-cancel-left at d in
+          let v : place + (d + groups) - place ≡ d + groups = add-sub-cancel-left place (d + groups) in
+          rw (add-one m, ← l, x, y, u, v, record-end, a, b, i)

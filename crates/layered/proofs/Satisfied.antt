@@ -1,0 +1,132 @@
+-- The loops of the parity test: a search that goes on as long as the rest has the same first 0; a check's sum term by term; a check that fails
+-- makes the whole test fail, however many come after it.
+use mathlib.Core.Path.{_≡_, refl, sym, ap, ap₂, _∙_}
+use mathlib.Core.Bool.{Bool, true, false, _&&_}
+use mathlib.Core.List.{List, _∷_, _++_}
+use Prim.Native.Nat.{ℕ, zero, suc, _+_, _-_, _*_, _^_, _≤_, _<_}
+use native.Mathlib.Nat.{not-suc-le-zero, add-sub-cancel-left}
+use native.Mathlib.Decide.{ℕ-discrete}
+use native.Mathlib.Numerals.{add-one}
+use native.Mathlib.Omega.{arith}
+use lib.Bits.{bitXor}
+use lib.ListN.{length, getD, drop, set}
+use lib.Seq.{drop-cons, drop-length}
+use borrow.Author.Tests.{eq-eqb, ne-eqb, le-ltb, lt-leb}
+use Rattle.trellis.specs.Lists.{allTo, tab, part}
+use Rattle.trellis.specs.Field.{xor, product}
+use Rattle.trellis.specs.Check.{firstZero}
+use Rattle.trellis.specs.Reply.{Reply, accepted}
+use Rattle.checknode.specs.Answers.{elementReply, productReply}
+use Rattle.checknode.specs.declared.Element.{Element}
+use Rattle.checknode.specs.declared.Element.the-variants.{Is, Refused}
+use Rattle.trellis.proofs.Loops.{tab-more, tab-whole, length-tab, getD-tab}
+use Rattle.machine.specs.CodeLine.{columnOf}
+use Rattle.machine.specs.Tables.{before}
+use Rattle.layered.specs.Parity.{decisionsOf, term, sumFrom, allHold, EdgeRoom, ParityRoom, SettledRoom}
+
+-- the search
+first-later : (x : ℕ) (l : List ℕ) → (x ≡ 0 → ⊥) → firstZero (x ∷ l) ≡ suc (firstZero l)
+first-later zero l h = absurd (h refl)
+first-later (suc x) l h = refl
+
+pub zero-here : (s : List ℕ) (i : ℕ) → i < length s → getD s i 0 ≡ 0 → firstZero (drop i s) ≡ 0
+zero-here s i h e = rw (drop-cons s i 0 h, e)
+
+pub zero-later : (s : List ℕ) (i : ℕ) → i < length s → (getD s i 0 ≡ 0 → ⊥) → firstZero (drop i s) ≡ suc (firstZero (drop (suc i) s))
+zero-later s i h e = rw (drop-cons s i 0 h) (first-later (getD s i 0) (drop (suc i) s) e)
+
+pub zero-none : (s : List ℕ) → firstZero (drop (length s) s) ≡ 0
+zero-none s = rw (drop-length s)
+
+-- a turn of the loop over the columns
+pub decide-turn : (q : ℕ) (P d now : List ℕ) (c z : ℕ) → c < length d → now ≡ tab (λ k. firstZero (columnOf q P k)) c ++ drop c d → z ≡ firstZero (part P (c * q) (c * q + q - c * q))
+    → set now c z ≡ tab (λ k. firstZero (columnOf q P k)) (c + 1) ++ drop (c + 1) d
+decide-turn q P d now c z h o i = rw (o, i, add-sub-cancel-left (c * q) q) (tab-more (λ k. firstZero (columnOf q P k)) d c h)
+
+pub decide-done : (q : ℕ) (P d now : List ℕ) (c : ℕ) → c ≡ length d → now ≡ tab (λ k. firstZero (columnOf q P k)) c ++ drop c d → now ≡ decisionsOf q P (length d)
+unfolding decisionsOf
+decide-done q P d now c e o = o ∙ rw e (tab-whole (λ k. firstZero (columnOf q P k)) d)
+
+-- a product of elements is not refused
+module _ (p a b : ℕ) (low : 2 ≤ p) (high : p ≤ 6) (h : a < 2 ^ p) (k : b < 2 ^ p) (e : Element) (r : elementReply e ≡ productReply p a b) where
+  accepts : elementReply e ≡ accepted (product p a b)
+  unfolding productReply
+  accepts = r ∙ rw (le-ltb p 2 low, le-ltb 6 p high, lt-leb (2 ^ p) a h, lt-leb (2 ^ p) b k)
+
+  pub is-product : (x : ℕ) → e ≡ Is x → x ≡ product p a b
+  is-product x i = ap (λ (r : Reply). r .value) (ap elementReply (sym i) ∙ accepts)
+
+  pub never-refused : (n : ℕ) → e ≡ Refused n → ⊥
+  never-refused n i = let z : true ≡ false = ap (λ (r : Reply). r .refused) (ap elementReply (sym i) ∙ accepts) in let y : _≡_ {A = ℕ} 0 1 = cc in omega arith
+
+-- the places of the edges
+pub before-more : (ds : List ℕ) (m at d : ℕ) → at ≡ before ds m → d ≡ getD ds m 0 → at + d ≡ before ds (m + 1)
+before-more ds m at d e i = rw (add-one m, e, i)
+
+pub before-mono : (ds : List ℕ) (m n : ℕ) → m ≤ n → before ds m ≤ before ds n
+before-mono ds m zero h = let e : m ≡ 0 = omega arith in rw e (omega arith)
+before-mono ds m (suc n) h =
+    elim (ℕ-discrete m (suc n)) [
+      | yes e ↦ rw e (omega arith)
+      | no e ↦ omega (arith, before-mono ds m n (omega arith))
+    ]
+
+pub edge-within : (ds : List ℕ) (m n at d : ℕ) → m < length ds → at ≡ before ds m → d ≡ getD ds m 0 → n < d → at + n < before ds (length ds)
+edge-within ds m n at d h e i k = omega (arith, before-mono ds (suc m) (length ds) h)
+
+pub end-within : (ds : List ℕ) (m at d : ℕ) → m < length ds → at ≡ before ds m → d ≡ getD ds m 0 → at + d ≤ before ds (length ds)
+end-within ds m at d h e i = omega (arith, before-mono ds (suc m) (length ds) h)
+
+and-false : (b : Bool) → b && false ≡ false
+and-false true = refl
+and-false false = refl
+
+-- a test that fails once fails
+pub all-not : (f : ℕ → Bool) (m n : ℕ) → m < n → f m ≡ false → allTo f n ≡ false
+all-not f m zero h e = absurd (not-suc-le-zero h)
+all-not f m (suc n) h e =
+    elim (ℕ-discrete m n) [
+      | yes i ↦ rw (← i, e) (and-false (allTo f m))
+      | no i ↦ rw (all-not f m n (omega arith) e)
+    ]
+
+module _ (p : ℕ) (ds cs ws z : List ℕ) where
+  pub sum-more : (at n s t : ℕ) → s ≡ sumFrom p cs ws z at n → t ≡ term p cs ws z (at + n) → bitXor s t ≡ sumFrom p cs ws z at (n + 1)
+  unfolding sumFrom xor
+  sum-more at n s t e i = rw (add-one n, e, i)
+
+  module _ (m at d n s : ℕ) (e : at ≡ before ds m) (i : d ≡ getD ds m 0) (j : n ≡ d) (u : s ≡ sumFrom p cs ws z at n) where
+    whole : s ≡ sumFrom p cs ws z (before ds m) (getD ds m 0)
+    whole = u ∙ ap₂ (sumFrom p cs ws z) e (j ∙ i)
+
+    pub hold-more : s ≡ 0 → allHold p ds cs ws z m ≡ true → allHold p ds cs ws z (m + 1) ≡ true
+    unfolding allHold
+    hold-more o h = rw (add-one m, h) (eq-eqb _ _ (sym whole ∙ o))
+
+    pub hold-not : (s ≡ 0 → ⊥) → m < length ds → allHold p ds cs ws z (length ds) ≡ false
+    unfolding allHold
+    hold-not o h = all-not _ m (length ds) h (ne-eqb _ _ (λ x. o (whole ∙ x)))
+
+-- after the decisions each edge has its two elements
+pub decided-room : (p q : ℕ) (ds cs ws P y z : List ℕ) → SettledRoom p ds cs ws P y → q ≡ 2 ^ p → z ≡ decisionsOf q P (length y) → ParityRoom p ds cs ws z
+unfolding decisionsOf
+decided-room p q ds cs ws P y z S e o =
+    record {
+      each-edge = λ m n h i.
+          let k : before ds m + n < before ds (length ds) = edge-within ds m n (before ds m) (getD ds m 0) h refl refl i in
+          let c : getD cs (before ds m + n) 0 < length y = S .columns m n h i in
+          record {
+            low = S .low;
+            high = S .high;
+            in-columns = omega (arith, S .in-columns);
+            in-weights = omega (arith, S .in-weights);
+            column = rw (o, length-tab (λ c. firstZero (columnOf q P c)) (length y)) c;
+            weight = S .weights m n h i;
+            symbol = rw (o, getD-tab (λ c. firstZero (columnOf q P c)) (length y) (getD cs (before ds m + n) 0) c, e) (S .zeros (getD cs (before ds m + n) 0) c);
+          };
+      in-columns = S .in-columns;
+    }
+
+-- at the place that the loops carry
+pub edge-room : (p : ℕ) (ds cs ws z : List ℕ) → ParityRoom p ds cs ws z → (m n at d : ℕ) → m < length ds → at ≡ before ds m → d ≡ getD ds m 0 → n < d → EdgeRoom p cs ws z (at + n)
+edge-room p ds cs ws z R m n at d h e i k = rw e (R .each-edge m n h (omega arith))

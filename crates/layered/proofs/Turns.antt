@@ -1,0 +1,250 @@
+-- Gather, check, expand and scatter make one update: each loop's list is cut into the columns' parts, check and expand accept what the update gives
+-- them, and an expansion is what the machine heard.
+use mathlib.Core.Path.{_≡_, refl, sym, ap, ap₂, _∙_}
+use mathlib.Core.Bool.{Bool, true, false}
+use mathlib.Core.List.{List, _++_, map, append-assoc, append-nil}
+use Prim.Native.Nat.{ℕ, zero, suc, _+_, _-_, _*_, _^_, _≤_, _<_}
+use native.Mathlib.Nat.{mul-zero, mul-comm, not-suc-le-zero, suc-mul}
+use native.Mathlib.Decide.{ℕ-discrete}
+use native.Mathlib.Omega.{arith}
+use lib.Dec.{ltb, lt→ltb}
+use lib.ListN.{length, getD, length-map, length-append}
+use lib.Seq.{take-at, drop-at, drop-length, ext-getD, getD-take, getD-drop}
+use lib.Pow.{pow-pos}
+use borrow.Author.Tests.{eq-eqb, ne-eqb, le-ltb}
+use Rattle.trellis.specs.Lists.{upTo, each, upto, allTo, tab, part, patch, blocks}
+use Rattle.trellis.specs.Check.{Column, column, blank}
+use Rattle.trellis.specs.Record.{recordOf, recordLength, recordOk, expandAt, expansion}
+use Rattle.trellis.specs.Rules.{ruleFor, columnsOf, costsAt}
+use Rattle.trellis.proofs.Tests.{to-true, all-of}
+use Rattle.trellis.proofs.Lists.{of-upTo}
+use Rattle.trellis.proofs.Places.{map-ext, slice-each, length-count}
+use Rattle.trellis.proofs.Loops.{length-tab, getD-tab}
+use Rattle.trellis.proofs.Instances.{first-zero}
+use Rattle.trellis.proofs.Form.{record-ok}
+use Rattle.engine.specs.Ready.{Ready}
+use Rattle.engine.proofs.Record.{length-columns, column-at, ready-proper}
+use Rattle.checknode.specs.Answers.{weightOk, weightsOk, zeroOk, checkLeaves, expandLeaves}
+use Rattle.machine.specs.CodeLine.{edgeAt, columnOf}
+use Rattle.machine.specs.Machine.{scaled, incoming, outgoing, arriving, spread}
+use Rattle.machine.specs.Lent.{weightsOf, heard}
+use Rattle.machine.specs.Tables.{edgesOf}
+use Rattle.machine.proofs.Lists.{at-upTo, map-after}
+use Rattle.machine.proofs.Updates.{length-incoming, zero-incoming}
+use Rattle.machine.proofs.Ranges.{column-room}
+use Rattle.machine.proofs.Lent.{arriving-ext, spread-ext}
+use Rattle.machine.proofs.Edges.{length-edges, column-edge, weight-edge, weights-edges}
+use Rattle.layered.specs.Columns.{oneColumn, gathered as gatheredCosts, GatherRoom, scattered, ScatterRoom}
+use Rattle.layered.specs.Turns.{oldCosts, columnsNow, recordNow, costsNow, Weighed, RecallRoom, SendRoom, UpdateRoom}
+use Rattle.layered.proofs.Columns.{scaled-at, length-part, length-gathered}
+
+-- a check's columns as a list over its edges
+columns-map : (q : ℕ) (ws l : List ℕ) → columnsOf q ws l ≡ map (λ n. record { weight = getD ws n 0; costs = part l (n * q) q }) (upTo (length ws))
+columns-map q ws l =
+    let f : ℕ → Column = λ n. record { weight = getD ws n 0; costs = part l (n * q) q } in
+    let k : length (map f (upTo (length ws))) ≡ length ws = length-map (upTo (length ws)) f ∙ length-count 0 (length ws) in
+    ext-getD blank (columnsOf q ws l) (map f (upTo (length ws))) (length-columns q ws l ∙ sym k) (λ n h.
+    let i : n < length ws = omega (arith, length-columns q ws l) in
+    column-at q ws l n i ∙ sym (at-upTo f (length ws) n blank i))
+
+-- a block of q of them
+block-at : (f : ℕ → List ℕ) (q : ℕ) → ((m : ℕ) → length (f m) ≡ q) → (n : ℕ) (r : List ℕ) (m : ℕ) → m < n → part (blocks f n ++ r) (m * q) q ≡ f m
+block-at f q l zero r m h = absurd (not-suc-le-zero h)
+block-at f q l (suc n) r m h =
+    elim (ℕ-discrete m n) [
+      | yes e ↦ rw (e, append-assoc (blocks f n) (f n) r, drop-at (blocks f n) (f n ++ r) (n * q) (len n)) (take-at (f n) r q (l n))
+      | no e ↦ ap (λ x. part x (m * q) q) (append-assoc (blocks f n) (f n) r) ∙ block-at f q l n (f n ++ r) m (omega arith)
+    ]
+  where
+    len : (n : ℕ) → length (blocks f n) ≡ n * q
+    len zero = omega arith
+    len (suc n) = rw (length-append (blocks f n), len n, l n) (omega (arith, suc-mul n q))
+
+-- what gather leaves for column n
+gathered-at : (P cs old : List ℕ) (g q : ℕ) (d : List ℕ) (n k : ℕ) → 0 < q → n < k → part (gatheredCosts P cs old g q k d) (n * q) q ≡ oneColumn P cs old g q n
+unfolding gatheredCosts
+gathered-at P cs old g q d n k some h = block-at (oneColumn P cs old g q) q (λ m. length-incoming q some _ _) k _ n h
+
+module _ (p : ℕ) (cs ws : List ℕ) (same : length cs ≡ length ws) where
+  -- what gather leaves is the update's columns
+  gathered-arriving : (P old d : List ℕ) (g : ℕ)
+      → columnsOf (2 ^ p) ws (gatheredCosts P cs old g (2 ^ p) (length cs) d) ≡ arriving p (edgesOf cs ws) (λ n. map (scaled g) (part old (n * 2 ^ p) (2 ^ p))) P
+  unfolding arriving
+  gathered-arriving P old d g =
+      columns-map (2 ^ p) ws (gatheredCosts P cs old g (2 ^ p) (length cs) d)
+      ∙ rw (length-edges cs ws same, same)
+      (map-ext {l = upTo (length ws)} (λ n i.
+      ap₂ (λ h (c : List ℕ). record { weight = h; costs = c }) (sym (weight-edge cs ws same n))
+      (gathered-at P cs old g (2 ^ p) d n (length ws) (pow-pos p) (of-upTo i)
+      ∙ ap (λ c. incoming (2 ^ p) (columnOf (2 ^ p) P c) (map (scaled g) (part old (n * 2 ^ p) (2 ^ p)))) (sym (column-edge cs ws same n)))))
+
+  -- what scatter leaves is P after the update
+  scattered-spread : (P Q new : List ℕ) (g : ℕ)
+      → scattered Q new cs g (2 ^ p) (length cs) P ≡ spread p (edgesOf cs ws) (columnsOf (2 ^ p) ws Q) (λ n. map (scaled g) (part new (n * 2 ^ p) (2 ^ p))) P
+  unfolding scattered spread
+  scattered-spread P Q new g = rw (length-edges cs ws same) (go (length cs) (omega arith))
+    where
+      go : (k : ℕ) → k ≤ length cs
+          → upto (λ k (P : List ℕ). patch P (getD cs k 0 * 2 ^ p) (2 ^ p) (outgoing (2 ^ p) (part Q (k * 2 ^ p) (2 ^ p)) (map (scaled g) (part new (k * 2 ^ p) (2 ^ p))))) k P
+          ≡ upto (λ n (P : List ℕ). patch P (edgeAt (edgesOf cs ws) n .column * 2 ^ p) (2 ^ p) (outgoing (2 ^ p) (column (columnsOf (2 ^ p) ws Q) n .costs) (map (scaled g) (part new (n * 2 ^ p) (2 ^ p))))) k P
+      go zero h = refl
+      go (suc k) h = rw (column-edge cs ws same k, column-at (2 ^ p) ws Q k (omega arith), go k (omega arith))
+
+-- what an expansion has for column n, scaled
+heard-expansion : (p g : ℕ) (ws r : List ℕ) (n : ℕ) → n < length ws → map (scaled g) (part (expansion (ruleFor p) ws r) (n * 2 ^ p) (2 ^ p)) ≡ heard p g false ws r n
+unfolding heard expansion
+heard-expansion p g ws r n h =
+    let f : ℕ → List ℕ = λ n. map (expandAt (ruleFor p) ws r n) (upTo (2 ^ p)) in
+    let e : part (each f (upTo (length ws))) (n * 2 ^ p) (2 ^ p) ≡ f n =
+    ap (λ a. part (each f (upTo (length ws))) a (2 ^ p)) (mul-comm n (2 ^ p))
+    ∙ slice-each f (2 ^ p) 0 (length ws) n (λ m i j. length-map (upTo (2 ^ p)) (expandAt (ruleFor p) ws r m) ∙ length-count 0 (2 ^ p)) h
+    ∙ ap f (omega arith) in
+    rw e (map-after (scaled g) (expandAt (ruleFor p) ws r n) (upTo (2 ^ p)))
+
+-- and zeros
+heard-zeros : (p g : ℕ) (ws r : List ℕ) (n : ℕ) → n < length ws → map (scaled g) (part (tab (λ x. 0) (length ws * 2 ^ p)) (n * 2 ^ p) (2 ^ p)) ≡ heard p g true ws r n
+unfolding heard
+heard-zeros p g ws r n h =
+    ext-getD 0 (map (scaled g) (part z (n * q) q)) (map (λ x. 0) (upTo q)) (a ∙ sym (length-map (upTo q) (λ x. 0) ∙ length-count 0 q)) (λ x i.
+    let j : x < q = omega (arith, a) in
+    let y : getD (part z (n * q) q) x 0 ≡ 0 = rw (getD-take, getD-drop) (getD-tab (λ x. 0) (length ws * q) (n * q + x) (omega (arith, column-room n (length ws) q h))) in
+    scaled-at g (part z (n * q) q) x ∙ rw (y, mul-zero g) (sym (at-upTo (λ x. 0) q x 0 j)))
+  where
+    q : ℕ
+    q = 2 ^ p
+
+    z : List ℕ
+    z = tab (λ x. 0) (length ws * q)
+
+    room : n * q + q ≤ length z
+    room = rw (length-tab (λ x. 0) (length ws * q)) (column-room n (length ws) q h)
+
+    a : length (map (scaled g) (part z (n * q) q)) ≡ q
+    a = length-map (part z (n * q) q) (scaled g) ∙ length-part z (n * q) q room
+
+pub heard-old : (p g : ℕ) (first : Bool) (ws r : List ℕ) (n : ℕ) → n < length ws → map (scaled g) (part (oldCosts p first ws r) (n * 2 ^ p) (2 ^ p)) ≡ heard p g first ws r n
+unfolding oldCosts
+heard-old p g true ws r n h = heard-zeros p g ws r n h
+heard-old p g false ws r n h = heard-expansion p g ws r n h
+
+-- check and expand accept: none of 6, 9, 11
+weights-pass : (p : ℕ) (ws : List ℕ) → Weighed p ws → weightsOk (2 ^ p) ws ≡ true
+unfolding weightOk
+weights-pass p ws W = to-true (all-of _ (length ws) (λ n h. rw (ne-eqb (getD ws n 0) 0 (W .some n h)) (lt→ltb _ _ (W .small n h))))
+
+-- nor 16 nor 2
+pub expand-accepts : (p : ℕ) (ws r out : List ℕ) → Weighed p ws → recordOk (ruleFor p) (length ws) r ≡ true → length out ≡ length ws * 2 ^ p → expandLeaves p ws r out ≡ expansion (ruleFor p) ws r
+unfolding expandLeaves
+expand-accepts p ws r out W f e =
+    rw (le-ltb p 2 (W .low), le-ltb 6 p (W .high), le-ltb (length ws) 3 (W .three), le-ltb 32 (length ws) (W .few), weights-pass p ws W, f, ← e, le-ltb (length out) (length out) (omega arith), drop-length out)
+    (append-nil (expansion (ruleFor p) ws r))
+
+-- what the old record sent
+pub recall-first : (p : ℕ) (first : Bool) (ws r out new : List ℕ) → RecallRoom p first ws r out → first ≡ true → new ≡ tab (λ x. 0) (length out) → new ≡ oldCosts p first ws r
+unfolding oldCosts
+recall-first p first ws r out new R f e = e ∙ rw (f, R .full)
+
+pub recall-later : (p : ℕ) (first : Bool) (ws r out new : List ℕ) → RecallRoom p first ws r out → first ≡ false → new ≡ expandLeaves p ws r out → new ≡ oldCosts p first ws r
+unfolding oldCosts
+recall-later p first ws r out new R f e = e ∙ expand-accepts p ws r out (R .weighed) (R .form f) (R .full) ∙ rw f
+
+module _ (p : ℕ) (ws Q : List ℕ) (D : Ready p ws Q) where
+  pub ready-weighed : Weighed p ws
+  ready-weighed = record { low = D .low; high = D .high; three = D .three; few = D .few; some = D .weight-some; small = D .weight-small }
+
+  -- nor 12, 13 or 4
+  pub check-accepts : (r : List ℕ) → length r ≡ recordLength (ruleFor p) (length ws) → checkLeaves p ws Q r ≡ recordOf (ruleFor p) (columnsOf (2 ^ p) ws Q)
+  unfolding checkLeaves zeroOk
+  check-accepts r e =
+      let z : allTo (zeroOk (2 ^ p) Q) (length ws) ≡ true = to-true (all-of _ (length ws) (λ n h. lt→ltb _ _ (D .zeros n h))) in
+      rw (
+        le-ltb p 2 (D .low),
+        le-ltb 6 p (D .high),
+        le-ltb (length ws) 3 (D .three),
+        le-ltb 32 (length ws) (D .few),
+        weights-pass p ws ready-weighed,
+        eq-eqb (length Q) (length ws * 2 ^ p) (D .count),
+        z,
+        ← e,
+        le-ltb (length r) (length r) (omega arith),
+        drop-length r,
+      )
+      (append-nil (recordOf (ruleFor p) (columnsOf (2 ^ p) ws Q)))
+
+  -- the record is one that expand accepts
+  pub record-fits : recordOk (ruleFor p) (length ws) (recordOf (ruleFor p) (columnsOf (2 ^ p) ws Q)) ≡ true
+  record-fits = ap (λ d. recordOk (ruleFor p) d (recordOf (ruleFor p) (columnsOf (2 ^ p) ws Q))) (sym (length-columns (2 ^ p) ws Q)) ∙ record-ok (ruleFor p) (columnsOf (2 ^ p) ws Q) (ready-proper p ws Q D)
+
+  pub sent-is : (new out last : List ℕ) → new ≡ recordOf (ruleFor p) (columnsOf (2 ^ p) ws Q) → length out ≡ length ws * 2 ^ p → last ≡ expandLeaves p ws new out
+      → last ≡ expansion (ruleFor p) ws (recordOf (ruleFor p) (columnsOf (2 ^ p) ws Q))
+  sent-is new out last e f o = o ∙ rw e (expand-accepts p ws (recordOf (ruleFor p) (columnsOf (2 ^ p) ws Q)) out ready-weighed record-fits f)
+
+module _ (p g : ℕ) (first : Bool) (cs ws P r Q S : List ℕ) (U : UpdateRoom p g first cs ws P r Q S) where
+  abbrev pub arrived : List ℕ
+  arrived = gatheredCosts P cs (oldCosts p first ws r) g (2 ^ p) (length cs) Q
+
+  pub arrived-columns : columnsOf (2 ^ p) ws arrived ≡ columnsNow p g first cs ws r P
+  arrived-columns =
+      let e : length (edgesOf cs ws) ≡ length cs = length-edges cs ws (U .same) in
+      gathered-arriving p cs ws (U .same) P (oldCosts p first ws r) Q g
+      ∙ arriving-ext p (edgesOf cs ws) _ _ P (λ n h. heard-old p g first ws r n (omega (arith, U .same)) ∙ ap (λ w. heard p g first w r n) (sym (weights-edges cs ws (U .same))))
+
+  pub arrived-ready : Ready p ws arrived
+  arrived-ready =
+      let W = U .recall .weighed in
+      record {
+        low = W .low;
+        high = W .high;
+        three = W .three;
+        few = W .few;
+        weight-some = W .some;
+        weight-small = W .small;
+        count = length-gathered P cs (oldCosts p first ws r) g (2 ^ p) Q (length cs) (pow-pos p) (rw (U .same, U .for-costs) (omega arith)) ∙ U .for-costs;
+        zeros = λ n h.
+            let k : n < length cs = omega (arith, U .same) in
+            let e : costsAt (2 ^ p) arrived n ≡ oneColumn P cs (oldCosts p first ws r) g (2 ^ p) n = gathered-at P cs (oldCosts p first ws r) g (2 ^ p) Q n (length cs) (pow-pos p) k in
+            let l = length-incoming (2 ^ p) (pow-pos p) (columnOf (2 ^ p) P (getD cs n 0)) (map (scaled g) (part (oldCosts p first ws r) (n * 2 ^ p) (2 ^ p))) in
+            let z = zero-incoming (2 ^ p) (pow-pos p) (columnOf (2 ^ p) P (getD cs n 0)) (map (scaled g) (part (oldCosts p first ws r) (n * 2 ^ p) (2 ^ p))) in
+            rw e (omega (arith, first-zero z .0));
+      }
+
+  -- what each call of an update asks
+  pub gather-fits : (q : ℕ) (old : List ℕ) → q ≡ 2 ^ p → length old ≡ length S → GatherRoom P cs old g q Q
+  gather-fits q old e l =
+      rw e
+      record {
+        columns = U .columns;
+        for-old = rw (U .same, l, U .recall .full) (omega arith);
+        for-out = rw (U .same, U .for-costs) (omega arith);
+        small = U .small;
+        scale = U .scale;
+        some = pow-pos p;
+      }
+
+  pub send-fits : (q : ℕ) (old new out : List ℕ) → q ≡ 2 ^ p → old ≡ oldCosts p first ws r → new ≡ gatheredCosts P cs old g q (length cs) Q → length out ≡ length S → SendRoom p ws new r out
+  send-fits q old new out e o n l = rw (n, o, e) record { ready = arrived-ready; for-record = U .for-record; full = l ∙ U .recall .full }
+
+  pub scatter-fits : (q : ℕ) (now new : List ℕ) → q ≡ 2 ^ p → length now ≡ length Q → length new ≡ length S → ScatterRoom now new cs g q P
+  scatter-fits q now new e k l =
+      rw e record { columns = U .columns; for-q = rw (U .same, k, U .for-costs) (omega arith); for-new = rw (U .same, l, U .recall .full) (omega arith); scale = U .scale; some = pow-pos p }
+
+  -- and what they leave
+  costs-is : scattered arrived (expansion (ruleFor p) ws (recordOf (ruleFor p) (columnsOf (2 ^ p) ws arrived))) cs g (2 ^ p) (length cs) P ≡ costsNow p g first cs ws r P
+  unfolding costsNow
+  costs-is =
+      let k : length (edgesOf cs ws) ≡ length cs = length-edges cs ws (U .same) in
+      let new : List ℕ = recordOf (ruleFor p) (columnsOf (2 ^ p) ws arrived) in
+      scattered-spread p cs ws (U .same) P arrived (expansion (ruleFor p) ws new) g
+      ∙ spread-ext p (edgesOf cs ws) (columnsOf (2 ^ p) ws arrived) _ (heard p g false (weightsOf (edgesOf cs ws)) new) P (λ n h.
+      heard-expansion p g ws new n (omega (arith, U .same)) ∙ ap (λ w. heard p g false w new n) (sym (weights-edges cs ws (U .same))))
+      ∙ ap (λ c. spread p (edgesOf cs ws) c (heard p g false (weightsOf (edgesOf cs ws)) (recordOf (ruleFor p) c)) P) arrived-columns
+
+  pub update-is : (q : ℕ) (old now bytes new last : List ℕ) → q ≡ 2 ^ p → old ≡ oldCosts p first ws r → now ≡ gatheredCosts P cs old g q (length cs) Q
+      → bytes ≡ recordOf (ruleFor p) (columnsOf (2 ^ p) ws now)
+      → new ≡ expansion (ruleFor p) ws (recordOf (ruleFor p) (columnsOf (2 ^ p) ws now))
+      → last ≡ scattered now new cs g q (length cs) P
+      → (last ≡ costsNow p g first cs ws r P) × (bytes ≡ recordNow p g first cs ws r P)
+  unfolding recordNow
+  update-is q old now bytes new last e o n b s l =
+      let i : now ≡ arrived = n ∙ rw (o, e) in
+      (l ∙ rw (s, i, e) costs-is, b ∙ rw i (ap (recordOf (ruleFor p)) arrived-columns))

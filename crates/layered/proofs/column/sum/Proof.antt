@@ -1,0 +1,25 @@
+-- A scaled cost is at most 255 (mul-small), so the sum is at most 510.
+use Prim.Native.Nat.{_-_}
+use native.Mathlib.Omega.{arith}
+use borrow.Author.Needs.{needs}
+use Rattle.layered.proofs.Columns.{mul-small}
+use Rattle.layered.proofs.column.sum.Statement.{statement}
+use Rattle.layered.proofs.column.sum.Tie as tie
+
+wide-requires : tie.Need-wide-requires
+wide-requires c κs = search needs
+
+wide-requires-2 : tie.Need-wide-requires-2
+wide-requires-2 c κs = search needs
+
+mul-m : tie.Need-mul-m
+mul-m c = omega (arith, mul-small (c .before .before .args .g) (c .wide2 .result) (omega arith) (omega arith))
+
+add-result : tie.Need-add-result
+add-result c = omega (arith, mul-small (c .before .before .args .g) (c .wide2 .result) (omega arith) (omega arith))
+
+returns : tie.Need-returns
+returns c = (cc, omega (arith, mul-small (c .before .before .args .g) (c .wide2 .result) (omega arith) (omega arith)))
+
+pub sum-spec : {M : Type 1} → statement M
+sum-spec = tie.close (tie.spec wide-requires wide-requires-2 mul-m add-result returns)

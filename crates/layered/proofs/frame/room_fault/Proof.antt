@@ -1,0 +1,24 @@
+-- One test for each refusal, in the definition's order.
+use borrow.Author.Tests.{lt-ltb, le-ltb}
+use Rattle.layered.specs.Frames.{roomFault}
+use Rattle.layered.proofs.frame.room_fault.Statement.{statement}
+use Rattle.layered.proofs.frame.room_fault.Tie as tie
+
+returns : tie.Need-returns
+unfolding roomFault
+returns c = simp (lt-ltb _ _ (c .if1 .taken))
+
+returns-2 : tie.Need-returns-2
+unfolding roomFault
+returns-2 c = simp (le-ltb _ _ (c .before .if1 .left), lt-ltb _ _ (c .if2 .taken))
+
+returns-3 : tie.Need-returns-3
+unfolding roomFault
+returns-3 c = simp (le-ltb _ _ (c .before .before .if1 .left), le-ltb _ _ (c .before .if2 .left), lt-ltb _ _ (c .if3 .taken))
+
+returns-4 : tie.Need-returns-4
+unfolding roomFault
+returns-4 c = simp (le-ltb _ _ (c .before .before .if1 .left), le-ltb _ _ (c .before .if2 .left), le-ltb _ _ (c .if3 .left))
+
+pub room-fault-spec : {M : Type 1} → statement M
+room-fault-spec = tie.close (tie.spec returns returns-2 returns-3 returns-4)

@@ -1,0 +1,90 @@
+-- Each column passed has a cost of 0; a column that has none ends the loop.
+use mathlib.Core.Path.{_≡_, sym, ap, _∙_}
+use mathlib.Core.Bool.{true}
+use Prim.Native.Nat.{_+_, _-_, _*_, _≤_}
+use native.Mathlib.Omega.{arith}
+use borrow.Author.Needs.{needs}
+use lib.ListN.{length}
+use Rattle.trellis.specs.Lists.{allTo}
+use Rattle.machine.specs.CodeLine.{zeroIn}
+use Rattle.machine.proofs.Ranges.{column-room}
+use Rattle.layered.proofs.Decoded.{zeros-more, zeros-not}
+use Rattle.layered.proofs.frame.zeros_in.Statement.{statement}
+use Rattle.layered.proofs.frame.zeros_in.Tie as tie
+
+abbrev Inv-loop : tie.InvT-loop
+Inv-loop frame q n c₀ c = (c ≤ n) × (allTo (zeroIn q frame) c ≡ true)
+
+abbrev μ-loop : tie.MeasureT-loop
+μ-loop frame q n c₀ c = n - c
+
+-- column c's costs are inside
+room : (c : tie.In-loop Inv-loop μ-loop) → let s = c .before .before .before .args in c .before .loop .c * s .q + s .q ≤ length (s .frame .now)
+room c =
+    let s = c .before .before .before in
+    omega (arith, column-room (c .before .loop .c) (s .args .n) (s .args .q) (omega arith))
+
+loop-holds : tie.Need-loop-holds Inv-loop μ-loop
+loop-holds c = search needs
+
+mul-a : tie.Need-mul-a Inv-loop μ-loop
+mul-a c = omega (arith, room c)
+
+add-e : tie.Need-add-e Inv-loop μ-loop
+add-e c = omega (arith, room c)
+
+sub-first-zero : tie.Need-sub-first-zero Inv-loop μ-loop
+sub-first-zero c = omega (arith, room c)
+
+part-first-zero-start : tie.Need-part-first-zero-start Inv-loop μ-loop
+part-first-zero-start c = omega (arith, room c)
+
+part-first-zero-end : tie.Need-part-first-zero-end Inv-loop μ-loop
+part-first-zero-end c = omega (arith, room c)
+
+first-zero-requires : tie.Need-first-zero-requires Inv-loop μ-loop
+first-zero-requires c κs = search needs
+
+returns : tie.Need-returns Inv-loop μ-loop
+returns c =
+    let l = c .before .before .before .before in
+    let a = l .before .before .args in
+    sym (zeros-not (a .q) (a .n) (l .loop .c) (c .before .first-zero .result) (a .frame .now) (room (c .before .before .before)) (c .before .first-zero .ensures .0) (c .if1 .taken) (omega arith))
+
+add-c : tie.Need-add-c Inv-loop μ-loop
+add-c c = search needs
+
+loop-less : tie.Need-loop-less Inv-loop μ-loop
+loop-less c = search needs
+
+loop-again : tie.Need-loop-again Inv-loop μ-loop
+loop-again c =
+    let l = c .before .before .before .before in
+    let a = l .before .before .args in
+    (omega arith, zeros-more (a .q) (a .n) (l .loop .c) (c .before .first-zero .result) (a .frame .now) (room (c .before .before .before)) (c .before .first-zero .ensures .0) (c .before .first-zero .ensures .1) (c .if1 .left) (l .loop .inv .1))
+
+returns-2 : tie.Need-returns-2 Inv-loop μ-loop
+returns-2 c =
+    let l = c .before in
+    let a = l .before .before .args in
+    let e : l .loop .c ≡ a .n = omega arith in
+    sym (ap (allTo (zeroIn (a .q) (a .frame .now))) (sym e) ∙ l .loop .inv .1)
+
+pub zeros-in-spec : {M : Type 1} → statement M
+zeros-in-spec =
+    tie.close
+    (tie.spec
+    Inv-loop
+    μ-loop
+    loop-holds
+    mul-a
+    add-e
+    sub-first-zero
+    part-first-zero-start
+    part-first-zero-end
+    first-zero-requires
+    returns
+    add-c
+    loop-less
+    loop-again
+    returns-2)

@@ -1,0 +1,17 @@
+-- What the readers of a line of text answer.
+use mathlib.Core.Bool.{Bool}
+use mathlib.Core.List.{List}
+use Prim.Native.Nat.{ℕ}
+use lib.ListN.{getD}
+use Rattle.trellis.specs.Lists.{pick, allTo}
+use Rattle.machine.specs.Line.{isDigit, digit}
+use Rattle.layered.specs.declared.hex.Digit.{Digit}
+use Rattle.layered.specs.declared.hex.Digit.the-variants.{Is, Refused}
+
+-- a digit's value; "14, .. another byte"
+abbrev pub digitAnswer : ℕ → Digit
+digitAnswer b = pick (isDigit b) (Is (digit b)) (Refused 14)
+
+-- each of the first n bytes is a digit
+abbrev pub allDigits : List ℕ → ℕ → Bool
+allDigits t n = allTo (λ i. isDigit (getD t i 0)) n

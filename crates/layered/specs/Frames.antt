@@ -1,0 +1,57 @@
+-- The refusals of a frame and of the buffers by numbers, 0 for none, and a decoding under a code that is read. proofs/Decoded.antt shows that these are decoding's.
+use mathlib.Core.Path.{_≡_}
+use mathlib.Core.List.{List}
+use Prim.Native.Nat.{ℕ, _*_, _^_, _≤_}
+use lib.Dec.{eqb, ltb}
+use lib.ListN.{length}
+use Rattle.trellis.specs.Lists.{pick, allTo}
+use Rattle.trellis.specs.Reply.{Reply}
+use Rattle.machine.specs.CodeLine.{Code, zeroIn}
+use Rattle.machine.specs.Tables.{Tabled}
+use Rattle.machine.specs.Decoding.{After}
+use Rattle.machine.proofs.Lines.{GoodCode}
+use Rattle.layered.specs.Passes.{placeAt}
+
+-- "12, cost count wrong; 13, a column without a cost of 0"
+unfoldable pub frameFaultOf : ℕ → ℕ → List ℕ → ℕ
+frameFaultOf p n f = pick (eqb (length f) (n * 2 ^ p)) (pick (allTo (zeroIn (2 ^ p) f) n) 0 13) 12
+
+-- 2, 3, 4, in this order: n symbols, w costs and u bytes are needed
+unfoldable pub roomFault : ℕ → ℕ → ℕ → ℕ → ℕ → ℕ → ℕ
+roomFault n w u y c s = pick (ltb y n) 2 (pick (ltb c w) 3 (pick (ltb s u) 4 0))
+
+-- "12, 13, 2, 3, 4"
+unfoldable pub faultOf : ℕ → ℕ → List ℕ → List ℕ → ℕ → ℕ → ℕ → ℕ
+faultOf p n ds f y c s = pick (eqb (frameFaultOf p n f) 0) (roomFault n (n * 2 ^ p) (placeAt p ds (length ds)) y c s) (frameFaultOf p n f)
+
+-- the numbers of an accepted code, and tables that start with its own
+pub record Coded (C : Code) (p n m g limit : ℕ) (ds cs ws : List ℕ) : Type 0 where
+  pub good : GoodCode C
+  pub p-is : p ≡ C .p
+  pub columns-is : n ≡ C .columns
+  pub checks-is : m ≡ length (C .checks)
+  pub scale-is : g ≡ C .scale
+  pub limit-is : limit ≡ C .limit
+  pub tabled : Tabled C ds cs ws
+
+-- some accepted code has these; and room to work in
+pub record CodeRoom (p n m g limit : ℕ) (ds cs ws A S : List ℕ) : Type 0 where
+  pub code : Code
+  pub coded : Coded code p n m g limit ds cs ws
+  pub arrived : 2048 ≤ length A
+  pub sent : 2048 ≤ length S
+
+-- the reply and the three buffers are those of a decoding
+pub record Leaves (A : After) (reply : Reply) (symbols costs store : List ℕ) : Type 0 where
+  pub replies : reply ≡ A .reply
+  pub symbols-then : symbols ≡ A .symbols
+  pub costs-then : costs ≡ A .costs
+  pub store-then : store ≡ A .store
+
+-- tables for the largest code, and two lists for the columns of its largest check
+pub record WorkRoom (ds cs ws A S : List ℕ) : Type 0 where
+  pub degrees : length ds ≡ 128
+  pub columns : length cs ≡ 1024
+  pub weights : length ws ≡ 1024
+  pub arrived : length A ≡ 2048
+  pub sent : length S ≡ 2048

@@ -1,0 +1,53 @@
+-- The decisions and the test of every check, over the tables of degrees, columns and weights. proofs/Satisfied.antt shows that this is settled.
+use mathlib.Core.Bool.{Bool}
+use mathlib.Core.List.{List}
+use Prim.Native.Nat.{ℕ, _+_, _*_, _^_, _≤_, _<_}
+use lib.Dec.{eqb}
+use lib.ListN.{length, getD}
+use Rattle.trellis.specs.Lists.{upto, tab, allTo}
+use Rattle.trellis.specs.Field.{xor, product}
+use Rattle.trellis.specs.Check.{firstZero}
+use Rattle.machine.specs.CodeLine.{columnOf}
+use Rattle.machine.specs.Tables.{before}
+
+-- the decisions of n columns of q costs
+unfoldable pub decisionsOf : ℕ → List ℕ → ℕ → List ℕ
+decisionsOf q P n = tab (λ c. firstZero (columnOf q P c)) n
+
+-- h times x at edge k, in the order of the tables
+abbrev pub term : ℕ → List ℕ → List ℕ → List ℕ → ℕ → ℕ
+term p cs ws z k = product p (getD ws k 0) (getD z (getD cs k 0) 0)
+
+-- the sum of n of them from place at on
+unfoldable pub sumFrom : ℕ → List ℕ → List ℕ → List ℕ → ℕ → ℕ → ℕ
+sumFrom p cs ws z at n = upto (λ k a. xor a (term p cs ws z (at + k))) n 0
+
+-- the first m checks are satisfied
+unfoldable pub allHold : ℕ → List ℕ → List ℕ → List ℕ → List ℕ → ℕ → Bool
+allHold p ds cs ws z m = allTo (λ j. eqb (sumFrom p cs ws z (before ds j) (getD ds j 0)) 0) m
+
+-- edge k has a column with a symbol, and two elements to multiply
+pub record EdgeRoom (p : ℕ) (cs ws z : List ℕ) (k : ℕ) : Type 0 where
+  pub low : 2 ≤ p
+  pub high : p ≤ 6
+  pub in-columns : k < length cs
+  pub in-weights : k < length ws
+  pub column : getD cs k 0 < length z
+  pub weight : getD ws k 0 < 2 ^ p
+  pub symbol : getD z (getD cs k 0) 0 < 2 ^ p
+
+-- and so has each edge n of each check m
+pub record ParityRoom (p : ℕ) (ds cs ws z : List ℕ) : Type 0 where
+  pub each-edge : (m n : ℕ) → m < length ds → n < getD ds m 0 → EdgeRoom p cs ws z (before ds m + n)
+  pub in-columns : before ds (length ds) ≤ length cs
+
+-- before the decisions: each of the columns has a cost of 0
+pub record SettledRoom (p : ℕ) (ds cs ws P z : List ℕ) : Type 0 where
+  pub low : 2 ≤ p
+  pub high : p ≤ 6
+  pub costs : length z * 2 ^ p ≤ length P
+  pub zeros : (c : ℕ) → c < length z → firstZero (columnOf (2 ^ p) P c) < 2 ^ p
+  pub in-columns : before ds (length ds) ≤ length cs
+  pub in-weights : before ds (length ds) ≤ length ws
+  pub columns : (m n : ℕ) → m < length ds → n < getD ds m 0 → getD cs (before ds m + n) 0 < length z
+  pub weights : (m n : ℕ) → m < length ds → n < getD ds m 0 → getD ws (before ds m + n) 0 < 2 ^ p

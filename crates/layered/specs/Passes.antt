@@ -1,0 +1,107 @@
+-- One iteration and the run over the tables of degrees, columns and weights. proofs/Passes.antt shows that these are the machine's pass and goLent.
+use mathlib.Core.Path.{_≡_}
+use mathlib.Core.Bool.{Bool}
+use mathlib.Core.List.{List}
+use Prim.Native.Nat.{ℕ, zero, suc, _+_, _^_, _≤_, _<_}
+use lib.Dec.{eqb}
+use lib.ListN.{length, getD, take}
+use Rattle.trellis.specs.Lists.{pick, upto, part, patch}
+use Rattle.trellis.specs.Record.{recordLength}
+use Rattle.trellis.specs.Rules.{ruleFor}
+use Rattle.machine.specs.CodeLine.{Code}
+use Rattle.machine.specs.Machine.{State, found, notFound, lastOf, used}
+use Rattle.machine.specs.Tables.{tablesOf, before}
+use Rattle.machine.specs.Lent.{Lent, Ended, ended}
+use Rattle.machine.proofs.Lines.{GoodCode}
+use Rattle.machine.proofs.Updates.{Kept}
+use Rattle.machine.proofs.Ranges.{Ranged}
+use Rattle.machine.proofs.Lent.{lentOf, When}
+use Rattle.layered.specs.declared.Outcome.{Outcome}
+use Rattle.layered.specs.declared.Outcome.the-variants.{Found, NotFound}
+use Rattle.layered.specs.Parity.{decisionsOf, allHold}
+use Rattle.layered.specs.Turns.{recordNow, costsNow}
+
+-- p, g, the degrees of the checks, and the columns and weights of all edges end to end
+pub record Graph : Type 0 where
+  pub p : ℕ
+  pub scale : ℕ
+  pub degrees : List ℕ
+  pub columns : List ℕ
+  pub weights : List ℕ
+
+abbrev pub graph : ℕ → ℕ → List ℕ → List ℕ → List ℕ → Graph
+graph p g ds cs ws = record { p = p; scale = g; degrees = ds; columns = cs; weights = ws }
+
+abbrev pub lent : List ℕ → List ℕ → Lent
+lent P s = record { costs = P; store = s }
+
+-- check m's part of a table of edges, where ds are the degrees
+abbrev pub tableAt : List ℕ → List ℕ → ℕ → List ℕ
+tableAt ds l m = part l (before ds m) (getD ds m 0)
+
+-- the length of check m's record, and its place in the store
+abbrev pub lengthAt : ℕ → List ℕ → ℕ → ℕ
+lengthAt p ds m = recordLength (ruleFor p) (getD ds m 0)
+
+unfoldable pub placeAt : ℕ → List ℕ → ℕ → ℕ
+placeAt p ds m = upto (λ k a. a + lengthAt p ds k) m 0
+
+abbrev pub recordAt : ℕ → List ℕ → ℕ → List ℕ → List ℕ
+recordAt p ds m s = part s (placeAt p ds m) (lengthAt p ds m)
+
+-- one update of check m
+unfoldable pub turnAt : Graph → Bool → ℕ → Lent → Lent
+turnAt T first m l =
+    record {
+      costs = costsNow (T .p) (T .scale) first (tableAt (T .degrees) (T .columns) m) (tableAt (T .degrees) (T .weights) m) (recordAt (T .p) (T .degrees) m (l .store)) (l .costs);
+      store = patch (l .store) (placeAt (T .p) (T .degrees) m) (lengthAt (T .p) (T .degrees) m) (recordNow (T .p) (T .scale) first (tableAt (T .degrees) (T .columns) m) (tableAt (T .degrees) (T .weights) m) (recordAt (T .p) (T .degrees) m (l .store)) (l .costs));
+    }
+
+unfoldable pub passOver : Graph → Bool → Lent → Lent
+passOver T first l = upto (turnAt T first) (length (T .degrees)) l
+
+-- the decisions of n columns satisfy every check
+abbrev pub settledOn : Graph → ℕ → List ℕ → Bool
+settledOn T n P = allHold (T .p) (T .degrees) (T .columns) (T .weights) (decisionsOf (2 ^ T .p) P n) (length (T .degrees))
+
+-- at most k iterations more, after t
+unfoldable pub goOn : Graph → ℕ → ℕ → ℕ → Lent → Ended
+goOn T n zero t l = pick (settledOn T n (l .costs)) (ended found t l) (ended notFound t l)
+goOn T n (suc k) t l = pick (settledOn T n (l .costs)) (ended found t l) (goOn T n k (t + 1) (passOver T (eqb t 0) l))
+
+-- an outcome with what the buffers then hold
+abbrev pub endedIn : Outcome → Lent → Ended
+endedIn (Found t) l = ended found t l
+endedIn (NotFound t) l = ended notFound t l
+
+-- tables that start with those of a code's checks; the degrees are just theirs
+pub record Tables (C : Code) (T : Graph) : Type 0 where
+  pub p-is : T .p ≡ C .p
+  pub scale-is : T .scale ≡ C .scale
+  pub degrees-is : T .degrees ≡ tablesOf (C .checks) .degrees
+  pub columns : take (length (tablesOf (C .checks) .edges .columns)) (T .columns) ≡ tablesOf (C .checks) .edges .columns
+  pub weights : take (length (tablesOf (C .checks) .edges .weights)) (T .weights) ≡ tablesOf (C .checks) .edges .weights
+
+-- the buffers hold a state of a run of some accepted code; in the first iteration no check has a record, later each has
+pub record Running (T : Graph) (first : Bool) (P store : List ℕ) : Type 0 where
+  pub code : Code
+  pub good : GoodCode code
+  pub tables : Tables code T
+  pub old : List ℕ
+  pub room : used code ≤ length old
+  pub state : State
+  pub kept : Kept code state
+  pub when : (m : ℕ) → m < length (code .checks) → When code first (lastOf state m)
+  pub ranged : Ranged code (state .costs)
+  pub holds : lent P store ≡ lentOf code old state
+
+-- room to work in: two lists for the largest check's columns
+pub record PassRoom (T : Graph) (first : Bool) (P store A S : List ℕ) : Type 0 where
+  pub running : Running T first P store
+  pub arrived : 2048 ≤ length A
+  pub sent : 2048 ≤ length S
+
+-- and a symbol for each column
+pub record RunRoom (T : Graph) (first : Bool) (P store z : List ℕ) : Type 0 where
+  pub running : Running T first P store
+  pub symbols : length z ≡ running .code .columns

@@ -1,0 +1,76 @@
+// Decoding over lent tables and lists to work in: the code is read, then its refusals, or the run.
+use crate::code;
+use crate::frame;
+use crate::iterate;
+use crate::num;
+use crate::Answer;
+use crate::Header;
+ghost use mathlib.Core.Path.{_≡_};
+ghost use Prim.Native.Nat.{_≤_};
+ghost use lib.ListN.{length};
+ghost use Rattle.machine.specs.CodeLine.{Code, good};
+ghost use Rattle.machine.specs.Decoding.{underCode, Decodes};
+ghost use Rattle.layered.specs.Answers.{answerReply};
+ghost use Rattle.layered.specs.Frames.{Coded, CodeRoom, Leaves, WorkRoom};
+
+// "Decode: code, 12, 13, 2, 3, 4." Nothing is written before the last refusal has been tested.
+fn under_code(
+    p: u8,
+    n: usize,
+    m: usize,
+    g: u16,
+    limit: u8,
+    degrees: &[u8],
+    columns: &[u16],
+    weights: &[u8],
+    frame: &[u8],
+    symbols: &mut [u8],
+    costs: &mut [u16],
+    store: &mut [u8],
+    arrived: &mut [u8],
+    sent: &mut [u8],
+) -> Answer
+    requires { ⌜ CodeRoom p n m g limit (now degrees) (now columns) (now weights) (now arrived) (now sent) ⌝ }
+    ensures { λ r. ⌜ ((C : Code) → Coded C p n m g limit (now (degrees .entry)) (now (columns .entry)) (now (weights .entry)) → Leaves (underCode (good C) (now (frame .entry)) (now (symbols .entry)) (now (costs .entry)) (now (store .entry))) (answerReply r) (now (symbols .exit)) (now (costs .exit)) (now (store .exit))) ⌝ }
+{
+    let k = frame::fault(p, n, &degrees[..m], frame, symbols, costs, store);
+    if k != 0 {
+        return Answer::Refused(k);
+    }
+    let w = frame.len();
+    frame::copy(frame, &mut costs[..w]);
+    let o = iterate::run(p, g, limit, &degrees[..m], columns, weights, &mut symbols[..n], &mut costs[..w], store, arrived, sent);
+    Answer::Decoded(o)
+}
+
+pub fn decode_in(
+    code: &[u8],
+    frame: &[u8],
+    symbols: &mut [u8],
+    costs: &mut [u16],
+    store: &mut [u8],
+    degrees: &mut [u8],
+    columns: &mut [u16],
+    weights: &mut [u8],
+    arrived: &mut [u8],
+    sent: &mut [u8],
+) -> Answer
+    requires { ⌜ WorkRoom (now degrees) (now columns) (now weights) (now arrived) (now sent) ⌝ }
+    ensures { λ r. ⌜ Decodes (now (code .entry)) (now (frame .entry)) (now (symbols .entry)) (now (costs .entry)) (now (store .entry)) (answerReply r) (now (symbols .exit)) (now (costs .exit)) (now (store .exit)) ⌝ }
+{
+    match code::tables(code, degrees, columns, weights) {
+        Header::Refused(k) => Answer::Refused(k),
+        Header::Read {
+            p,
+            columns: n,
+            checks: m,
+            scale: g,
+            limit,
+        } => {
+            let n = num::long(n);
+            let m = num::index(m);
+            let g = num::wide(g);
+            under_code(p, n, m, g, limit, degrees, columns, weights, frame, symbols, costs, store, arrived, sent)
+        }
+    }
+}

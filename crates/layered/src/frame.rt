@@ -1,0 +1,125 @@
+// A frame under a code: its tests, those of the buffers, and its costs in the cost buffer.
+use crate::num;
+ghost use mathlib.Core.Path.{_≡_};
+ghost use Prim.Native.Nat.{_*_, _≤_};
+ghost use lib.ListN.{length};
+ghost use Rattle.trellis.specs.Lists.{allTo};
+ghost use Rattle.trellis.specs.Check.{firstZero};
+ghost use Rattle.machine.specs.CodeLine.{zeroIn};
+ghost use Rattle.layered.specs.Passes.{placeAt};
+ghost use Rattle.layered.specs.Frames.{frameFaultOf, roomFault, faultOf};
+
+// The smallest symbol of cost 0, or the number of costs where there is none.
+fn first_zero(costs: &[u8]) -> usize
+    ensures { λ r. ⌜ (r ≡ firstZero (now (costs .entry))) × (r ≤ length (now (costs .entry))) ⌝ }
+{
+    let mut x = 0;
+    loop {
+        if x == costs.len() {
+            break x;
+        }
+        if costs[x] == 0 {
+            break x;
+        }
+        x += 1;
+    }
+}
+
+// Whether each of n columns of q costs has a cost of 0.
+fn zeros_in(frame: &[u8], q: usize, n: usize) -> bool
+    requires { ⌜ n * q ≤ length (now frame) ⌝ }
+    ensures { λ r. ⌜ r ≡ allTo (zeroIn q (now (frame .entry))) n ⌝ }
+{
+    let mut c = 0;
+    while c < n {
+        let a = c * q;
+        let e = a + q;
+        if first_zero(&frame[a..e]) == q {
+            return false;
+        }
+        c += 1;
+    }
+    true
+}
+
+// "12, cost count wrong; 13, a column without a cost of 0"; 0 for none.
+fn frame_fault(p: u8, n: usize, frame: &[u8]) -> u8
+    requires { ⌜ (p ≤ 6) × (n ≤ 256) ⌝ }
+    ensures { λ r. ⌜ r ≡ frameFaultOf p n (now (frame .entry)) ⌝ }
+{
+    let q = num::size(p);
+    if frame.len() != n * q {
+        return 12;
+    }
+    if zeros_in(frame, q, n) {
+        return 0;
+    }
+    13
+}
+
+// "as many bytes as the M record lengths add up to".
+fn used(p: u8, degrees: &[u8]) -> usize
+    requires { ⌜ (p ≤ 6) × (length (now degrees) ≤ 128) ⌝ }
+    ensures { λ r. ⌜ r ≡ placeAt p (now (degrees .entry)) (length (now (degrees .entry))) ⌝ }
+{
+    let q = num::size(p);
+    let groups = 5 * (q - 1);
+    let mut sum = 0;
+    let mut m = 0;
+    while m < degrees.len() {
+        let d = num::index(degrees[m]);
+        sum += d + groups;
+        m += 1;
+    }
+    sum
+}
+
+// 2, 3 and 4 by the lengths of the symbol buffer, the cost buffer and the store; 0 for none.
+fn room_fault(n: usize, w: usize, u: usize, symbols: usize, costs: usize, store: usize) -> u8
+    ensures { λ r. ⌜ r ≡ roomFault n w u symbols costs store ⌝ }
+{
+    if symbols < n {
+        return 2;
+    }
+    if costs < w {
+        return 3;
+    }
+    if store < u {
+        return 4;
+    }
+    0
+}
+
+// "Decode: code, 12, 13, 2, 3, 4.": what comes after the code; 0 for none.
+pub fn fault(
+    p: u8,
+    n: usize,
+    degrees: &[u8],
+    frame: &[u8],
+    symbols: &[u8],
+    costs: &[u16],
+    store: &[u8],
+) -> u8
+    requires { ⌜ (p ≤ 6) × ((n ≤ 256) × (length (now degrees) ≤ 128)) ⌝ }
+    ensures { λ r. ⌜ r ≡ faultOf p n (now (degrees .entry)) (now (frame .entry)) (length (now (symbols .entry))) (length (now (costs .entry))) (length (now (store .entry))) ⌝ }
+{
+    let k = frame_fault(p, n, frame);
+    if k != 0 {
+        return k;
+    }
+    let w = frame.len();
+    let u = used(p, degrees);
+    room_fault(n, w, u, symbols.len(), costs.len(), store.len())
+}
+
+// "Start: P is the frame".
+pub fn copy(frame: &[u8], costs: &mut [u16])
+    requires { ⌜ length (now frame) ≡ length (now costs) ⌝ }
+    ensures { λ _. ⌜ now (costs .exit) ≡ now (frame .entry) ⌝ }
+{
+    let mut i = 0;
+    while i < costs.len() {
+        costs[i] = num::wide(frame[i]);
+        i += 1;
+    }
+}

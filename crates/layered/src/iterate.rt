@@ -1,0 +1,75 @@
+// One iteration and the run, over the lent buffers and the tables of a code.
+use crate::num;
+use crate::parity;
+use crate::update;
+use crate::Outcome;
+ghost use mathlib.Core.Path.{_≡_};
+ghost use mathlib.Core.Bool.{true, false};
+ghost use Prim.Native.Nat.{_^_, _≤_};
+ghost use lib.ListN.{length};
+ghost use Rattle.layered.specs.Parity.{decisionsOf};
+ghost use Rattle.layered.specs.Passes.{graph, lent, passOver, goOn, endedIn, PassRoom, RunRoom};
+
+// "An iteration .. takes the checks in code order." The places of a check's edges and of its record are carried along.
+fn pass(
+    p: u8,
+    g: u16,
+    first: bool,
+    degrees: &[u8],
+    columns: &[u16],
+    weights: &[u8],
+    costs: &mut [u16],
+    store: &mut [u8],
+    arrived: &mut [u8],
+    sent: &mut [u8],
+)
+    requires { ⌜ PassRoom (graph p g (now degrees) (now columns) (now weights)) first (now costs) (now store) (now arrived) (now sent) ⌝ }
+    ensures { λ _. ⌜ lent (now (costs .exit)) (now (store .exit)) ≡ passOver (graph p g (now (degrees .entry)) (now (columns .entry)) (now (weights .entry))) first (lent (now (costs .entry)) (now (store .entry))) ⌝ }
+{
+    let q = num::size(p);
+    let groups = 5 * (q - 1);
+    let mut m = 0;
+    let mut at = 0;
+    let mut place = 0;
+    while m < degrees.len() {
+        let d = num::index(degrees[m]);
+        let n = d * q;
+        let e = at + d;
+        let f = place + (d + groups);
+        update::update(p, g, first, &columns[at..e], &weights[at..e], costs, &mut store[place..f], &mut arrived[..n], &mut sent[..n]);
+        at = e;
+        place = f;
+        m += 1;
+    }
+}
+
+// The machine on the costs in `costs`, at most `limit` iterations: "all checks satisfied means found. Otherwise, if t = I, not found."
+pub fn run(
+    p: u8,
+    g: u16,
+    limit: u8,
+    degrees: &[u8],
+    columns: &[u16],
+    weights: &[u8],
+    symbols: &mut [u8],
+    costs: &mut [u16],
+    store: &mut [u8],
+    arrived: &mut [u8],
+    sent: &mut [u8],
+) -> Outcome
+    requires { ⌜ RunRoom (graph p g (now degrees) (now columns) (now weights)) true (now costs) (now store) (now symbols) × ((2048 ≤ length (now arrived)) × (2048 ≤ length (now sent))) ⌝ }
+    ensures { λ r. ⌜ endedIn r (lent (now (costs .exit)) (now (store .exit))) ≡ goOn (graph p g (now (degrees .entry)) (now (columns .entry)) (now (weights .entry))) (length (now (symbols .entry))) limit 0 (lent (now (costs .entry)) (now (store .entry))) ⌝ }
+    ensures { λ _. ⌜ now (symbols .exit) ≡ decisionsOf (2 ^ p) (now (costs .exit)) (length (now (symbols .entry))) ⌝ }
+{
+    let mut t: u8 = 0;
+    loop {
+        if parity::settled(p, degrees, columns, weights, costs, symbols) {
+            return Outcome::Found(t);
+        }
+        if t == limit {
+            return Outcome::NotFound(t);
+        }
+        pass(p, g, t == 0, degrees, columns, weights, costs, store, arrived, sent);
+        t += 1;
+    }
+}

@@ -1,0 +1,66 @@
+// One update of a check: Q from the costs and the old record, the new record, and the costs again.
+use crate::column;
+use crate::num;
+ghost use mathlib.Core.Path.{_≡_};
+ghost use Prim.Native.Nat.{ℕ, _*_, _^_};
+ghost use lib.ListN.{length};
+ghost use Rattle.trellis.specs.Lists.{tab};
+ghost use Rattle.trellis.specs.Record.{recordOf, expansion};
+ghost use Rattle.trellis.specs.Rules.{ruleFor, columnsOf};
+ghost use Rattle.layered.specs.Columns.{gathered};
+ghost use Rattle.layered.specs.Turns.{oldCosts, RecallRoom, SendRoom, UpdateRoom, recordNow, costsNow};
+
+fn clear(out: &mut [u8])
+    ensures { λ _. ⌜ now (out .exit) ≡ tab (λ x. 0) (length (now (out .entry))) ⌝ }
+{
+    let mut i = 0;
+    while i < out.len() {
+        out[i] = 0;
+        i += 1;
+    }
+}
+
+// What the old record sent, before scaling; "0 if none".
+fn recall(p: u8, first: bool, weights: &[u8], bytes: &[u8], out: &mut [u8])
+    requires { ⌜ RecallRoom p first (now weights) (now bytes) (now out) ⌝ }
+    ensures { λ _. ⌜ now (out .exit) ≡ oldCosts p first (now (weights .entry)) (now (bytes .entry)) ⌝ }
+{
+    if first {
+        clear(out);
+        return;
+    }
+    checknode::expand(p, weights, bytes, out);
+}
+
+// The record of the check with these costs, and its expansion.
+fn send(p: u8, weights: &[u8], costs: &[u8], bytes: &mut [u8], out: &mut [u8])
+    requires { ⌜ SendRoom p (now weights) (now costs) (now bytes) (now out) ⌝ }
+    ensures { λ _. ⌜ now (bytes .exit) ≡ recordOf (ruleFor p) (columnsOf (2 ^ p) (now (weights .entry)) (now (costs .entry))) ⌝ }
+    ensures { λ _. ⌜ now (out .exit) ≡ expansion (ruleFor p) (now (weights .entry)) (recordOf (ruleFor p) (columnsOf (2 ^ p) (now (weights .entry)) (now (costs .entry)))) ⌝ }
+{
+    checknode::check(p, weights, costs, bytes);
+    checknode::expand(p, weights, bytes, out);
+}
+
+// "This is one update of the check", whose record stands in `bytes`; `arrived` and `sent` are room to work in.
+pub fn update(
+    p: u8,
+    g: u16,
+    first: bool,
+    columns: &[u16],
+    weights: &[u8],
+    costs: &mut [u16],
+    bytes: &mut [u8],
+    arrived: &mut [u8],
+    sent: &mut [u8],
+)
+    requires { ⌜ UpdateRoom p g first (now columns) (now weights) (now costs) (now bytes) (now arrived) (now sent) ⌝ }
+    ensures { λ _. ⌜ now (costs .exit) ≡ costsNow p g first (now (columns .entry)) (now (weights .entry)) (now (bytes .entry)) (now (costs .entry)) ⌝ }
+    ensures { λ _. ⌜ now (bytes .exit) ≡ recordNow p g first (now (columns .entry)) (now (weights .entry)) (now (bytes .entry)) (now (costs .entry)) ⌝ }
+{
+    let q = num::size(p);
+    recall(p, first, weights, bytes, sent);
+    column::gather(costs, columns, sent, g, q, arrived);
+    send(p, weights, arrived, bytes, sent);
+    column::scatter(arrived, sent, columns, g, q, costs);
+}
