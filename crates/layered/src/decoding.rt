@@ -1,10 +1,10 @@
 // Decoding over lent tables and lists to work in: the code is read, then its refusals, or the run.
+use crate::Answer;
+use crate::Header;
 use crate::code;
 use crate::frame;
 use crate::iterate;
 use crate::num;
-use crate::Answer;
-use crate::Header;
 ghost use mathlib.Core.Path.{_≡_};
 ghost use Prim.Native.Nat.{_≤_};
 ghost use lib.ListN.{length};
@@ -39,7 +39,19 @@ fn under_code(
     }
     let w = frame.len();
     frame::copy(frame, &mut costs[..w]);
-    let o = iterate::run(p, g, limit, &degrees[..m], columns, weights, &mut symbols[..n], &mut costs[..w], store, arrived, sent);
+    let o = iterate::run(
+        p,
+        g,
+        limit,
+        &degrees[..m],
+        columns,
+        weights,
+        &mut symbols[..n],
+        &mut costs[..w],
+        store,
+        arrived,
+        sent,
+    );
     Answer::Decoded(o)
 }
 
@@ -70,7 +82,22 @@ pub fn decode_in(
             let n = num::long(n);
             let m = num::index(m);
             let g = num::wide(g);
-            under_code(p, n, m, g, limit, degrees, columns, weights, frame, symbols, costs, store, arrived, sent)
+            under_code(
+                p,
+                n,
+                m,
+                g,
+                limit,
+                degrees,
+                columns,
+                weights,
+                frame,
+                symbols,
+                costs,
+                store,
+                arrived,
+                sent,
+            )
         }
     }
 }

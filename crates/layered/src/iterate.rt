@@ -1,8 +1,8 @@
 // One iteration and the run, over the lent buffers and the tables of a code.
+use crate::Outcome;
 use crate::num;
 use crate::parity;
 use crate::update;
-use crate::Outcome;
 ghost use mathlib.Core.Path.{_≡_};
 ghost use mathlib.Core.Bool.{true, false};
 ghost use Prim.Native.Nat.{_^_, _≤_};
@@ -36,7 +36,17 @@ fn pass(
         let n = d * q;
         let e = at + d;
         let f = place + (d + groups);
-        update::update(p, g, first, &columns[at..e], &weights[at..e], costs, &mut store[place..f], &mut arrived[..n], &mut sent[..n]);
+        update::update(
+            p,
+            g,
+            first,
+            &columns[at..e],
+            &weights[at..e],
+            costs,
+            &mut store[place..f],
+            &mut arrived[..n],
+            &mut sent[..n],
+        );
         at = e;
         place = f;
         m += 1;
@@ -69,7 +79,18 @@ pub fn run(
         if t == limit {
             return Outcome::NotFound(t);
         }
-        pass(p, g, t == 0, degrees, columns, weights, costs, store, arrived, sent);
+        pass(
+            p,
+            g,
+            t == 0,
+            degrees,
+            columns,
+            weights,
+            costs,
+            store,
+            arrived,
+            sent,
+        );
         t += 1;
     }
 }

@@ -90,5 +90,16 @@ pub fn decode(
     let mut weights = [0u8; 1024];
     let mut arrived = [0u8; 2048];
     let mut sent = [0u8; 2048];
-    decoding::decode_in(code, frame, symbols, costs, store, &mut degrees, &mut columns, &mut weights, &mut arrived, &mut sent)
+    decoding::decode_in(
+        code,
+        frame,
+        symbols,
+        costs,
+        store,
+        &mut degrees,
+        &mut columns,
+        &mut weights,
+        &mut arrived,
+        &mut sent,
+    )
 }

@@ -1,10 +1,15 @@
 // The public calls for C and Rust: include/petsivola.h has each with its parameters. A slice is a pointer and a length.
 use checknode::Element;
 use checknode::Written;
+use layered::Answer;
+use layered::Outcome;
 ghost use mathlib.Core.Path.{_≡_};
 ghost use Prim.Native.Nat.{_≤_};
 ghost use Rattle.checknode.specs.Answers.{elementReply, productReply, writtenReply, checkReply, checkLeaves, expandReply, expandLeaves};
-ghost use Rattle.petsivola.specs.Packed.{packed};
+ghost use Rattle.machine.specs.Line.{lineReply, lineLeaves};
+ghost use Rattle.machine.specs.Decoding.{decoding};
+ghost use Rattle.layered.specs.Answers.{answerReply};
+ghost use Rattle.petsivola.specs.Packed.{packed, outcomeReply};
 
 fn of_element(e: Element) -> u32
     ensures { λ r. ⌜ r ≡ packed (elementReply e) ⌝ }
@@ -22,6 +27,24 @@ fn of_written(w: Written) -> u32
     match w {
         Written::Bytes(n) => n as u32,
         Written::Refused(k) => (k as u32) * 65536,
+    }
+}
+
+fn of_outcome(o: Outcome) -> u32
+    ensures { λ r. ⌜ r ≡ packed (outcomeReply o) ⌝ }
+{
+    match o {
+        Outcome::Found(t) => t as u32,
+        Outcome::NotFound(t) => 65536 + (t as u32),
+    }
+}
+
+fn of_answer(a: Answer) -> u32
+    ensures { λ r. ⌜ r ≡ packed (answerReply a) ⌝ }
+{
+    match a {
+        Answer::Decoded(o) => of_outcome(o),
+        Answer::Refused(k) => (k as u32) * 65536,
     }
 }
 
@@ -46,4 +69,28 @@ pub extern "C" fn petsivola_expand(p: u8, weights: &[u8], bytes: &[u8], out: &mu
     ensures { λ _. ⌜ now (out .exit) ≡ expandLeaves p (now (weights .entry)) (now (bytes .entry)) (now (out .entry)) ⌝ }
 {
     of_written(checknode::expand(p, weights, bytes, out))
+}
+
+#[no_mangle]
+pub extern "C" fn petsivola_line(text: &[u8], out: &mut [u8]) -> u32
+    ensures { λ r. ⌜ r ≡ packed (lineReply (now (text .entry)) (now (out .entry))) ⌝ }
+    ensures { λ _. ⌜ now (out .exit) ≡ lineLeaves (now (text .entry)) (now (out .entry)) ⌝ }
+{
+    of_written(layered::line(text, out))
+}
+
+#[no_mangle]
+pub extern "C" fn petsivola_decode(
+    code: &[u8],
+    frame: &[u8],
+    symbols: &mut [u8],
+    costs: &mut [u16],
+    store: &mut [u8],
+) -> u32
+    ensures { λ r. ⌜ r ≡ packed (decoding (now (code .entry)) (now (frame .entry)) (now (symbols .entry)) (now (costs .entry)) (now (store .entry)) .reply) ⌝ }
+    ensures { λ _. ⌜ now (symbols .exit) ≡ decoding (now (code .entry)) (now (frame .entry)) (now (symbols .entry)) (now (costs .entry)) (now (store .entry)) .symbols ⌝ }
+    ensures { λ _. ⌜ now (costs .exit) ≡ decoding (now (code .entry)) (now (frame .entry)) (now (symbols .entry)) (now (costs .entry)) (now (store .entry)) .costs ⌝ }
+    ensures { λ _. ⌜ now (store .exit) ≡ decoding (now (code .entry)) (now (frame .entry)) (now (symbols .entry)) (now (costs .entry)) (now (store .entry)) .store ⌝ }
+{
+    of_answer(layered::decode(code, frame, symbols, costs, store))
 }

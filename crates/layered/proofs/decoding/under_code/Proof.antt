@@ -113,8 +113,7 @@ run-requires c κs =
     let k = c .before .before .before .before .before .before .before .before .before .before .before in
     let z = at-if1 .if1 .left in
     let s = k .before .before .before .before .before .before .before .before .before .before .before .before .before .before in
-    let a = s .args in
-    (
+    let a = s .args in (
       copied-room (s .pre .code) (a .p) (a .n) (a .m) (a .g) (a .limit) (a .degrees .now) (a .columns .now) (a .weights .now) (s .pre .coded) (a .frame .now) (a .symbols .now) (a .costs .now) (a .store .now) (k .fault .result) (k .fault .ensures) z (at-copy .copy .last .1 .0) (at-copy .copy .ensures) (λ x. omega (arith, k .before .before .before .before .before .before .before .before .before .before .shared-slice-known4 .given x)) (take (a .n) (a .symbols .now)) (length-take-le (a .n) (a .symbols .now) (omega (arith, (fits (s .pre .code) (a .p) (a .n) (a .m) (a .g) (a .limit) (a .degrees .now) (a .columns .now) (a .weights .now) (s .pre .coded) (a .frame .now) (a .symbols .now) (a .costs .now) (a .store .now) (k .fault .result) (k .fault .ensures) z)))),
       (s .pre .arrived, s .pre .sent),
     )

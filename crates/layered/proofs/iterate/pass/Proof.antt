@@ -108,35 +108,35 @@ part-update-end-3 c =
     omega (arith, places (c .before .before .before), at-loop .loop .inv .1 .1 .1 .1)
 
 slice-relend-prefix-update : tie.Need-slice-relend-prefix-update Inv-loop μ-loop
-slice-relend-prefix-update c = 
+slice-relend-prefix-update c =
     let i = c .before .before .before .before in
     let l = i .before .before .before in
     let s = l .before .before .before .before .before .before .before .before .before in
     omega (arith, places i, s .pre .arrived, l .loop .inv .1 .1 .1 .1 .1 .1 .0)
 
 slice-aggregate-update : tie.Need-slice-aggregate-update Inv-loop μ-loop
-slice-aggregate-update c = 
+slice-aggregate-update c =
     let i = c .before .before .before .before .before in
     let l = i .before .before .before in
     let s = l .before .before .before .before .before .before .before .before .before in
     simp length-take (omega (arith, places i, s .pre .arrived, l .loop .inv .1 .1 .1 .1 .1 .1 .0))
 
 slice-relend-prefix-update-2 : tie.Need-slice-relend-prefix-update-2 Inv-loop μ-loop
-slice-relend-prefix-update-2 c = 
+slice-relend-prefix-update-2 c =
     let i = c .before .before .before .before .before in
     let l = i .before .before .before in
     let s = l .before .before .before .before .before .before .before .before .before in
     omega (arith, places i, s .pre .sent, l .loop .inv .1 .1 .1 .1 .1 .1 .1)
 
 slice-aggregate-update-2 : tie.Need-slice-aggregate-update-2 Inv-loop μ-loop
-slice-aggregate-update-2 c = 
+slice-aggregate-update-2 c =
     let i = c .before .before .before .before .before .before in
     let l = i .before .before .before in
     let s = l .before .before .before .before .before .before .before .before .before in
     simp length-take (omega (arith, places i, s .pre .sent, l .loop .inv .1 .1 .1 .1 .1 .1 .1))
 
 update-requires : tie.Need-update-requires Inv-loop μ-loop
-update-requires c κs = 
+update-requires c κs =
     let i = c .before .before .before .before .before .before in
     let l = i .before .before .before in
     let z = l .before in
@@ -158,7 +158,7 @@ loop-less : tie.Need-loop-less Inv-loop μ-loop
 loop-less c = search needs
 
 loop-again : tie.Need-loop-again Inv-loop μ-loop
-loop-again c = 
+loop-again c =
     let u = c .before .before .before .before .before .before .before .before in
     let i = u .before .before .before .before .before .before .before in
     let l = i .before .before .before in
@@ -202,7 +202,7 @@ same-length-4 : tie.Need-same-length-4 Inv-loop μ-loop
 same-length-4 c = search needs
 
 returns : tie.Need-returns Inv-loop μ-loop
-returns c = 
+returns c =
     let l = c .before in
     let a = l .before .before .before .before .before .before .before .before .before .args in
     pass-done (graph (a .p) (a .g) (a .degrees .now) (a .columns .now) (a .weights .now)) (a .first) (lent (a .costs .now) (a .store .now)) _ (l .loop .m) (omega arith) (l .loop .inv .1 .1 .1 .0)

@@ -38,7 +38,7 @@ unfolding sumFrom
 loop-holds c = (omega arith, refl)
 
 add-term-at : tie.Need-add-term-at Inv-loop μ-loop Inv-checks μ-checks
-add-term-at c = 
+add-term-at c =
     let i = c .before .before in
     let k = i .before .before .before in
     let s = k .before .before .before .before .before in
@@ -60,14 +60,14 @@ loop-less : tie.Need-loop-less Inv-loop μ-loop Inv-checks μ-checks
 loop-less c = omega arith
 
 loop-again : tie.Need-loop-again Inv-loop μ-loop Inv-checks μ-checks
-loop-again c = 
+loop-again c =
     let l = c .before .before in
     let k = l .before .before .before .before in
     let a = k .before .before .before .before .before .args in
     (omega arith, sum-more (a .p) (a .degrees .now) (a .columns .now) (a .weights .now) (a .symbols .now) (k .checks .at) (l .loop .n) (l .loop .sum) (c .term-at .result) (l .loop .inv .1) (c .term-at .ensures))
 
 add-at : tie.Need-add-at Inv-loop μ-loop Inv-checks μ-checks
-add-at c = 
+add-at c =
     let i = c .before .before .before in
     let k = i .before .before .before in
     let s = k .before .before .before .before .before in
@@ -80,21 +80,23 @@ checks-less : tie.Need-checks-less Inv-loop μ-loop Inv-checks μ-checks
 checks-less c = omega arith
 
 checks-again : tie.Need-checks-again Inv-loop μ-loop Inv-checks μ-checks
-checks-again c = 
+checks-again c =
     let l = c .before .before in
     let i = l .before in
     let k = i .before .before .before in
-    let a = k .before .before .before .before .before .args in
-    (omega arith, (
-      before-more (a .degrees .now) (k .checks .m) (k .checks .at) (i .index .result) (k .checks .inv .1 .0) (i .index .ensures .0),
-      hold-more (a .p) (a .degrees .now) (a .columns .now) (a .weights .now) (a .symbols .now) (k .checks .m) (k .checks .at) (i .index .result) (l .loop .n) (l .loop .sum) (k .checks .inv .1 .0) (i .index .ensures .0) (c .before .if2 .taken) (l .loop .inv .1) (c .if3 .left) (k .checks .inv .1 .1),
-    ))
+    let a = k .before .before .before .before .before .args in (
+      omega arith,
+      (
+        before-more (a .degrees .now) (k .checks .m) (k .checks .at) (i .index .result) (k .checks .inv .1 .0) (i .index .ensures .0),
+        hold-more (a .p) (a .degrees .now) (a .columns .now) (a .weights .now) (a .symbols .now) (k .checks .m) (k .checks .at) (i .index .result) (l .loop .n) (l .loop .sum) (k .checks .inv .1 .0) (i .index .ensures .0) (c .before .if2 .taken) (l .loop .inv .1) (c .if3 .left) (k .checks .inv .1 .1),
+      ),
+    )
 
 returns : tie.Need-returns Inv-loop μ-loop Inv-checks μ-checks
 returns c = sym (rw (← c .if1 .taken) (c .before .checks .inv .1 .1))
 
 returns-2 : tie.Need-returns-2 Inv-loop μ-loop Inv-checks μ-checks
-returns-2 c = 
+returns-2 c =
     let l = c .before .before in
     let i = l .before in
     let k = i .before .before .before in

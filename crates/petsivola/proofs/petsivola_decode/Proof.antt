@@ -1,0 +1,31 @@
+-- The reply of the call, packed, and what it promises of the three buffers.
+use mathlib.Core.Path.{ap, _∙_}
+use Rattle.petsivola.specs.Packed.{packed}
+use borrow.Author.Needs.{needs}
+use Rattle.petsivola.proofs.petsivola_decode.Statement.{statement}
+use Rattle.petsivola.proofs.petsivola_decode.Tie as tie
+
+decode-requires : tie.Need-decode-requires
+decode-requires c κs = search needs
+
+of-answer-requires : tie.Need-of-answer-requires
+of-answer-requires c κs = search needs
+
+same-length : tie.Need-same-length
+same-length c = search needs
+
+same-length-2 : tie.Need-same-length-2
+same-length-2 c = search needs
+
+same-length-3 : tie.Need-same-length-3
+same-length-3 c = search needs
+
+returns : tie.Need-returns
+returns c =
+    let D = c .before .before .before .before .before .before .before .decode .ensures in
+    (c .of-answer .ensures ∙ ap packed (D .replies), (D .symbols-then, (D .costs-then, D .store-then)))
+
+pub petsivola-decode-spec : {M : Type 1} → statement M
+petsivola-decode-spec =
+    tie.close
+    (tie.spec decode-requires of-answer-requires same-length same-length-2 same-length-3 returns)
