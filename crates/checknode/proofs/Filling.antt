@@ -72,9 +72,6 @@ products-start p h (x ∷ l) k = ap {B = List ℕ} (λ y. y ∷ l) (sym (product
 pub products-end : (f : ℕ → ℕ) (n m : ℕ) (l row : List ℕ) → n ≡ m → length l ≡ m → row ≡ tab f n ++ drop n l → row ≡ tab f m
 products-end f n m l row e h o = rw (o, e, ← h, drop-length) (append-nil (tab f (length l)))
 
-pub table-turn : (f : ℕ → ℕ) (x : ℕ) (l row : List ℕ) → x < length l → row ≡ tab f x ++ drop x l → {i v : ℕ} → i ≡ x → v ≡ f x → set row i v ≡ tab f (x + 1) ++ drop (x + 1) l
-table-turn f x l row h e i v = rw (e, i, v) (tab-more f l x h)
-
 pub products-turn : (p h i n t : ℕ) (l row : List ℕ) → i < p → n ≡ 2 ^ i → t ≡ powers p h i → length l ≡ 2 ^ p → {r : List ℕ} → row ≡ tab (product p h) n ++ drop n l → r ≡ plusRow n t row
     → r ≡ tab (product p h) (n + n) ++ drop (n + n) l
 products-turn p h i n t l row u en et el e o =

@@ -1,6 +1,5 @@
 // The products of one weight with every symbol, worked out once for a column.
 use crate::field;
-use crate::num;
 use crate::table;
 ghost use mathlib.Core.Path.{_≡_};
 ghost use Prim.Native.Nat.{_+_, _^_, _≤_, _<_};
@@ -40,26 +39,14 @@ fn by_doubling(p: u8, h: u8, row: &mut [u8])
     }
 }
 
-// From the table, at p = 6.
-fn from_table(h: u8, row: &mut [u8])
-    requires { ⌜ (h < 64) × (length (now row) ≡ 64) ⌝ }
-    ensures { λ _. ⌜ now (row .exit) ≡ tab (product 6 h) 64 ⌝ }
-{
-    let mut x: u8 = 0;
-    while x < 64 {
-        let i = num::index(x);
-        row[i] = table::entry(h, x);
-        x += 1;
-    }
-}
-
+// From the table at p = 6, else by doubling.
 pub fn fill(p: u8, h: u8, row: &mut [u8])
     requires { ⌜ Times p h ⌝ }
     requires { ⌜ length (now row) ≡ 2 ^ p ⌝ }
     ensures { λ _. ⌜ now (row .exit) ≡ tab (product p h) (2 ^ p) ⌝ }
 {
     if p == 6 {
-        from_table(h, row);
+        table::row(h, row);
         return;
     }
     by_doubling(p, h, row);

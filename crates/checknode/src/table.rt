@@ -1,7 +1,12 @@
 // "For p = 6 the product also stands as a constant table of 4,096 numbers that agrees with the recurrence at each pair."
+use crate::num;
+
 ghost use mathlib.Core.Path.{_≡_};
 ghost use Prim.Native.Nat.{_<_};
+ghost use lib.ListN.{length};
+ghost use Rattle.trellis.specs.Lists.{tab};
 ghost use Rattle.trellis.specs.Field.{product};
+ghost use Rattle.checknode.specs.Table.{productTable};
 
 // a times b stands at 64 a + b.
 const PRODUCTS: [u8; 4096] = [
@@ -4167,11 +4172,24 @@ const PRODUCTS: [u8; 4096] = [
     42, // 63 times 63
 ];
 
-// a times b at p = 6.
-pub fn entry(a: u8, b: u8) -> u8
-    requires { ⌜ (a < 64) × (b < 64) ⌝ }
-    ensures { λ r. ⌜ r ≡ product 6 a b ⌝ }
+// Row h of the table: h times each symbol.
+fn row_from(table: &[u8], h: u8, out: &mut [u8])
+    requires { ⌜ now table ≡ productTable ⌝ }
+    requires { ⌜ (h < 64) × (length (now out) ≡ 64) ⌝ }
+    ensures { λ _. ⌜ now (out .exit) ≡ tab (product 6 h) 64 ⌝ }
 {
-    let i = (a as usize) * 64 + (b as usize);
-    PRODUCTS[i]
+    let base = num::index(h) * 64;
+    let mut x = 0;
+    while x < 64 {
+        out[x] = table[base + x];
+        x += 1;
+    }
+}
+
+// The products of h with each symbol at p = 6. The table is handed on whole, once: a constant that is indexed in a loop is copied each time.
+pub fn row(h: u8, out: &mut [u8])
+    requires { ⌜ (h < 64) × (length (now out) ≡ 64) ⌝ }
+    ensures { λ _. ⌜ now (out .exit) ≡ tab (product 6 h) 64 ⌝ }
+{
+    row_from(&PRODUCTS, h, out);
 }

@@ -6,8 +6,8 @@ use borrow.Author.Needs.{needs}
 use Rattle.checknode.proofs.products.fill.Statement.{statement}
 use Rattle.checknode.proofs.products.fill.Tie as tie
 
-from-table-requires : tie.Need-from-table-requires
-from-table-requires c κs =
+row-requires : tie.Need-row-requires
+row-requires c κs =
     let s = c .before .before .before in
     let e : s .args .p ≡ 6 = omega arith in
     let q : 2 ^ s .args .p ≡ 64 = ap (λ p. 2 ^ p) e in
@@ -18,10 +18,10 @@ same-length c = search needs
 
 returns : tie.Need-returns
 returns c =
-    let at-from-table = c .before .before in
-    let start = at-from-table .before .before .before .before in
+    let at-row = c .before .before in
+    let start = at-row .before .before .before .before in
     let e : start .args .p ≡ 6 = omega arith in
-    rw e (at-from-table .from-table .ensures)
+    rw e (at-row .row .ensures)
 
 by-doubling-requires : tie.Need-by-doubling-requires
 by-doubling-requires c κs = search needs
@@ -33,4 +33,4 @@ returns-2 : tie.Need-returns-2
 returns-2 c = search needs
 
 pub fill-spec : {M : Type 1} → statement M
-fill-spec = tie.close (tie.spec from-table-requires same-length returns by-doubling-requires same-length-2 returns-2)
+fill-spec = tie.close (tie.spec row-requires same-length returns by-doubling-requires same-length-2 returns-2)
