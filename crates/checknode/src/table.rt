@@ -1,6 +1,5 @@
 // "For p = 6 the product also stands as a constant table of 4,096 numbers that agrees with the recurrence at each pair."
 use crate::num;
-
 ghost use mathlib.Core.Path.{_≡_};
 ghost use Prim.Native.Nat.{_<_};
 ghost use lib.ListN.{length};

@@ -7,4 +7,5 @@ pub mod Turns
 pub mod Passes
 pub mod Runs
 pub mod Decoded
+pub mod Printing
 pub mod TwoCalls

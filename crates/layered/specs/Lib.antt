@@ -7,3 +7,4 @@ pub mod Parity
 pub mod Turns
 pub mod Passes
 pub mod Frames
+pub mod Lines

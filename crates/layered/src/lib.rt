@@ -7,14 +7,18 @@ mod hex;
 mod iterate;
 mod num;
 mod parity;
+mod print;
 mod update;
 
 use checknode::Written;
 ghost use mathlib.Core.Path.{_≡_};
+ghost use mathlib.Core.List.{_++_};
+ghost use lib.ListN.{length, drop};
 ghost use Rattle.checknode.specs.Answers.{writtenReply};
 ghost use Rattle.machine.specs.Line.{lineReply, lineLeaves};
 ghost use Rattle.machine.specs.CodeLine.{parse, numbersOf};
 ghost use Rattle.machine.specs.Decoding.{Decodes};
+ghost use Rattle.machine.specs.Printing.{frameSaid, frameLine};
 ghost use Rattle.layered.specs.Answers.{headerNumbers, answerReply};
 
 // The numbers of a code line, or the number of the refusal.
@@ -101,5 +105,25 @@ pub fn decode(
         &mut weights,
         &mut arrived,
         &mut sent,
+    )
+}
+
+// The line that the program prints for a frame's line of text, with its end. The longest has 517 bytes: 256 symbols, and 2 + 2 + 1.
+pub fn frame_line(code: &[u8], text: &[u8], out: &mut [u8; 517]) -> Answer
+    ensures { λ r. ⌜ answerReply r ≡ frameSaid (now (code .entry)) (now (text .entry)) .reply ⌝ }
+    ensures { λ _. ⌜ now (out .exit) ≡ frameLine (now (code .entry)) (now (text .entry)) ++ drop (length (frameLine (now (code .entry)) (now (text .entry)))) (now (out .entry)) ⌝ }
+{
+    let mut bytes = [0u8; 16384];
+    let mut symbols = [0u8; 256];
+    let mut costs = [0u16; 16384];
+    let mut store = [0u8; 41344];
+    print::text_in(
+        code,
+        text,
+        &mut bytes,
+        &mut symbols,
+        &mut costs,
+        &mut store,
+        out,
     )
 }

@@ -8,4 +8,5 @@ pub mod Demand
 pub mod Lent
 pub mod Tables
 pub mod Edges
+pub mod Rooms
 pub mod Examples

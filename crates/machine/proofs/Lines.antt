@@ -114,29 +114,43 @@ check-count s at n q total es h =
     let a = passed ((leb (length s) at, 5) ∷ (ltb d 3, 9) ∷ (ltb 32 d, 9) ∷ (ltb 1024 (total + d), 9) ∷ (ltb (length s - (at + 1)) (3 * d), 5) ∷ []) _ es h in
     edges-good d s (at + 1) n q 0 es (a .1) .count
 
-checks-good : (c : ℕ) (s : List ℕ) (at n q total : ℕ) (l : List (List Edge)) → checks c s at n q total ≡ good l
-    → (length l ≡ c) × ((m : ℕ) → m < length l → GoodCheck n q (getD l m []))
+-- how many edges all checks have together
+abbrev pub edgeTotal : List (List Edge) → ℕ
+edgeTotal [] = 0
+edgeTotal (es ∷ l) = length es + edgeTotal l
+
+-- c checks after total edges
+record GoodChecks (n q total c : ℕ) (l : List (List Edge)) : Type 0 where
+  pub count : length l ≡ c
+  pub each-check : (m : ℕ) → m < length l → GoodCheck n q (getD l m [])
+  pub few-edges : total + edgeTotal l ≤ 1024
+
+checks-good : (c : ℕ) (s : List ℕ) (at n q total : ℕ) (l : List (List Edge)) → total ≤ 1024 → checks c s at n q total ≡ good l → GoodChecks n q total c l
 unfolding checks
-checks-good zero s at n q total l h = go (eqb at (length s)) h
+checks-good zero s at n q total l f h = go (eqb at (length s)) h
   where
-    go : (b : Bool) → pick b (good []) (bad 5) ≡ good l → (length l ≡ 0) × ((m : ℕ) → m < length l → GoodCheck n q (getD l m []))
-    go true k = let e : l ≡ [] = sym (good-one [] l k) in rw e (refl, λ m i. absurd (not-suc-le-zero i))
+    go : (b : Bool) → pick b (good []) (bad 5) ≡ good l → GoodChecks n q total 0 l
+    go true k =
+        let e : l ≡ [] = sym (good-one [] l k) in
+        rw e (record { count = refl; each-check = λ m i. absurd (not-suc-le-zero i); few-edges = omega arith })
     go false k = let z : _≡_ {A = ℕ} 0 1 = cc in absurd (omega arith)
-checks-good (suc c) s at n q total l h =
+checks-good (suc c) s at n q total l f h =
+    let d : ℕ = getD s at 0 in
     let a = then-good (checkAt s at n q total) _ l h in
-    let b = then-good (checks c s (at + 1 + 3 * getD s at 0) n q (total + getD s at 0)) _ l (a .2) in
+    let b = then-good (checks c s (at + 1 + 3 * d) n q (total + d)) _ l (a .2) in
     let e : l ≡ a .0 ∷ b .0 = sym (good-one _ l (b .2)) in
-    let r = checks-good c s (at + 1 + 3 * getD s at 0) n q (total + getD s at 0) (b .0) (b .1) in
-    more (a .0) (b .0) e (check-good s at n q total (a .0) (a .1) .0) r
+    let g = check-good s at n q total (a .0) (a .1) in
+    let i = check-count s at n q total (a .0) (a .1) in
+    more (a .0) (b .0) e (g .0) i (checks-good c s (at + 1 + 3 * d) n q (total + d) (b .0) (omega (arith, g .1, i)) (b .1))
   where
     at-more : (es : List Edge) (k : List (List Edge)) → GoodCheck n q es → ((m : ℕ) → m < length k → GoodCheck n q (getD k m []))
         → (m : ℕ) → m < length (es ∷ k) → GoodCheck n q (getD (es ∷ k) m [])
     at-more es k g r zero h = g
     at-more es k g r (suc m) h = r m (omega arith)
 
-    more : (es : List Edge) (k : List (List Edge)) → l ≡ es ∷ k → GoodCheck n q es → (length k ≡ c) × ((m : ℕ) → m < length k → GoodCheck n q (getD k m []))
-        → (length l ≡ suc c) × ((m : ℕ) → m < length l → GoodCheck n q (getD l m []))
-    more es k e g r = rw e (ap suc (r .0), at-more es k g (r .1))
+    more : (es : List Edge) (k : List (List Edge)) → l ≡ es ∷ k → GoodCheck n q es → length es ≡ getD s at 0 → GoodChecks n q (total + getD s at 0) c k → GoodChecks n q total (suc c) l
+    more es k e g i r =
+        rw e (record { count = ap suc (r .count); each-check = at-more es k g (r .each-check); few-edges = omega (arith, r .few-edges) })
 
 pub record GoodCode (C : Code) : Type 0 where
   pub p-low : 2 ≤ C .p
@@ -149,6 +163,7 @@ pub record GoodCode (C : Code) : Type 0 where
   pub checks-low : 1 ≤ length (C .checks)
   pub checks-high : length (C .checks) ≤ 128
   pub each-check : (m : ℕ) → m < length (C .checks) → GoodCheck (C .columns) (size C) (check C m)
+  pub edges-high : edgeTotal (C .checks) ≤ 1024
 
 pub parse-good : (s : List ℕ) (C : Code) → parse s ≡ good C → GoodCode C
 unfolding parse
@@ -160,7 +175,7 @@ parse-good s C h =
     let i : ℕ = getD s 5 0 in
     let a = passed ((ltb (length s) 6, 5) ∷ (ltb p 2, 6) ∷ (ltb 6 p, 6) ∷ (ltb n 1, 7) ∷ (ltb 256 n, 7) ∷ (ltb m 1, 7) ∷ (ltb 128 m, 7) ∷ (ltb g 1, 8) ∷ (ltb 16 g, 8) ∷ (ltb i 1, 8) ∷ []) _ C h in
     let b = then-good (checks m s 6 n (2 ^ p) 0) _ C (a .1) in
-    let r = checks-good m s 6 n (2 ^ p) 0 (b .0) (b .1) in
+    let r = checks-good m s 6 n (2 ^ p) 0 (b .0) (omega arith) (b .1) in
     let e : C ≡ record { p = p; columns = n; scale = g; limit = i; checks = b .0 } = sym (good-one _ C (b .2)) in
     rw e
     record {
@@ -171,7 +186,8 @@ parse-good s C h =
       scale-low = ltb-false _ _ (a .0 .1 .1 .1 .1 .1 .1 .1 .0);
       scale-high = ltb-false _ _ (a .0 .1 .1 .1 .1 .1 .1 .1 .1 .0);
       limit-low = ltb-false _ _ (a .0 .1 .1 .1 .1 .1 .1 .1 .1 .1 .0);
-      checks-low = omega (arith, ltb-false m 1 (a .0 .1 .1 .1 .1 .1 .0), r .0);
-      checks-high = omega (arith, ltb-false 128 m (a .0 .1 .1 .1 .1 .1 .1 .0), r .0);
-      each-check = r .1;
+      checks-low = omega (arith, ltb-false m 1 (a .0 .1 .1 .1 .1 .1 .0), r .count);
+      checks-high = omega (arith, ltb-false 128 m (a .0 .1 .1 .1 .1 .1 .1 .0), r .count);
+      each-check = r .each-check;
+      edges-high = omega (arith, r .few-edges);
     }

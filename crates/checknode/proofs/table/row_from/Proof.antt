@@ -49,8 +49,7 @@ loop-less c = search needs
 loop-again : tie.Need-loop-again Inv-loop μ-loop
 loop-again c =
     let at-loop = c .before .before in
-    let s = at-loop .before .before .before .before in
-    (
+    let s = at-loop .before .before .before .before in (
       omega arith,
       (
         (simp length-set (omega arith), omega arith),

@@ -1,0 +1,20 @@
+-- What the printing of a line leaves, and the number of symbols in it.
+use mathlib.Core.List.{List, [], _∷_, _++_}
+use Prim.Native.Nat.{ℕ}
+use lib.ListN.{length, drop}
+use Rattle.trellis.specs.Lists.{each}
+use Rattle.machine.specs.CodeLine.{Read, good, bad, Numbers}
+use Rattle.machine.specs.Printing.{digitsOf}
+
+-- "all as two-digit bytes"; "Each printed line ends in 0A."
+unfoldable pub asLine : List ℕ → List ℕ
+asLine l = each digitsOf l ++ (0x0A ∷ [])
+
+-- a list put over the front of a buffer
+abbrev pub over : List ℕ → List ℕ → List ℕ
+over l out = l ++ drop (length l) out
+
+-- N, where the code line is accepted
+abbrev pub columnsRead : Read Numbers → ℕ
+columnsRead (good h) = h .columns
+columnsRead (bad k) = 0

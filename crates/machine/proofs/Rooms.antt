@@ -1,0 +1,52 @@
+-- Buffers of 256 symbols, 16,384 costs and a store of 41,344 bytes are long enough for every accepted code line: 1,024 edges in all, and
+-- at most 315 bytes more for each of at most 128 records.
+use mathlib.Core.Path.{_≡_, refl, sym, ap, _∙_}
+use mathlib.Core.Bool.{Bool, true, false}
+use mathlib.Core.List.{List, [], _∷_, _++_}
+use Prim.Native.Nat.{ℕ, zero, suc, _+_, _-_, _*_, _^_, _≤_, _<_}
+use native.Mathlib.Nat.{mul-le-mul, suc-mul}
+use native.Mathlib.Omega.{arith}
+use lib.Dec.{eqb}
+use lib.Pow.{pow-mono}
+use lib.ListN.{length, getD, take, drop, length-map}
+use lib.Seq.{take-at}
+use borrow.Author.Tests.{eqb-true}
+use Rattle.trellis.specs.Lists.{pick, upto, upTo}
+use Rattle.trellis.specs.Record.{recordLength}
+use Rattle.trellis.specs.Reply.{Reply}
+use Rattle.trellis.proofs.Places.{length-count}
+use Rattle.machine.specs.CodeLine.{Read, good, bad, Edge, Code, size, rule, parse, frameFault, numbersOf, Numbers}
+use Rattle.machine.specs.Machine.{place, used, run, symbols}
+use Rattle.machine.specs.Decoding.{Room, Decodes, decoding, After, refused, underCode}
+use Rattle.machine.specs.Printing.{Said, said, ofFrame, printed}
+use Rattle.machine.proofs.Lines.{GoodCode, parse-good, edgeTotal}
+use Rattle.machine.proofs.Demand.{accepted-call}
+
+-- a sum over a list, taken from its front
+sum-front : (w : List Edge → ℕ) (es : List Edge) (l : List (List Edge)) (m : ℕ)
+    → upto (λ k a. a + w (getD (es ∷ l) k [])) (suc m) 0 ≡ w es + upto (λ k a. a + w (getD l k [])) m 0
+sum-front w es l zero = omega arith
+sum-front w es l (suc m) = ap (λ a. a + w (getD l m [])) (sum-front w es l m) ∙ omega arith
+
+-- records that are at most b longer than their checks
+sum-small : (w : List Edge → ℕ) (b : ℕ) → ((es : List Edge) → w es ≤ length es + b) → (l : List (List Edge))
+    → upto (λ k a. a + w (getD l k [])) (length l) 0 ≤ edgeTotal l + length l * b
+sum-small w b h [] = omega arith
+sum-small w b h (es ∷ l) = omega (arith, sum-front w es l (length l), h es, sum-small w b h l, suc-mul (length l) b)
+
+module _ (C : Code) (G : GoodCode C) where
+  size-high : size C ≤ 64
+  size-high = pow-mono (G .p-high)
+
+  pub used-high : used C ≤ 41344
+  unfolding place
+  used-high =
+      let s = sum-small (λ es. recordLength (rule C) (length es)) 315 (λ es. omega (arith, size-high)) (C .checks) in
+      omega (arith, s, G .edges-high, G .checks-high)
+
+  pub costs-high : C .columns * size C ≤ 16384
+  costs-high = mul-le-mul (G .columns-high) size-high
+
+  pub roomy : (y c s : List ℕ) → length y ≡ 256 → length c ≡ 16384 → length s ≡ 41344 → Room C y c s
+  roomy y c s i j k =
+      record { for-symbols = omega (arith, G .columns-high); for-costs = omega (arith, costs-high); for-store = omega (arith, used-high) }
