@@ -1,3 +1,17 @@
-//! b
+//! The benchmark of issue 5: "time per check by (p, d) and per iteration and coded bits per second by
+//! code, beside (a) the same algorithm in Rust built with -O, (b) the textbook forward and backward
+//! sweeps in Rust, (c) expansion and record sizes against the d·q bytes of plain messages. All in one
+//! run, as ratios".
+
+#![forbid(unsafe_code)]
+#![deny(missing_docs)]
+
+pub mod charts;
+pub mod checks;
+pub mod decoding;
+pub mod inputs;
+pub mod report;
 pub mod same;
 pub mod sweeps;
+pub mod targets;
+pub mod timing;

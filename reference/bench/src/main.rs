@@ -1,56 +1,92 @@
-//! t
-use bench::same;
-use bench::sweeps::Sweeps;
-use reference_decoder::sample::{self, Generator, Style};
-use simulate::field::Field;
-use simulate::layered::CheckRule;
-use std::hint::black_box;
-use std::time::Instant;
-fn main() {
-    let mut g = Generator::new(1);
-    for p in 2..=6u8 {
-        let field = Field::new(p);
-        for d in [3, 8, 16, 32] {
-            for family in [false, true] {
-            let mut checks: Vec<_> = (0..32).map(|_| sample::check(&mut g, p..=p, d..=d, Style::Uniform)).collect();
-            if family { for c in &mut checks {
-                let ch = simulate::channel::Channel::new(2.5, 0.55);
-                let word = (0..d).map(|_| g.below(1<<p) as u8).collect();
-                let r = ch.send(&mut g, p, word);
-                c.costs = simulate::quantiser::Quantiser{costs_per_nat: 8.0}.frame(p, &r.ratios);
-            }}
-            let q = 1 << p;
-            let mut out = vec![0; 1000];
-            let mut want = vec![0; 1000];
-            let mut exp = vec![0; 2048];
-            let mut exp2 = vec![0; 2048];
-            for c in &checks {
-                let n = same::check(p, &c.weights, &c.costs, &mut out).unwrap();
-                reference_decoder::check(p, &c.weights, &c.costs, &mut want).unwrap();
-                assert!(out[..n] == want[..n]);
-                same::expand(p, &c.weights, &out[..n], &mut exp).unwrap();
-                let terms: Vec<u8> = c.weights.iter().flat_map(|&w| { let field = &field; (0..q).map(move |x| field.product(w, x as u8))}).collect();
-                Sweeps::default().send(q, &terms, &c.costs, &mut exp2[..d * q]);
-                assert!(exp[..d * q] == exp2[..d * q]);
-            }
-            let mut sw = Sweeps::default();
-            let mut best = [f64::MAX; 3];
-            for _ in 0..10 {
-                let s = Instant::now();
-                for c in &checks { black_box(same::check(p, black_box(&c.weights), &c.costs, &mut out)).unwrap(); }
-                best[0] = best[0].min(s.elapsed().as_secs_f64() / 32.0 * 1e6);
-                let n = d + 5 * (q - 1);
-                let s = Instant::now();
-                for c in &checks { black_box(same::expand(p, black_box(&c.weights), &want[..n], &mut exp)).unwrap(); }
-                best[1] = best[1].min(s.elapsed().as_secs_f64() / 32.0 * 1e6);
-                let s = Instant::now();
-                for c in &checks {
-                let terms: Vec<u8> = c.weights.iter().flat_map(|&w| { let field = &field; (0..q).map(move |x| field.product(w, x as u8))}).collect();
-                    black_box(sw.send(q, &terms, black_box(&c.costs), &mut exp2[..d * q])); }
-                best[2] = best[2].min(s.elapsed().as_secs_f64() / 32.0 * 1e6);
-            }
-            println!("{p} {d} {:.2} {:.2} {:.2}  {:.1}", best[0], best[1], best[2], best[2] / best[0]);
+//! `bench [--quick] [--out DIR]`: measures, prints the tables and writes them with two charts to
+//! `docs/bench`. With `--quick` there are few repetitions, and nothing is written unless a directory
+//! is given.
+
+use std::path::{Path, PathBuf};
+use std::process::ExitCode;
+use std::{env, fs, io};
+
+use bench::checks::{self, DEGREES, PS};
+use bench::inputs::{self, Costs};
+use bench::report::Report;
+use bench::targets::targets;
+use bench::{charts, decoding};
+
+/// Where the documents of this project stand.
+const DOCUMENTS: &str = concat!(env!("CARGO_MANIFEST_DIR"), "/../../docs/bench");
+
+/// What the arguments ask for.
+struct Options {
+    repetitions: usize,
+    out: Option<PathBuf>,
 }
+
+fn main() -> ExitCode {
+    let Some(options) = options(env::args().skip(1)) else {
+        eprintln!("usage: bench [--quick] [--out DIR]");
+        return ExitCode::from(2);
+    };
+    match run(options.repetitions, options.out.as_deref()) {
+        Ok(()) => ExitCode::SUCCESS,
+        Err(error) => {
+            eprintln!("bench: {error}");
+            ExitCode::FAILURE
         }
     }
+}
+
+/// The options, or none where an argument is not understood.
+fn options(mut arguments: impl Iterator<Item = String>) -> Option<Options> {
+    let mut options = Options {
+        repetitions: 25,
+        out: Some(PathBuf::from(DOCUMENTS)),
+    };
+    while let Some(argument) = arguments.next() {
+        match argument.as_str() {
+            "--quick" => (options.repetitions, options.out) = (3, None),
+            "--out" => options.out = Some(PathBuf::from(arguments.next()?)),
+            _ => return None,
+        }
+    }
+    Some(options)
+}
+
+/// Measures, prints and writes.
+fn run(repetitions: usize, out: Option<&Path>) -> io::Result<()> {
+    let table = |costs| {
+        let sizes = PS.iter().flat_map(|&p| DEGREES.map(|degree| (p, degree)));
+        let rows = sizes.map(|(p, degree)| {
+            eprintln!("check, {costs:?} costs, p = {p}, d = {degree}");
+            checks::measure(p, degree, costs, repetitions)
+        });
+        rows.collect::<Vec<_>>()
+    };
+    let (channel, uniform) = (table(Costs::Channel), table(Costs::Uniform));
+    let jobs = inputs::jobs();
+    let codes: Vec<_> = jobs
+        .iter()
+        .map(|job| {
+            eprintln!("decoding, {}", job.name);
+            decoding::measure(job, repetitions)
+        })
+        .collect();
+    let all: Vec<_> = channel.iter().chain(&uniform).collect();
+    let report = Report {
+        channel: &channel,
+        uniform: &uniform,
+        codes: &codes,
+        targets: &targets(&all, &codes),
+        repetitions,
+    };
+    let text = report.markdown();
+    print!("{text}");
+    if let Some(directory) = out {
+        fs::create_dir_all(directory)?;
+        fs::write(directory.join("README.md"), text)?;
+        let chart = charts::time_per_check(&channel);
+        fs::write(directory.join("time-per-check.svg"), chart.svg())?;
+        let chart = charts::ratio_to_rust(&channel);
+        fs::write(directory.join("ratio-to-rust.svg"), chart.svg())?;
+    }
+    Ok(())
 }

@@ -3,6 +3,7 @@
 //! over the columns before n, and the same over the columns after n, and joins the two sweeps for
 //! column n." Here k = 2, as in document 01; the work is some d q² (k + 1)(k + 2) / 2 joins.
 
+use simulate::field::Field;
 use simulate::layered::{hard_decision, CheckRule};
 
 /// k + 1: the counts of deviations, 0 to 2.
@@ -37,7 +38,7 @@ impl CheckRule for Sweeps {
         start(q, &mut self.after);
         let columns = columns.zip(sent.chunks_exact_mut(q)).enumerate();
         for (n, ((terms, costs), sent)) in columns.rev() {
-            join(q, terms, &self.before[n], &self.after, sent);
+            join(terms, &self.before[n], &self.after, sent);
             if n > 0 {
                 step(q, terms, costs, &self.after, &mut self.next);
                 std::mem::swap(&mut self.after, &mut self.next);
@@ -77,17 +78,86 @@ fn step(q: usize, terms: &[u8], costs: &[u8], known: &Costs, next: &mut Costs) {
 
 /// "joins the two sweeps for column n": the cost sent at x is the least over the sums and counts
 /// before and after n that make h_n times x with at most two deviations.
-fn join(q: usize, terms: &[u8], before: &Costs, after: &Costs, sent: &mut [u8]) {
+fn join(terms: &[u8], before: &Costs, after: &Costs, sent: &mut [u8]) {
     for (sent, &term) in sent.iter_mut().zip(terms) {
         let mut least = NONE;
         for (count, before) in before.iter().enumerate() {
             for after in &after[..COUNTS - count] {
-                for sum in 0..q {
+                for (sum, &before) in before.iter().enumerate() {
                     let other = sum ^ usize::from(term);
-                    least = (before[sum] + after[other]).min(least);
+                    least = (before + after[other]).min(least);
                 }
             }
         }
         *sent = least as u8;
+    }
+}
+
+/// The sweeps as a call on one check that writes the same record as document 01's check. The input
+/// is an accepted one.
+#[derive(Clone, Debug)]
+pub struct Engine {
+    field: Field,
+    sweeps: Sweeps,
+    /// h_n times x, column by column.
+    terms: Vec<u8>,
+    /// The sent costs, column by column.
+    sent: Vec<u8>,
+}
+
+impl Engine {
+    /// The engine for p.
+    pub fn new(p: u8) -> Engine {
+        Engine {
+            field: Field::new(p),
+            sweeps: Sweeps::default(),
+            terms: Vec::new(),
+            sent: Vec::new(),
+        }
+    }
+
+    /// Writes the record of a check, "d shift bytes, s_0 first, then five bytes for each a".
+    pub fn check(&mut self, weights: &[u8], costs: &[u8], record: &mut [u8]) {
+        let (q, field) = (self.field.size(), &self.field);
+        self.terms.clear();
+        for &weight in weights {
+            let symbols = (0..q).map(|x| field.product(weight, x as u8));
+            self.terms.extend(symbols);
+        }
+        self.sent.resize(costs.len(), 0);
+        self.sweeps.send(q, &self.terms, costs, &mut self.sent);
+
+        let (shifts, groups) = record.split_at_mut(weights.len());
+        let columns = self.terms.chunks_exact(q).zip(costs.chunks_exact(q));
+        for (shift, (terms, costs)) in shifts.iter_mut().zip(columns) {
+            *shift = terms[hard_decision(costs)];
+        }
+        let sum = shifts.iter().fold(0, |sum, term| sum ^ term);
+        shifts.iter_mut().for_each(|shift| *shift ^= sum);
+        let (groups, _) = groups.as_chunks_mut();
+        self.pack(q, shifts, groups);
+    }
+
+    /// "The columns are those with S_n(a) greater than E(a), rising; an unused pair is FF 00." With a
+    /// degree above 2, E is the least of the S_n.
+    fn pack(&self, q: usize, shifts: &[u8], groups: &mut [[u8; 5]]) {
+        let columns = || {
+            let columns = self.terms.chunks_exact(q).zip(self.sent.chunks_exact(q));
+            columns.zip(shifts).flat_map(|((terms, sent), &shift)| {
+                let sums = terms.iter().map(move |&term| usize::from(term ^ shift));
+                sums.zip(sent)
+            })
+        };
+        groups.fill([0xFF, 0xFF, 0x00, 0xFF, 0x00]);
+        for (a, &cost) in columns().filter(|&(a, _)| a > 0) {
+            groups[a - 1][0] = cost.min(groups[a - 1][0]);
+        }
+        for (place, (a, &cost)) in columns().enumerate().filter(|&(_, (a, _))| a > 0) {
+            let group = &mut groups[a - 1];
+            if cost > group[0] {
+                let pair = if group[1] == 0xFF { 1 } else { 3 };
+                group[pair..][..2].copy_from_slice(&[(place / q) as u8, cost]);
+            }
+        }
     }
 }

@@ -72,15 +72,13 @@ impl Encoder {
 
 /// The checks as rows of N weights.
 fn dense(code: &Code) -> Vec<Vec<u8>> {
-    let row = |check: &Vec<_>| {
-        let mut row = vec![0; code.columns];
+    let mut rows = vec![vec![0; code.columns]; code.checks.len()];
+    for (row, check) in rows.iter_mut().zip(&code.checks) {
         for edge in check {
-            let edge: &crate::code::Edge = edge;
             row[edge.column] = edge.weight;
         }
-        row
-    };
-    code.checks.iter().map(row).collect()
+    }
+    rows
 }
 
 /// The reduced form: rows of rank many, each with a 1 in its pivot column, where every other row has

@@ -66,11 +66,6 @@ impl<'a, R: CheckRule> Layered<'a, R> {
         &self.costs
     }
 
-    /// The sent costs of every edge, in code order, after a decoding.
-    pub fn sent(&self) -> &[u8] {
-        &self.sent
-    }
-
     /// "An iteration adds 1 to t and takes the checks in code order."
     fn iterate(&mut self) {
         let q = self.code.field.size();

@@ -1,7 +1,5 @@
 //! The proved decoder, called through the static library.
 
-use reference_decoder as petsivola;
-
 use crate::code::Code;
 use crate::decoder::{Decoder, Outcome};
 

@@ -22,7 +22,7 @@ impl Progress {
         let now = Instant::now();
         Progress {
             started: now,
-            due: now,
+            due: now + Duration::from_secs(1),
             stage: String::new(),
             terminal: io::stderr().is_terminal(),
         }

@@ -65,6 +65,9 @@ impl Tally {
         let spread = Z * (rate * (1.0 - rate) / frames + Z * Z / (4.0 * frames * frames)).sqrt();
         let middle = rate + Z * Z / (2.0 * frames);
         let whole = 1.0 + Z * Z / frames;
-        (((middle - spread) / whole).max(0.0), (middle + spread) / whole)
+        (
+            ((middle - spread) / whole).max(0.0),
+            (middle + spread) / whole,
+        )
     }
 }

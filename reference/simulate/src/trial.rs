@@ -91,7 +91,10 @@ impl Scene {
             setups.iter().map(|&setup| self.decoder(setup)).collect();
         let mut tallies = vec![Tally::default(); setups.len()];
         for frame in 0..stop.frames {
-            if tallies.iter().all(|tally| tally.frame_errors() >= stop.errors) {
+            if tallies
+                .iter()
+                .all(|tally| tally.frame_errors() >= stop.errors)
+            {
                 break;
             }
             progress.show(decibels, frame, stop, &tallies);

@@ -1,4 +1,4 @@
-//! The code line, read once into tables. Crate `layered`.
+//! The code line, read once into tables. Crate `layered`, module `code`.
 
 use super::record::record_length;
 use super::Refusal;
@@ -26,8 +26,7 @@ impl Code {
     /// "Code: 5 if under six bytes, 6, 7, 8; in each check 5 for the degree byte, 9, 5 for its edges,
     /// then 10 and 11 edge by edge; last 5 for bytes left over."
     pub fn read(bytes: &[u8]) -> Result<Code, Refusal> {
-        let (&[p, n_high, n_low, m, g, limit], mut rest) =
-            bytes.split_first_chunk().ok_or(5)?;
+        let (&[p, n_high, n_low, m, g, limit], mut rest) = bytes.split_first_chunk().ok_or(5)?;
         if !(2..=6).contains(&p) {
             return Err(6);
         }

@@ -1,9 +1,10 @@
-//! The layered decoder. Crate `layered`: P stands in the lent cost buffer, the records in the lent
-//! store, the decisions in the lent symbol buffer; one check's Q and expansion in local arrays.
+//! The layered decoder. Crate `layered`, modules `decoding`, `frame`, `iterate`, `update`, `column` and
+//! `parity`: P stands in the lent cost buffer, the records in the lent store, the decisions in the lent
+//! symbol buffer; one check's Q and expansion in local arrays.
 
 use super::code::Code;
 use super::expansion::expand;
-use super::field::times;
+use super::field::product;
 use super::record::{check, record_length};
 use super::rows::first_zero;
 use super::Refusal;
@@ -11,7 +12,16 @@ use super::Refusal;
 /// The costs of one check at the most: 32 columns of 64.
 const MOST_COSTS: usize = 32 * 64;
 
+/// Room to work in.
+struct Room {
+    /// Q of the check at hand.
+    arrived: [u8; MOST_COSTS],
+    /// What its record sent, before scaling.
+    sent: [u8; MOST_COSTS],
+}
+
 /// "Decode: code, 12, 13, 2, 3, 4." The answer is 0 (found) or 1 (not found), with t.
+#[inline(never)]
 pub fn decode(
     code: &[u8],
     frame: &[u8],
@@ -41,11 +51,20 @@ pub fn decode(
         *cost = u16::from(first);
     }
     let symbols = &mut symbols[..code.n];
-    Ok(run(&code, symbols, &mut costs[..length], &mut store[..used]))
+    Ok(run(
+        &code,
+        symbols,
+        &mut costs[..length],
+        &mut store[..used],
+    ))
 }
 
 /// "If the decisions satisfy every check: found, t = 0." Then iteration by iteration.
 fn run(code: &Code, symbols: &mut [u8], costs: &mut [u16], store: &mut [u8]) -> (u8, u8) {
+    let mut room = Room {
+        arrived: [0; MOST_COSTS],
+        sent: [0; MOST_COSTS],
+    };
     let mut t = 0;
     loop {
         decide(code.q(), costs, symbols);
@@ -55,7 +74,7 @@ fn run(code: &Code, symbols: &mut [u8], costs: &mut [u16], store: &mut [u8]) -> 
         if t == code.limit {
             return (1, t);
         }
-        iterate(code, t == 0, costs, store);
+        iterate(code, t == 0, costs, store, &mut room);
         t += 1;
     }
 }
@@ -72,17 +91,20 @@ fn decide(q: usize, costs: &[u16], symbols: &mut [u8]) {
 fn satisfied(code: &Code, symbols: &[u8]) -> bool {
     code.checks().all(|(columns, weights)| {
         let edges = columns.iter().zip(weights);
-        let term = |(&column, &weight)| times(code.p, weight, symbols[usize::from(column)]);
+        let term = |(&column, &weight)| {
+            let product = product(code.p, weight, symbols[usize::from(column)]);
+            product.unwrap_or(0)
+        };
         edges.map(term).fold(0, |sum, term| sum ^ term) == 0
     })
 }
 
 /// "An iteration adds 1 to t and takes the checks in code order."
-fn iterate(code: &Code, first: bool, costs: &mut [u16], store: &mut [u8]) {
+fn iterate(code: &Code, first: bool, costs: &mut [u16], store: &mut [u8], room: &mut Room) {
     let mut rest = store;
     for (columns, weights) in code.checks() {
         let (record, after) = rest.split_at_mut(record_length(weights.len(), code.q()));
-        update(code, columns, weights, first, costs, record);
+        update(code, columns, weights, first, costs, record, room);
         rest = after;
     }
 }
@@ -95,24 +117,28 @@ fn update(
     first: bool,
     costs: &mut [u16],
     record: &mut [u8],
+    room: &mut Room,
 ) {
     let q = code.q();
-    let mut brought = [0; MOST_COSTS];
-    let mut sent = [0; MOST_COSTS];
-    let brought = &mut brought[..columns.len() * q];
-    let sent = &mut sent[..columns.len() * q];
-    if !first {
+    let arrived = &mut room.arrived[..columns.len() * q];
+    let sent = &mut room.sent[..columns.len() * q];
+    if first {
+        sent.fill(0);
+    } else {
+        // Like `check` and `expand` below, it is not refused.
         let _ = expand(code.p, weights, record, sent);
     }
-    let parts = sent.chunks_exact(q).zip(brought.chunks_exact_mut(q));
-    for (&column, (sent, brought)) in columns.iter().zip(parts) {
-        bring(code.g, &costs[usize::from(column) * q..][..q], sent, brought);
+    let parts = sent.chunks_exact(q).zip(arrived.chunks_exact_mut(q));
+    for (&column, (sent, arrived)) in columns.iter().zip(parts) {
+        let costs = &costs[usize::from(column) * q..][..q];
+        incoming(code.g, costs, sent, arrived);
     }
-    let _ = check(code.p, weights, brought, record);
+    let _ = check(code.p, weights, arrived, record);
     let _ = expand(code.p, weights, record, sent);
-    let parts = sent.chunks_exact(q).zip(brought.chunks_exact(q));
-    for (&column, (sent, brought)) in columns.iter().zip(parts) {
-        take(code.g, brought, sent, &mut costs[usize::from(column) * q..][..q]);
+    let parts = sent.chunks_exact(q).zip(arrived.chunks_exact(q));
+    for (&column, (sent, arrived)) in columns.iter().zip(parts) {
+        let costs = &mut costs[usize::from(column) * q..][..q];
+        outgoing(code.g, arrived, sent, costs);
     }
 }
 
@@ -122,19 +148,19 @@ fn scaled(g: u16, sent: u8) -> u16 {
 }
 
 /// Q of one column; each difference is raised by 255, so that none is below 0.
-fn bring(g: u16, costs: &[u16], sent: &[u8], brought: &mut [u8]) {
+fn incoming(g: u16, costs: &[u16], sent: &[u8], arrived: &mut [u8]) {
     let raised = |(&cost, &sent): (&u16, &u8)| cost + 255 - scaled(g, sent);
     let differences = costs.iter().zip(sent).map(raised);
     let least = differences.clone().fold(u16::MAX, u16::min);
-    for (brought, difference) in brought.iter_mut().zip(differences) {
-        *brought = (difference - least).min(255) as u8;
+    for (arrived, difference) in arrived.iter_mut().zip(differences) {
+        *arrived = (difference - least).min(255) as u8;
     }
 }
 
 /// The new P of one column.
-fn take(g: u16, brought: &[u8], sent: &[u8], costs: &mut [u16]) {
-    let sum = |(&brought, &sent): (&u8, &u8)| u16::from(brought) + scaled(g, sent);
-    let sums = brought.iter().zip(sent).map(sum);
+fn outgoing(g: u16, arrived: &[u8], sent: &[u8], costs: &mut [u16]) {
+    let sum = |(&arrived, &sent): (&u8, &u8)| u16::from(arrived) + scaled(g, sent);
+    let sums = arrived.iter().zip(sent).map(sum);
     let least = sums.clone().fold(u16::MAX, u16::min);
     for (cost, sum) in costs.iter_mut().zip(sums) {
         *cost = sum - least;

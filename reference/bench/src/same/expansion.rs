@@ -6,6 +6,7 @@ use super::search::GROUP;
 use super::Refusal;
 
 /// "Expand: 6, 9, 11, 16, 2."
+#[inline(never)]
 pub fn expand(p: u8, weights: &[u8], record: &[u8], out: &mut [u8]) -> Result<usize, Refusal> {
     accept_weights(p, weights)?;
     let (d, q) = (weights.len(), 1 << p);
@@ -26,12 +27,13 @@ fn has_accepted_form(record: &[u8], d: usize, q: usize) -> bool {
         return false;
     }
     let (shifts, groups) = record.split_at(d);
+    let (groups, _) = groups.as_chunks();
     shifts.iter().all(|&shift| usize::from(shift) < q)
-        && groups.chunks_exact(GROUP).all(|group| pairs_ok(group, d))
+        && groups.iter().all(|group| pairs_ok(group, d))
 }
 
 /// The two pairs of one a.
-fn pairs_ok(group: &[u8], d: usize) -> bool {
+fn pairs_ok(group: &[u8; GROUP], d: usize) -> bool {
     let next = after_pair(group[1], group[2], group[0], d, 0);
     next.and_then(|low| after_pair(group[3], group[4], group[0], d, low))
         .is_some()
@@ -51,20 +53,21 @@ fn put_expansion(p: u8, q: usize, weights: &[u8], record: &[u8], out: &mut [u8])
     let mut row = [0; MOST];
     let row = &mut row[..q];
     let (shifts, groups) = record.split_at(weights.len());
+    let (groups, _) = groups.as_chunks();
     let columns = weights.iter().zip(shifts).zip(out.chunks_exact_mut(q));
     for (n, ((&weight, &shift), out)) in (0..).zip(columns) {
         field::fill(p, weight, row);
         for (byte, &term) in out.iter_mut().zip(&*row) {
             *byte = match usize::from(term ^ shift) {
                 0 => 0,
-                a => beside(&groups[GROUP * (a - 1)..][..GROUP], n),
+                a => beside(&groups[a - 1], n),
             };
         }
     }
 }
 
 /// "the S beside n if a's pairs list n, else E(a)"
-fn beside(group: &[u8], n: u8) -> u8 {
+fn beside(group: &[u8; GROUP], n: u8) -> u8 {
     if group[1] == n {
         group[2]
     } else if group[3] == n {

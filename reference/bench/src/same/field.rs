@@ -1,6 +1,8 @@
 //! The products of one weight with every symbol. Crate `checknode`, modules `field`, `products` and
 //! `table`.
 
+use super::Refusal;
+
 /// The largest q.
 pub const MOST: usize = 64;
 
@@ -42,8 +44,19 @@ const fn double(p: u8, a: u8) -> u8 {
     }
 }
 
+/// "Product: 6, 11."
+pub fn product(p: u8, a: u8, b: u8) -> Result<u8, Refusal> {
+    if !(2..=6).contains(&p) {
+        return Err(6);
+    }
+    if a >> p != 0 || b >> p != 0 {
+        return Err(11);
+    }
+    Ok(times(p, a, b))
+}
+
 /// "The product follows its own recurrence, halving the second factor each time".
-pub const fn times(p: u8, a: u8, b: u8) -> u8 {
+const fn times(p: u8, a: u8, b: u8) -> u8 {
     if b == 0 {
         return 0;
     }

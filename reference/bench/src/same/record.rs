@@ -2,10 +2,11 @@
 
 use super::field::MOST;
 use super::rows::{first_zero, Rows};
-use super::search::{Keys, GROUP};
+use super::search::GROUP;
 use super::Refusal;
 
 /// "Check: 6, 9, 11, 12, 13, 4."
+#[inline(never)]
 pub fn check(p: u8, weights: &[u8], costs: &[u8], out: &mut [u8]) -> Result<usize, Refusal> {
     accept_weights(p, weights)?;
     let (d, q) = (weights.len(), 1 << p);
@@ -31,7 +32,10 @@ pub fn accept_weights(p: u8, weights: &[u8]) -> Result<(), Refusal> {
     if !(3..=32).contains(&weights.len()) {
         return Err(9);
     }
-    if weights.iter().any(|&weight| weight == 0 || weight >> p != 0) {
+    if weights
+        .iter()
+        .any(|&weight| weight == 0 || weight >> p != 0)
+    {
         return Err(11);
     }
     Ok(())
@@ -55,5 +59,5 @@ fn put_record(p: u8, q: usize, weights: &[u8], costs: &[u8], out: &mut [u8]) {
     let (shifts, groups) = out.split_at_mut(weights.len());
     rows.clear();
     rows.fill(p, weights, costs, &mut row[..q], &mut line[..q], shifts);
-    Keys::new(rows.first, rows.second, rows.third).put_groups(groups);
+    rows.keys().put_groups(groups);
 }

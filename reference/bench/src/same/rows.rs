@@ -2,6 +2,7 @@
 //! `checknode`, module `rows`. An entry is one number, its key: cost times 256 plus column.
 
 use super::field;
+use super::search::Keys;
 
 /// The three rising keys of each row, in three slices of q.
 pub struct Rows<'a> {
@@ -19,6 +20,15 @@ impl Rows<'_> {
         self.first.fill(65_533);
         self.second.fill(65_534);
         self.third.fill(65_535);
+    }
+
+    /// The keys, to search in.
+    pub fn keys(&self) -> Keys<'_> {
+        Keys {
+            first: self.first,
+            second: self.second,
+            third: self.third,
+        }
     }
 
     /// All columns: leaves the shifts in `shifts`.

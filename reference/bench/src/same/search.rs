@@ -4,35 +4,28 @@
 /// The bytes of each a in a record.
 pub const GROUP: usize = 5;
 
-/// The keys of the rows, as the search reads them.
+/// The keys of the rows, three slices of one length.
 #[derive(Clone, Copy)]
 pub struct Keys<'a> {
-    first: &'a [u16],
-    second: &'a [u16],
-    third: &'a [u16],
+    /// The least keys.
+    pub first: &'a [u16],
+    /// The second keys.
+    pub second: &'a [u16],
+    /// The third keys.
+    pub third: &'a [u16],
 }
 
-impl<'a> Keys<'a> {
-    /// Three slices of one length.
-    pub fn new(first: &'a [u16], second: &'a [u16], third: &'a [u16]) -> Keys<'a> {
-        // Equal lengths, told once, save the tests of the second and third index.
-        let q = first.len();
-        Keys {
-            first,
-            second: &second[..q],
-            third: &third[..q],
-        }
-    }
-
+impl Keys<'_> {
     /// The bytes of each a from 1 on.
     pub fn put_groups(self, out: &mut [u8]) {
-        for (a, group) in (1..).zip(out.chunks_exact_mut(GROUP)) {
-            self.put_group(a, group);
+        let (groups, _) = out.as_chunks_mut();
+        for (a, group) in (1..).zip(groups) {
+            *group = self.group(a);
         }
     }
 
     /// The bytes of a: only the columns of a cheapest choice can have S above E.
-    fn put_group(self, a: usize, out: &mut [u8]) {
+    fn group(self, a: usize) -> [u8; GROUP] {
         let choice = self.best(a, 255);
         let extra = cost(choice);
         let (i, j) = ((choice / 256) as u8, choice as u8);
@@ -43,25 +36,36 @@ impl<'a> Keys<'a> {
         } else {
             cost(self.best(a, u16::from(n)))
         };
-        let group: [u8; GROUP] = match (extra < s, extra < t) {
+        match (extra < s, extra < t) {
             (true, true) => [extra, m, s, n, t],
             (true, false) => [extra, m, s, 0xFF, 0x00],
             (false, true) => [extra, n, t, 0xFF, 0x00],
             (false, false) => [extra, 0xFF, 0x00, 0xFF, 0x00],
-        };
-        out.copy_from_slice(&group);
+        }
     }
 
     /// The cheapest choice of one or two columns other than m, for a.
     fn best(self, a: usize, m: u16) -> u32 {
-        (0..self.first.len()).fold(self.single(a, m), |best, b| {
+        let keys = self.of_one_length();
+        let mut best = keys.single(a, m);
+        for b in 0..keys.first.len() {
             let c = a ^ b;
-            if c < b || best / 65_536 <= self.floor(b, c) {
-                best
-            } else {
-                best.min(self.pair(b, c, m))
+            if b <= c && keys.floor(b, c) < best / 65_536 {
+                best = best.min(keys.pair(b, c, m));
             }
-        })
+        }
+        best
+    }
+
+    /// The same keys. Equal lengths, told where the loop begins, save tests of an index inside it.
+    #[inline]
+    fn of_one_length(self) -> Self {
+        let q = self.first.len();
+        Keys {
+            first: self.first,
+            second: &self.second[..q],
+            third: &self.third[..q],
+        }
     }
 
     /// The cheapest choice of one column other than m, of row a.

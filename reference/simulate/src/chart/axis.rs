@@ -87,9 +87,9 @@ impl Axis {
 /// The least and the greatest number.
 fn ends(numbers: impl IntoIterator<Item = f64>) -> (f64, f64) {
     let start = (f64::INFINITY, f64::NEG_INFINITY);
-    numbers
-        .into_iter()
-        .fold(start, |(low, high), number| (low.min(number), high.max(number)))
+    numbers.into_iter().fold(start, |(low, high), number| {
+        (low.min(number), high.max(number))
+    })
 }
 
 /// A number without needless digits.

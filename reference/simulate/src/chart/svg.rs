@@ -35,7 +35,10 @@ pub fn document(chart: &Chart) -> String {
     svg += &text(middle, BOTTOM + 46.0, "middle", 14, &chart.x.label);
     let height = (TOP + BOTTOM) / 2.0;
     let label = text(0.0, 0.0, "middle", 14, &chart.y.label);
-    put(&mut svg, format_args!("<g transform=\"translate(22 {height}) rotate(-90)\">{label}</g>\n"));
+    put(
+        &mut svg,
+        format_args!("<g transform=\"translate(22 {height}) rotate(-90)\">{label}</g>\n"),
+    );
     put(
         &mut svg,
         format_args!(
@@ -47,7 +50,11 @@ pub fn document(chart: &Chart) -> String {
     );
     if let Some((number, name)) = &chart.level {
         let y = upwards(&chart.y, *number);
-        svg += &line([LEFT, y, RIGHT, y], "#333", "stroke-dasharray=\"2 4\" stroke-width=\"1.5\"");
+        svg += &line(
+            [LEFT, y, RIGHT, y],
+            "#333",
+            "stroke-dasharray=\"2 4\" stroke-width=\"1.5\"",
+        );
         svg += &text(RIGHT - 6.0, y - 6.0, "end", 12, name);
     }
     for (index, series) in chart.series.iter().enumerate() {

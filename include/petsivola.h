@@ -1,0 +1,148 @@
+/* petsivola.h - decoder for nonbinary LDPC frames, over buffers that the caller lends.
+ *
+ * C99. Link with libpetsivola.a (x86-64 Linux). No heap, no files, no state between calls, so calls
+ * from several threads need no lock.
+ *
+ * Every input is answered: each function ends, stays inside its buffers, and refuses for the numbered
+ * reasons below and no others. A refused call changes no byte. An accepted call fills the first bytes
+ * of its buffers, as long as said below, and leaves the rest as it was.
+ *
+ * A buffer is a pointer and a length in ELEMENTS, which is bytes except for the 16-bit costs. A null
+ * pointer with length 0 is an empty buffer. A buffer that is written overlaps no other buffer of the
+ * call.
+ *
+ * The result is one number: PETSIVOLA_NUMBER(result) says what happened, PETSIVOLA_VALUE(result) is
+ * the product, the bytes written or the iterations t; it is 0 on a refusal.
+ */
+#ifndef PETSIVOLA_H
+#define PETSIVOLA_H
+
+#include <stddef.h>
+#include <stdint.h>
+
+#ifdef __cplusplus
+extern "C" {
+#endif
+
+#define PETSIVOLA_NUMBER(result) ((uint32_t)(result) >> 16)
+#define PETSIVOLA_VALUE(result) ((uint32_t)(result) & 0xFFFFu)
+
+/* What happened. */
+enum petsivola_number {
+    PETSIVOLA_ACCEPTED = 0,
+    PETSIVOLA_FOUND = 0,            /* decode: the symbols satisfy every check */
+    PETSIVOLA_NOT_FOUND = 1,        /* decode: they do not after I iterations */
+
+    /* refusals caused by the caller */
+    PETSIVOLA_SHORT_BUFFER = 2,     /* decode's symbols, expand's or line's out too short */
+    PETSIVOLA_SHORT_COSTS = 3,      /* cost buffer shorter than N * q */
+    PETSIVOLA_SHORT_STORE = 4,      /* record buffer or store too short */
+    /* by the code line's writer */
+    PETSIVOLA_CODE_BYTES = 5,       /* bytes missing or left over */
+    PETSIVOLA_FIELD_SIZE = 6,       /* p not 2 to 6 */
+    PETSIVOLA_COLUMNS_CHECKS = 7,   /* N not 1 to 256, or M not 1 to 128 */
+    PETSIVOLA_SCALE_LIMIT = 8,      /* g not 1 to 16, or I not 1 to 255 */
+    PETSIVOLA_DEGREE = 9,           /* degree not 3 to 32, or more than 1,024 edges */
+    PETSIVOLA_COLUMN = 10,          /* column not below N, or not above the one before */
+    PETSIVOLA_WEIGHT = 11,          /* weight 0, or a weight or element not below q */
+    /* by the frame's sender */
+    PETSIVOLA_COST_COUNT = 12,      /* number of costs is not N * q (check: d * q) */
+    PETSIVOLA_NO_ZERO_COST = 13,    /* a column without a cost of 0 */
+    /* by the line's writer */
+    PETSIVOLA_DIGITS = 14,          /* odd digit count, or a byte other than 0-9 and A-F */
+    PETSIVOLA_LONG_LINE = 15,       /* more than 32,768 bytes */
+    /* by the record's writer */
+    PETSIVOLA_RECORD = 16           /* wrong length, shift not below q, an unused pair that is not
+                                       FF 00 or stands before a used one, columns not rising or not
+                                       below d, or S not above E */
+};
+
+/* Lengths in elements, as constant expressions for constant arguments. p is 2 to 6 and q is 2^p. */
+#define PETSIVOLA_Q(p) ((size_t)1 << (p))
+#define PETSIVOLA_RECORD_LENGTH(p, d) ((size_t)(d) + 5 * (PETSIVOLA_Q(p) - 1))
+#define PETSIVOLA_EXPANSION_LENGTH(p, d) ((size_t)(d) * PETSIVOLA_Q(p))
+#define PETSIVOLA_FRAME_LENGTH(p, n) ((size_t)(n) * PETSIVOLA_Q(p))
+#define PETSIVOLA_STORE_LENGTH(p, m, edges) \
+    ((size_t)(edges) + (size_t)(m) * 5 * (PETSIVOLA_Q(p) - 1))
+#define PETSIVOLA_CODE_LENGTH(m, edges) (6 + (size_t)(m) + 3 * (size_t)(edges))
+
+/* Lengths that are enough for every accepted input. */
+#define PETSIVOLA_MOST_RECORD PETSIVOLA_RECORD_LENGTH(6, 32)        /*    347 */
+#define PETSIVOLA_MOST_EXPANSION PETSIVOLA_EXPANSION_LENGTH(6, 32)  /*  2,048 */
+#define PETSIVOLA_MOST_SYMBOLS ((size_t)256)
+#define PETSIVOLA_MOST_COSTS PETSIVOLA_FRAME_LENGTH(6, 256)         /* 16,384 */
+#define PETSIVOLA_MOST_STORE PETSIVOLA_STORE_LENGTH(6, 128, 1024)   /* 41,344 */
+#define PETSIVOLA_MOST_CODE PETSIVOLA_CODE_LENGTH(128, 1024)        /*  3,206 */
+#define PETSIVOLA_MOST_LINE ((size_t)32768)                         /* digits */
+
+/* Decodes one frame: the layered trellis extended min-sum decoder.
+ *
+ *   code     the code line: p, N (two bytes, high first), M, g, I, then M checks: the degree, then
+ *            for each edge the column (two bytes, high first, rising in the check) and the weight.
+ *            g/16 scales the sent costs; I limits the iterations.
+ *   frame    N * q costs, column by column, each 0 to 255, a 0 in every column:
+ *            PETSIVOLA_FRAME_LENGTH(p, N), exactly
+ *   symbols  gets the N decisions: at least N
+ *   costs    gets the last N * q costs, 0 to 510: at least PETSIVOLA_FRAME_LENGTH(p, N)
+ *   store    gets the M records, end to end; untouched when t = 0: at least
+ *            PETSIVOLA_STORE_LENGTH(p, M, edges)
+ *
+ * Number: 0 found, 1 not found, or a refusal; tested in this order: 5 to 11 as the code line is read
+ * front to back, 12, 13, 2, 3, 4. Value: the iterations t, 0 to I.
+ */
+uint32_t petsivola_decode(const uint8_t *code, size_t code_len,
+                          const uint8_t *frame, size_t frame_len,
+                          uint8_t *symbols, size_t symbols_len,
+                          uint16_t *costs, size_t costs_len,
+                          uint8_t *store, size_t store_len);
+
+/* Reads a line of hexadecimal digits 0-9 and A-F, two a byte.
+ *
+ *   text     the line without its 0A: at most 32,768 digits
+ *   out      gets the bytes: at least text_len / 2
+ *
+ * Number: 0, or 15, 14, 2 in this order. Value: the bytes written.
+ */
+uint32_t petsivola_line(const uint8_t *text, size_t text_len,
+                        uint8_t *out, size_t out_len);
+
+/* Works out one check's messages and writes their packed record.
+ *
+ *   p        2 to 6
+ *   weights  one for each column, 1 to q - 1; their number is the degree d, 3 to 32
+ *   costs    d * q costs, column by column, each 0 to 255, a 0 in every column
+ *   record   gets d shifts, then for each a from 1 to q - 1: E(a), column, its S, column, its S: at
+ *            least PETSIVOLA_RECORD_LENGTH(p, d)
+ *
+ * Number: 0, or 6, 9, 11, 12, 13, 4 in this order. Value: the bytes written.
+ */
+uint32_t petsivola_check(uint8_t p,
+                         const uint8_t *weights, size_t weights_len,
+                         const uint8_t *costs, size_t costs_len,
+                         uint8_t *record, size_t record_len);
+
+/* Writes the unscaled sent costs that a record stands for.
+ *
+ *   p        2 to 6
+ *   weights  as for petsivola_check
+ *   record   PETSIVOLA_RECORD_LENGTH(p, d), exactly; any record of the right form
+ *   out      gets the d * q sent costs, column by column: at least PETSIVOLA_EXPANSION_LENGTH(p, d)
+ *
+ * Number: 0, or 6, 9, 11, 16, 2 in this order. Value: the bytes written.
+ */
+uint32_t petsivola_expand(uint8_t p,
+                          const uint8_t *weights, size_t weights_len,
+                          const uint8_t *record, size_t record_len,
+                          uint8_t *out, size_t out_len);
+
+/* The product of two elements a and b, 0 to q - 1, of the field with q elements.
+ *
+ * Number: 0, or 6, 11 in this order. Value: the product.
+ */
+uint32_t petsivola_product(uint8_t p, uint8_t a, uint8_t b);
+
+#ifdef __cplusplus
+}
+#endif
+
+#endif

@@ -1,0 +1,116 @@
+//! What is timed: checks of every size, and codes with frames.
+
+use reference_decoder::sample::{self, CheckSample, Generator, Style};
+use simulate::array;
+use simulate::channel::Channel;
+use simulate::code::{Code, Edge};
+use simulate::encoder::Encoder;
+use simulate::field::Field;
+use simulate::quantiser::Quantiser;
+
+/// The costs per nat of every frame; the simulation's sweep shows that finer costs gain nothing.
+const QUANTISER: Quantiser = Quantiser { costs_per_nat: 8.0 };
+
+/// Where the costs of a check come from. The search leaves out pairs of rows that cannot win, so its
+/// time depends on the costs.
+#[derive(Clone, Copy, Debug, PartialEq, Eq)]
+pub enum Costs {
+    /// Quantised symbols of a noisy channel, as the first iteration brings them.
+    Channel,
+    /// Any cost from 0 to 255, with a 0 in each column.
+    Uniform,
+}
+
+/// Checks of one size.
+pub fn checks(p: u8, degree: usize, costs: Costs, count: usize) -> Vec<CheckSample> {
+    let mut generator = Generator::new(u64::from(p) * 64 + degree as u64);
+    let channel = Channel::new(2.5, 0.5);
+    let mut check = |_| {
+        let mut check = sample::check(&mut generator, p..=p, degree..=degree, Style::Uniform);
+        if costs == Costs::Channel {
+            let symbols = (0..degree).map(|_| generator.below(1 << p) as u8);
+            let symbols = symbols.collect();
+            let received = channel.send(&mut generator, p, symbols);
+            check.costs = QUANTISER.frame(p, &received.ratios);
+        }
+        check
+    };
+    (0..count).map(&mut check).collect()
+}
+
+/// A code with frames to decode.
+pub struct Job {
+    /// What the code is.
+    pub name: &'static str,
+    /// The code.
+    pub code: Code,
+    /// The Eb/N0 of the frames in decibels.
+    pub decibels: f64,
+    /// Noisy words, as costs.
+    pub frames: Vec<Vec<u8>>,
+}
+
+/// The codes: at the limits of document 01, the code of the simulation, and a small one.
+pub fn jobs() -> Vec<Job> {
+    vec![
+        job(
+            "N = 256, p = 6, M = 128, degree 8",
+            regular(6, 256, 8, 4),
+            3.5,
+            4,
+        ),
+        job("(248,137) over GF(32), degree 8", array::code(), 2.75, 6),
+        job(
+            "N = 48, p = 2, M = 24, degree 6",
+            regular(2, 48, 6, 3),
+            2.5,
+            48,
+        ),
+    ]
+}
+
+/// A code with so many frames at an Eb/N0.
+fn job(name: &'static str, code: Code, decibels: f64, count: usize) -> Job {
+    let mut generator = Generator::new(1);
+    let encoder = Encoder::new(&code);
+    let channel = Channel::new(decibels, encoder.rate());
+    let frame = |_| {
+        let word = encoder.random_word(&mut generator);
+        let received = channel.send(&mut generator, code.p(), word);
+        QUANTISER.frame(code.p(), &received.ratios)
+    };
+    Job {
+        name,
+        decibels,
+        frames: (0..count).map(frame).collect(),
+        code,
+    }
+}
+
+/// A random code in which every check has `degree` columns and every column is in `layers` checks:
+/// each layer is a shuffled list of all columns, cut into checks.
+fn regular(p: u8, columns: usize, degree: usize, layers: usize) -> Code {
+    let mut generator = Generator::new(2);
+    let field = Field::new(p);
+    let mut checks = Vec::new();
+    for _ in 0..layers {
+        let mut list: Vec<usize> = (0..columns).collect();
+        for place in (1..columns).rev() {
+            list.swap(place, generator.below(place + 1));
+        }
+        for part in list.chunks_exact(degree) {
+            let weights = sample::weights(&mut generator, p, degree);
+            let edges = part.iter().zip(weights);
+            let mut check: Vec<Edge> = edges
+                .map(|(&column, weight)| Edge { column, weight })
+                .collect();
+            check.sort_unstable();
+            checks.push(check);
+        }
+    }
+    Code {
+        field,
+        columns,
+        checks,
+    }
+}

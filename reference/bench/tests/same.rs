@@ -1,0 +1,84 @@
+//! The same algorithm in Rust against the reference decoder: the benchmark's ratios are worth
+//! something only if it is right.
+
+use bench::same;
+use reference_decoder::sample::{self, Generator, Size, Style};
+use reference_decoder::{code_line, decode, expand, Outcome, Refusal};
+
+/// A refusal by its number.
+fn numbered<T>(answer: Result<T, Refusal>) -> Result<T, u8> {
+    answer.map_err(Refusal::number)
+}
+
+#[test]
+fn checks_and_expansions() {
+    let mut generator = Generator::new(1);
+    for round in 0..3_000 {
+        let style = Style::ALL[round % 5];
+        let mut check = sample::check(&mut generator, 2..=6, 3..=32, style);
+        let (p, degree) = (check.p, check.degree());
+        if round % 4 == 0 {
+            check = sample::damaged_check(&mut generator, &check);
+        }
+        let room = degree + 5 * ((1 << p) - 1) + generator.below(3) - 1;
+        let mut expected = generator.bytes(room);
+        let mut found = expected.clone();
+        let (weights, costs) = (&check.weights, &check.costs);
+        assert_eq!(
+            same::check(check.p, weights, costs, &mut found),
+            numbered(reference_decoder::check(
+                check.p,
+                weights,
+                costs,
+                &mut expected
+            ))
+        );
+        assert_eq!(found, expected);
+
+        let mut record = sample::record(&mut generator, p, degree);
+        if round % 4 == 1 {
+            record = sample::damaged_record(&mut generator, degree, &record);
+        }
+        let weights = sample::weights(&mut generator, p, degree);
+        let room = (degree << p) + generator.below(3) - 1;
+        let mut expected = generator.bytes(room);
+        let mut found = expected.clone();
+        assert_eq!(
+            same::expand(p, &weights, &record, &mut found),
+            numbered(expand(p, &weights, &record, &mut expected))
+        );
+        assert_eq!(found, expected);
+    }
+}
+
+#[test]
+fn decodings() {
+    let mut generator = Generator::new(2);
+    for round in 0..600 {
+        let size = [Size::SMALL, Size::MEDIUM][round % 2].clone();
+        let sample = sample::code(&mut generator, &size);
+        let code = code_line(&sample.line).unwrap();
+        let style = generator.one_of(&Style::ALL);
+        let wrong = generator.below(code.n);
+        let mut frame = sample::noisy_frame(&mut generator, &code, &sample.word, wrong, style);
+        let mut line = sample.line;
+        if round % 8 == 0 {
+            line = sample::damaged_code(&mut generator, &line);
+        }
+        if round % 8 == 1 {
+            frame = sample::damaged_frame(&mut generator, code.field().size(), &frame);
+        }
+        // About one buffer in nine is an element short.
+        let mut room = |length: usize| length + generator.below(9) - 1;
+        let lengths = [code.n, code.frame_length(), code.store_length()].map(&mut room);
+        let mut symbols = generator.bytes(lengths[0]);
+        let mut costs = generator.numbers(lengths[1]);
+        let mut store = generator.bytes(lengths[2]);
+        let mut found = (symbols.clone(), costs.clone(), store.clone());
+        let answer = same::decode(&line, &frame, &mut found.0, &mut found.1, &mut found.2);
+        let expected = decode(&line, &frame, &mut symbols, &mut costs, &mut store);
+        let pair = |outcome: Outcome| (outcome.status(), outcome.iterations());
+        assert_eq!(answer, numbered(expected).map(pair));
+        assert_eq!(found, (symbols, costs, store));
+    }
+}

@@ -1,0 +1,91 @@
+//! The entry points of the static library, each with random calls of it.
+
+mod check;
+mod decode;
+mod expand;
+mod line;
+mod product;
+
+use reference_decoder::sample::Generator;
+
+use crate::comparison::Difference;
+use crate::tally::{Class, Tally};
+
+pub use check::CHECK;
+pub use decode::DECODE;
+pub use expand::EXPAND;
+pub use line::LINE;
+pub use product::PRODUCT;
+
+/// Every entry point.
+pub const ENTRY_POINTS: [EntryPoint; 5] = [PRODUCT, CHECK, EXPAND, LINE, DECODE];
+
+/// An entry point and how it is compared.
+pub struct EntryPoint {
+    name: &'static str,
+    /// What its calls must meet.
+    expected: fn() -> Vec<Class>,
+    /// Makes one random call on both sides, compares them and counts the answer.
+    call: fn(&mut Generator, &mut Tally) -> Result<(), Difference>,
+    /// Makes every call of some kind.
+    every: fn(&mut Tally) -> Result<(), Difference>,
+}
+
+impl EntryPoint {
+    /// A tally for this entry point.
+    pub fn tally(&self) -> Tally {
+        Tally::new(self.name, (self.expected)())
+    }
+
+    /// Makes this many random calls; the same seed makes the same ones.
+    ///
+    /// # Errors
+    ///
+    /// The first difference.
+    pub fn compare_random(
+        &self,
+        seed: u64,
+        calls: usize,
+        tally: &mut Tally,
+    ) -> Result<(), Difference> {
+        let mut generator = Generator::new(seed);
+        for _ in 0..calls {
+            (self.call)(&mut generator, tally)?;
+        }
+        Ok(())
+    }
+
+    /// Makes the calls that are few enough to be made all: every product, and every line of two
+    /// bytes.
+    ///
+    /// # Errors
+    ///
+    /// The first difference.
+    pub fn compare_every(&self, tally: &mut Tally) -> Result<(), Difference> {
+        (self.every)(tally)
+    }
+}
+
+/// The classes of an entry point without an outcome: accepted, and refused by these numbers.
+fn accepted_or_refused(numbers: &[u16]) -> Vec<Class> {
+    let refused = numbers.iter().map(|&number| Class::Refused(number));
+    [Class::Accepted].into_iter().chain(refused).collect()
+}
+
+/// The class of an answer without an outcome.
+fn class_of<T>(answer: &Result<T, u16>) -> Class {
+    match answer {
+        Ok(_) => Class::Accepted,
+        Err(number) => Class::Refused(*number),
+    }
+}
+
+/// The library's answer, with document 01's number in the place of its refusal.
+fn of_library<T>(answer: Result<T, petsivola::Refusal>) -> Result<T, u16> {
+    answer.map_err(petsivola::Refusal::number)
+}
+
+/// The reference decoder's answer, with document 01's number in the place of its refusal.
+fn of_reference<T>(answer: Result<T, reference_decoder::Refusal>) -> Result<T, u16> {
+    answer.map_err(|refusal| u16::from(refusal.number()))
+}

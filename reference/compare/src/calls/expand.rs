@@ -1,0 +1,182 @@
+//! `expand`.
+
+use std::collections::BTreeSet;
+
+use reference_decoder::sample::{self, CheckSample, Generator, Style};
+
+use super::{accepted_or_refused, class_of, of_library, of_reference, EntryPoint};
+use crate::comparison::{Comparison, Difference, Inputs};
+use crate::lent::{length_around, length_enough, Lent};
+use crate::tally::{Class, Tally};
+
+/// `expand`.
+pub const EXPAND: EntryPoint = EntryPoint {
+    name: "expand",
+    expected,
+    call,
+    every: |_| Ok(()),
+};
+
+/// "16, length wrong, shift not below q, an unused pair that is not FF 00 or stands before a used
+/// one, columns not rising or not below d, or S not above E": each must be met as the only cause.
+const CAUSES: [&str; 7] = [
+    LENGTH,
+    SHIFT,
+    NOT_FF_00,
+    BEFORE_USED,
+    NOT_RISING,
+    NOT_BELOW_D,
+    NOT_ABOVE_E,
+];
+const LENGTH: &str = "16 by length alone";
+const SHIFT: &str = "16 by a shift alone";
+const NOT_FF_00: &str = "16 by an unused pair not FF 00 alone";
+const BEFORE_USED: &str = "16 by an unused pair before a used one alone";
+const NOT_RISING: &str = "16 by columns not rising alone";
+const NOT_BELOW_D: &str = "16 by a column not below d alone";
+const NOT_ABOVE_E: &str = "16 by an S not above E alone";
+
+fn expected() -> Vec<Class> {
+    let mut classes = accepted_or_refused(&[2, 6, 9, 11, 16]);
+    classes.extend(CAUSES.map(Class::Seen));
+    classes
+}
+
+fn call(generator: &mut Generator, tally: &mut Tally) -> Result<(), Difference> {
+    let (mut input, mut record) = accepted(generator);
+    let (q, degree) = (input.q(), input.degree());
+    if generator.once_in(2) {
+        record = sample::damaged_record(generator, degree, &record);
+    }
+    if generator.once_in(4) {
+        input = sample::damaged_check(generator, &input);
+    }
+    let length = if generator.once_in(2) {
+        length_around(generator, degree * q)
+    } else {
+        length_enough(generator, degree * q)
+    };
+
+    let p = input.p;
+    let weights = Lent::holding(generator, &input.weights);
+    let record = Lent::holding(generator, &record);
+    let (weights_lent, record_lent) = (weights.clone(), record.clone());
+    let mut out = Lent::<u8>::to_fill(generator, length);
+    let mut out_expected = out.clone();
+    let expected = of_reference(reference_decoder::expand(
+        p,
+        weights.slice(),
+        record.slice(),
+        out_expected.slice_mut(),
+    ));
+    let answer = of_library(petsivola::expand(
+        p,
+        weights_lent.slice(),
+        record_lent.slice(),
+        out.slice_mut(),
+    ));
+
+    tally.answer(class_of(&expected));
+    if expected == Err(16) {
+        let causes = causes(input.q(), input.degree(), record.slice());
+        for cause in CAUSES {
+            tally.seen(cause, causes == BTreeSet::from([cause]));
+        }
+    }
+    let mut comparison = Comparison::default();
+    comparison.answers(&answer, &expected);
+    comparison.lent("out", &out, &out_expected);
+    comparison.lent("weights", &weights_lent, &weights);
+    comparison.lent("record", &record_lent, &record);
+    comparison.end("expand", || {
+        Inputs::default()
+            .number("p", usize::from(p))
+            .bytes("weights", weights.slice())
+            .bytes("record", record.slice())
+            .number("out length", length)
+    })
+}
+
+/// Accepted weights (the sample has no costs) and a record of accepted form: written by a check, or
+/// arbitrary.
+fn accepted(generator: &mut Generator) -> (CheckSample, Vec<u8>) {
+    let degree = match generator.below(8) {
+        0 => 3..=3,
+        1 => 32..=32,
+        _ => 3..=32,
+    };
+    if generator.once_in(8) {
+        let style = generator.one_of(&Style::ALL);
+        let mut sample = sample::check(generator, 2..=6, degree, style);
+        let mut record = vec![0; sample.degree() + 5 * (sample.q() - 1)];
+        reference_decoder::check(sample.p, &sample.weights, &sample.costs, &mut record)
+            .expect("an accepted check");
+        sample.costs.clear();
+        (sample, record)
+    } else {
+        let p = generator.byte(2..=6);
+        let degree = generator.between(degree);
+        let sample = CheckSample {
+            p,
+            weights: sample::weights(generator, p, degree),
+            costs: Vec::new(),
+        };
+        (sample, sample::record(generator, p, degree))
+    }
+}
+
+/// Every cause of 16 that a record has.
+fn causes(q: usize, degree: usize, record: &[u8]) -> BTreeSet<&'static str> {
+    if record.len() != degree + 5 * (q - 1) {
+        return BTreeSet::from([LENGTH]);
+    }
+    let mut causes = BTreeSet::new();
+    let mut cause = |name, met| {
+        if met {
+            causes.insert(name);
+        }
+    };
+    let (shifts, entries) = record.split_at(degree);
+    cause(SHIFT, shifts.iter().any(|&shift| usize::from(shift) >= q));
+    for entry in entries.chunks_exact(5) {
+        let unused = [entry[1], entry[3]].map(|column| column == 0xFF);
+        for (pair, unused) in entry[1..].chunks_exact(2).zip(unused) {
+            cause(NOT_FF_00, unused && pair[1] != 0);
+            cause(NOT_BELOW_D, !unused && usize::from(pair[0]) >= degree);
+            cause(NOT_ABOVE_E, !unused && pair[1] <= entry[0]);
+        }
+        cause(BEFORE_USED, unused == [true, false]);
+        cause(NOT_RISING, unused == [false, false] && entry[3] <= entry[1]);
+    }
+    causes
+}
+
+#[cfg(test)]
+mod tests {
+    use super::*;
+
+    /// A record of accepted form for q = 4 and degree 3, one change in it, and the causes then.
+    fn causes_with(place: usize, value: u8) -> Vec<&'static str> {
+        let mut record = sample::bytes("000102 05 0006 0109 05 01FF FF00 05 FF00 FF00");
+        assert_eq!(causes(4, 3, &record), BTreeSet::new());
+        record[place] = value;
+        causes(4, 3, &record).into_iter().collect()
+    }
+
+    #[test]
+    fn each_cause_alone() {
+        assert_eq!(causes(4, 3, &[0; 17]), BTreeSet::from([LENGTH]));
+        assert_eq!(causes_with(0, 4), [SHIFT]);
+        assert_eq!(causes_with(12, 1), [NOT_FF_00]);
+        assert_eq!(causes_with(6, 0), [NOT_RISING]);
+        assert_eq!(causes_with(6, 3), [NOT_BELOW_D]);
+        assert_eq!(causes_with(5, 5), [NOT_ABOVE_E]);
+        let mut record = sample::bytes("000102 05 FF00 0109 05 FF00 FF00 05 FF00 FF00");
+        assert_eq!(causes(4, 3, &record), BTreeSet::from([BEFORE_USED]));
+        record[5] = 1;
+        assert_eq!(
+            causes(4, 3, &record),
+            BTreeSet::from([BEFORE_USED, NOT_FF_00])
+        );
+    }
+}

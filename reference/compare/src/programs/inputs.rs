@@ -1,0 +1,141 @@
+//! Inputs of the program.
+
+use std::io::{self, Cursor, Read};
+
+use reference_decoder::line::LINE_LIMIT;
+use reference_decoder::program::INPUT_LIMIT;
+use reference_decoder::sample::{self, Generator, Size};
+
+/// Document 01's example, its code line and its frame.
+const CODE: &[u8] = b"02000301100103000001000101000201";
+const FRAME: &[u8] = b"05000907000408030006020A";
+
+/// A random input with at most this many frames: mostly accepted lines, some damaged ones.
+pub fn random(generator: &mut Generator, size: &Size, frames: usize) -> Vec<u8> {
+    sample::program_input(generator, size, frames)
+}
+
+/// Document 01's example, and inputs each made for one rule of its section "Program".
+pub fn chosen() -> Vec<Vec<u8>> {
+    let mut inputs = vec![lines(&[CODE, FRAME])];
+    inputs.extend(ends());
+    inputs.extend(other_bytes());
+    inputs.extend(long_lines());
+    // More than one block of input and of output.
+    let mut many = vec![CODE];
+    many.extend(vec![FRAME; 20_000]);
+    inputs.push(lines(&many));
+    inputs
+}
+
+/// "Lines end in byte 0A; a last line without it counts if not empty." "Empty input prints the line
+/// `0500`."
+fn ends() -> Vec<Vec<u8>> {
+    let example = lines(&[CODE, FRAME]);
+    let mut inputs: Vec<Vec<u8>> = (0..=example.len())
+        .map(|length| example[..length].to_vec())
+        .collect();
+    inputs.extend([
+        lines(&[b""]),
+        lines(&[b"", CODE, FRAME]),
+        lines(&[CODE, b"", FRAME, b"", b""]),
+        [lines(&[CODE, FRAME]), FRAME.to_vec()].concat(),
+    ]);
+    inputs
+}
+
+/// "14, odd digit count or another byte": each byte at the start, in the middle and at the end of a
+/// frame's line, and of the code line.
+fn other_bytes() -> Vec<Vec<u8>> {
+    let mut inputs = Vec::new();
+    for byte in 0..=255 {
+        let with_byte = |text: &[u8], place: usize| {
+            let mut text = text.to_vec();
+            text[place] = byte;
+            text
+        };
+        let places = [0, FRAME.len() / 2, FRAME.len() - 1];
+        let [first, middle, last] = places.map(|place| with_byte(FRAME, place));
+        let longer = [FRAME, &[byte]].concat();
+        inputs.push(lines(&[CODE, &first, &middle, &last, &longer, FRAME]));
+        inputs.push(lines(&[&with_byte(CODE, 1), FRAME]));
+    }
+    inputs
+}
+
+/// "15, more than 32,768 bytes before the 0A or the end of input (the rest of the line is skipped)":
+/// lines of lengths around the limit and around the sizes of blocks, of digits and of other bytes,
+/// as frames, with an accepted frame after them and without, and as the code line.
+fn long_lines() -> Vec<Vec<u8>> {
+    let limit = LINE_LIMIT;
+    let mut inputs = Vec::new();
+    let powers = (12..=18).map(|power| 1_usize << power);
+    for length in powers.flat_map(|power| power - 2..=power + 2) {
+        for byte in [b'0', b'\r'] {
+            let long = vec![byte; length];
+            inputs.push(lines(&[CODE, &long, FRAME, &long]));
+            inputs.push([lines(&[CODE, FRAME]), long].concat());
+        }
+    }
+    for length in [limit - 1, limit, limit + 1, 3 * limit, 2_000_000] {
+        inputs.push(lines(&[&vec![b'0'; length], FRAME]));
+        inputs.push(vec![b'0'; length]);
+    }
+    inputs
+}
+
+/// Lines, each with its 0A.
+fn lines(lines: &[&[u8]]) -> Vec<u8> {
+    let mut input = Vec::new();
+    for line in lines {
+        input.extend(*line);
+        input.push(b'\n');
+    }
+    input
+}
+
+/// The input in pieces: all at once, or as short random ones, which end within lines.
+pub fn in_pieces<'a>(input: &'a [u8], generator: &mut Generator) -> impl Read + Send + 'a {
+    let most = match generator.below(4) {
+        0 if input.len() < 10_000 => generator.between(1..=50),
+        1 => generator.between(1_000..=5_000),
+        _ => input.len().max(1),
+    };
+    InPieces {
+        rest: input,
+        most,
+        generator: generator.clone(),
+    }
+}
+
+struct InPieces<'a> {
+    rest: &'a [u8],
+    most: usize,
+    generator: Generator,
+}
+
+impl Read for InPieces<'_> {
+    fn read(&mut self, buffer: &mut [u8]) -> io::Result<usize> {
+        let count = self.generator.between(1..=self.most);
+        let count = count.min(self.rest.len()).min(buffer.len());
+        let (piece, rest) = self.rest.split_at(count);
+        buffer[..count].copy_from_slice(piece);
+        self.rest = rest;
+        Ok(count)
+    }
+}
+
+/// An input that is longer than the program reads: the example, one line with almost all the bytes
+/// there may be, a frame, a frame whose last digit is past the limit, and more frames.
+pub fn past_the_limit() -> impl Read + Send {
+    let start = lines(&[CODE, FRAME]);
+    let long_end = lines(&[b"", FRAME]);
+    let cut = lines(&[FRAME, FRAME, FRAME]);
+    let before_limit = start.len() + long_end.len() + FRAME.len() - 1;
+    let before_limit = u64::try_from(before_limit).expect("a short input");
+    let long = io::repeat(b'0').take(INPUT_LIMIT - before_limit);
+    Cursor::new(start)
+        .chain(long)
+        .chain(Cursor::new(long_end))
+        .chain(Cursor::new(cut))
+}

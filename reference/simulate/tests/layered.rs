@@ -1,0 +1,65 @@
+//! The layered schedule with document 01's rule decodes as the reference decoder does, and so does the
+//! library.
+
+mod common;
+
+use reference_decoder::check::Messages;
+use reference_decoder::field::Field;
+use reference_decoder::sample::{self, Generator, Size, Style};
+use reference_decoder::{decode, Outcome as Decoded};
+use simulate::decoder::{Decoder, Outcome};
+use simulate::layered::{CheckRule, Layered};
+use simulate::library::Library;
+
+/// Document 01's rule, by the reference decoder. With q terms a column, the term of symbol 1 is the
+/// weight.
+struct Document01;
+
+impl CheckRule for Document01 {
+    fn send(&mut self, q: usize, terms: &[u8], brought: &[u8], sent: &mut [u8]) {
+        let field = Field::new(q.trailing_zeros() as u8).unwrap();
+        let weights: Vec<u8> = terms.chunks(q).map(|terms| terms[1]).collect();
+        let messages = Messages::new(field, &weights, brought);
+        sent.copy_from_slice(&messages.sent.concat());
+    }
+}
+
+fn outcome(decoded: Decoded) -> Outcome {
+    Outcome {
+        found: decoded.status() == 0,
+        iterations: decoded.iterations(),
+    }
+}
+
+#[test]
+fn document_01s_rule_decodes_as_the_reference() {
+    let mut generator = Generator::new(1);
+    let mut found = [0, 0];
+    for round in 0..400 {
+        let size = [Size::SMALL, Size::MEDIUM][round % 2].clone();
+        let (sample, read, code) = common::random_code(&mut generator, &size);
+        let style = generator.one_of(&Style::ALL);
+        let wrong = generator.below(code.columns);
+        let frame = sample::noisy_frame(&mut generator, &read, &sample.word, wrong, style);
+        let mut symbols = vec![0; code.columns];
+        let mut costs = vec![0; code.frame_length()];
+        let mut store = vec![0; code.store_length()];
+        let expected = decode(&sample.line, &frame, &mut symbols, &mut costs, &mut store);
+        let expected = outcome(expected.unwrap());
+
+        let mut layered = Layered::new(&code, read.g, read.limit, Document01);
+        // A decoder keeps nothing from one frame to the next.
+        layered.decode(&sample::frame(&mut generator, &read, style));
+        assert_eq!(layered.decode(&frame), expected);
+        assert_eq!(
+            (layered.symbols(), layered.costs()),
+            (&symbols[..], &costs[..])
+        );
+
+        let mut library = Library::new(&code, read.g, read.limit);
+        assert_eq!(library.decode(&frame), expected);
+        assert_eq!(library.symbols(), symbols);
+        found[usize::from(expected.found)] += 1;
+    }
+    assert!(found.iter().all(|&count| count > 50), "{found:?}");
+}

@@ -1,0 +1,80 @@
+//! Safe calls of the proved decoder for nonbinary LDPC frames, the static library `libpetsivola.a`.
+//!
+//! Every call lends slices and answers at once; nothing is allocated and nothing is kept between
+//! calls. A call is refused for the numbered reasons of document 01 (`01-scope.md`) alone, in its
+//! order, and a refused call changes no element: see [`Refusal`]. Elements past those that a call
+//! fills keep their old content. No call panics, whatever its arguments.
+//!
+//! | call | fills | refusals, in order |
+//! |---|---|---|
+//! | [`product`] | nothing | 6, 11 |
+//! | [`check`] | the record of one check | 6, 9, 11, 12, 13, 4 |
+//! | [`expand`] | the sent costs that a record stands for | 6, 9, 11, 16, 2 |
+//! | [`line`] | the bytes of a line of hexadecimal digits | 15, 14, 2 |
+//! | [`decode`] | symbols, costs and records of one frame | 5 to 11, 12, 13, 2, 3, 4 |
+//!
+//! Document 01's example, a code of three columns and one check over the field of four elements:
+//!
+//! ```
+//! use petsivola::{decode, lengths, Outcome};
+//!
+//! let code = [2, 0, 3, 1, 16, 1, 3, 0, 0, 1, 0, 1, 1, 0, 2, 1];
+//! let frame = [5, 0, 9, 7, 0, 4, 8, 3, 0, 6, 2, 10];
+//! let mut symbols = [0; 3];
+//! let mut costs = [0; 12];
+//! let mut store = [0; lengths::MOST_STORE];
+//! let outcome = decode(&code, &frame, &mut symbols, &mut costs, &mut store);
+//! assert_eq!(outcome, Ok(Outcome::Found(1)));
+//! assert_eq!(symbols, [1, 1, 0]);
+//! ```
+
+#![no_std]
+#![deny(unsafe_code)]
+#![deny(missing_docs)]
+
+mod answer;
+pub mod lengths;
+mod library;
+mod refusal;
+
+pub use answer::Outcome;
+pub use refusal::Refusal;
+
+/// The product of two elements of the field with 2^p elements. Order: "Product: 6, 11."
+pub fn product(p: u8, a: u8, b: u8) -> Result<u8, Refusal> {
+    answer::element(library::product(p, a, b))
+}
+
+/// Works out one check's messages and writes their record; answers how many bytes it wrote,
+/// [`lengths::record`]. The degree is the number of weights, and the costs stand column by column,
+/// q each. Order: "Check: 6, 9, 11, 12, 13, 4."
+pub fn check(p: u8, weights: &[u8], costs: &[u8], record: &mut [u8]) -> Result<usize, Refusal> {
+    answer::written(library::check(p, weights, costs, record))
+}
+
+/// Writes the unscaled sent costs that a record stands for, column by column, q each; answers how
+/// many bytes it wrote, [`lengths::expansion`]. Order: "Expand: 6, 9, 11, 16, 2."
+pub fn expand(p: u8, weights: &[u8], record: &[u8], out: &mut [u8]) -> Result<usize, Refusal> {
+    answer::written(library::expand(p, weights, record, out))
+}
+
+/// Reads the text of one line, without its 0A, into bytes, two digits a byte; answers how many
+/// bytes it wrote. Order: "Line: 15, 14, 2."
+pub fn line(text: &[u8], out: &mut [u8]) -> Result<usize, Refusal> {
+    answer::written(library::line(text, out))
+}
+
+/// Decodes one frame under a code line. Order: "Decode: code, 12, 13, 2, 3, 4."
+///
+/// "The symbol buffer then holds the N decisions, the cost buffer (16-bit numbers) holds P, N times
+/// q of them, and the record store holds the records end to end in code order. With t = 0 the store
+/// is untouched." The buffers' lengths are N, [`lengths::frame`] and [`lengths::store`], or more.
+pub fn decode(
+    code: &[u8],
+    frame: &[u8],
+    symbols: &mut [u8],
+    costs: &mut [u16],
+    store: &mut [u8],
+) -> Result<Outcome, Refusal> {
+    answer::outcome(library::decode(code, frame, symbols, costs, store))
+}

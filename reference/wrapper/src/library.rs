@@ -1,0 +1,119 @@
+//! The functions of `libpetsivola.a`, as `include/petsivola.h` declares them, and this package's only
+//! unsafe code. Each takes a slice as a pointer and a length.
+//!
+//! What holds for every call below, and makes it safe for every argument:
+//!
+//! - A pointer and the length after it come from one slice, which stays borrowed until the call
+//!   returns. A slice that the library may write is borrowed for this call alone.
+//! - The library's functions have no requirement beyond that. They are proved to end and to stay
+//!   inside the lent slices on every input, and they keep no pointer, call nothing of Rust's and do
+//!   not unwind.
+
+#![allow(unsafe_code)]
+
+extern "C" {
+    fn petsivola_product(p: u8, a: u8, b: u8) -> u32;
+
+    fn petsivola_check(
+        p: u8,
+        weights: *const u8,
+        weights_len: usize,
+        costs: *const u8,
+        costs_len: usize,
+        record: *mut u8,
+        record_len: usize,
+    ) -> u32;
+
+    fn petsivola_expand(
+        p: u8,
+        weights: *const u8,
+        weights_len: usize,
+        record: *const u8,
+        record_len: usize,
+        out: *mut u8,
+        out_len: usize,
+    ) -> u32;
+
+    fn petsivola_line(text: *const u8, text_len: usize, out: *mut u8, out_len: usize) -> u32;
+
+    fn petsivola_decode(
+        code: *const u8,
+        code_len: usize,
+        frame: *const u8,
+        frame_len: usize,
+        symbols: *mut u8,
+        symbols_len: usize,
+        costs: *mut u16,
+        costs_len: usize,
+        store: *mut u8,
+        store_len: usize,
+    ) -> u32;
+}
+
+pub(crate) fn product(p: u8, a: u8, b: u8) -> u32 {
+    // SAFETY: the function takes three numbers, any of which it answers, and no memory.
+    unsafe { petsivola_product(p, a, b) }
+}
+
+pub(crate) fn check(p: u8, weights: &[u8], costs: &[u8], record: &mut [u8]) -> u32 {
+    // SAFETY: each pointer and length come from one borrowed slice; `record`, the only one written,
+    // overlaps no other.
+    unsafe {
+        petsivola_check(
+            p,
+            weights.as_ptr(),
+            weights.len(),
+            costs.as_ptr(),
+            costs.len(),
+            record.as_mut_ptr(),
+            record.len(),
+        )
+    }
+}
+
+pub(crate) fn expand(p: u8, weights: &[u8], record: &[u8], out: &mut [u8]) -> u32 {
+    // SAFETY: each pointer and length come from one borrowed slice; `out`, the only one written,
+    // overlaps no other.
+    unsafe {
+        petsivola_expand(
+            p,
+            weights.as_ptr(),
+            weights.len(),
+            record.as_ptr(),
+            record.len(),
+            out.as_mut_ptr(),
+            out.len(),
+        )
+    }
+}
+
+pub(crate) fn line(text: &[u8], out: &mut [u8]) -> u32 {
+    // SAFETY: each pointer and length come from one borrowed slice; `out`, the only one written,
+    // does not overlap `text`.
+    unsafe { petsivola_line(text.as_ptr(), text.len(), out.as_mut_ptr(), out.len()) }
+}
+
+pub(crate) fn decode(
+    code: &[u8],
+    frame: &[u8],
+    symbols: &mut [u8],
+    costs: &mut [u16],
+    store: &mut [u8],
+) -> u32 {
+    // SAFETY: each pointer and length come from one borrowed slice; `symbols`, `costs` and `store`,
+    // which are written, overlap no other, and `costs` is aligned as a slice of 16-bit numbers is.
+    unsafe {
+        petsivola_decode(
+            code.as_ptr(),
+            code.len(),
+            frame.as_ptr(),
+            frame.len(),
+            symbols.as_mut_ptr(),
+            symbols.len(),
+            costs.as_mut_ptr(),
+            costs.len(),
+            store.as_mut_ptr(),
+            store.len(),
+        )
+    }
+}

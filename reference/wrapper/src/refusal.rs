@@ -1,0 +1,165 @@
+//! The refusals. Document 01, "Who causes which refusal": "A refusal returns its number with t = 0;
+//! no lent buffer changes."
+
+use core::error::Error;
+use core::fmt;
+
+/// Why a call refused its input; [`number`](Refusal::number) is document 01's number.
+#[derive(Clone, Copy, Debug, PartialEq, Eq, PartialOrd, Ord, Hash)]
+#[non_exhaustive]
+pub enum Refusal {
+    /// "2, symbol or expansion buffer, or the buffer for a line's bytes, too short"
+    ShortBuffer,
+    /// "3, cost buffer shorter than N times q"
+    ShortCosts,
+    /// "4, record buffer or store too short"
+    ShortStore,
+    /// "5, bytes missing or left over"
+    CodeBytes,
+    /// "6, p"
+    FieldSize,
+    /// "7, N or M out of range"
+    ColumnsOrChecks,
+    /// "8, g or I out of range"
+    ScaleOrLimit,
+    /// "9, degree out of range, or the edge total passes 1,024"
+    Degree,
+    /// "10, column not below N or not rising"
+    Column,
+    /// "11, weight 0, or a weight or element not below q (0 is allowed in the product)"
+    Weight,
+    /// "12, cost count wrong"
+    CostCount,
+    /// "13, a column without a cost of 0"
+    NoZeroCost,
+    /// "14, odd digit count or another byte"
+    Digits,
+    /// "15, more than 32,768 bytes before the 0A or the end of input"
+    LongLine,
+    /// "16, length wrong, shift not below q, an unused pair that is not FF 00 or stands before a
+    /// used one, columns not rising or not below d, or S not above E"
+    Record,
+    /// A number that document 01 does not have. The proved library never answers one; it would mean
+    /// that the program was linked with another archive than the one this package was written for.
+    Unlisted(u16),
+}
+
+impl Refusal {
+    /// Document 01's refusals, in the order of their numbers.
+    pub const ALL: [Refusal; 15] = [
+        Refusal::ShortBuffer,
+        Refusal::ShortCosts,
+        Refusal::ShortStore,
+        Refusal::CodeBytes,
+        Refusal::FieldSize,
+        Refusal::ColumnsOrChecks,
+        Refusal::ScaleOrLimit,
+        Refusal::Degree,
+        Refusal::Column,
+        Refusal::Weight,
+        Refusal::CostCount,
+        Refusal::NoZeroCost,
+        Refusal::Digits,
+        Refusal::LongLine,
+        Refusal::Record,
+    ];
+
+    /// Document 01's number.
+    pub const fn number(self) -> u16 {
+        match self {
+            Refusal::ShortBuffer => 2,
+            Refusal::ShortCosts => 3,
+            Refusal::ShortStore => 4,
+            Refusal::CodeBytes => 5,
+            Refusal::FieldSize => 6,
+            Refusal::ColumnsOrChecks => 7,
+            Refusal::ScaleOrLimit => 8,
+            Refusal::Degree => 9,
+            Refusal::Column => 10,
+            Refusal::Weight => 11,
+            Refusal::CostCount => 12,
+            Refusal::NoZeroCost => 13,
+            Refusal::Digits => 14,
+            Refusal::LongLine => 15,
+            Refusal::Record => 16,
+            Refusal::Unlisted(number) => number,
+        }
+    }
+
+    /// What was refused, in words.
+    const fn words(self) -> &'static str {
+        match self {
+            Refusal::ShortBuffer => "the buffer for symbols or bytes is too short",
+            Refusal::ShortCosts => "the cost buffer is too short",
+            Refusal::ShortStore => "the record buffer or store is too short",
+            Refusal::CodeBytes => "bytes of the code line are missing or left over",
+            Refusal::FieldSize => "p is not 2 to 6",
+            Refusal::ColumnsOrChecks => "N is not 1 to 256, or M is not 1 to 128",
+            Refusal::ScaleOrLimit => "g is not 1 to 16, or I is 0",
+            Refusal::Degree => "a degree is not 3 to 32, or there are more than 1,024 edges",
+            Refusal::Column => "a column is not below N, or not greater than the one before",
+            Refusal::Weight => "a weight is 0, or a weight or element is not below q",
+            Refusal::CostCount => "the number of costs is wrong",
+            Refusal::NoZeroCost => "a column has no cost of 0",
+            Refusal::Digits => "the line has an odd number of digits, or another byte",
+            Refusal::LongLine => "the line has more than 32,768 bytes",
+            Refusal::Record => "the record's form is wrong",
+            Refusal::Unlisted(_) => "document 01 does not have this number",
+        }
+    }
+}
+
+impl From<u16> for Refusal {
+    /// The refusal with this number.
+    fn from(number: u16) -> Refusal {
+        let listed = Refusal::ALL.into_iter();
+        let mut with_number = listed.filter(|refusal| refusal.number() == number);
+        with_number.next().unwrap_or(Refusal::Unlisted(number))
+    }
+}
+
+impl From<Refusal> for u16 {
+    fn from(refusal: Refusal) -> u16 {
+        refusal.number()
+    }
+}
+
+impl fmt::Display for Refusal {
+    fn fmt(&self, formatter: &mut fmt::Formatter<'_>) -> fmt::Result {
+        write!(formatter, "refused by {}: {}", self.number(), self.words())
+    }
+}
+
+impl Error for Refusal {}
+
+#[cfg(test)]
+mod tests {
+    extern crate std;
+
+    use std::string::ToString;
+
+    use super::*;
+
+    #[test]
+    fn the_numbers_are_2_to_16() {
+        assert!(Refusal::ALL.into_iter().map(u16::from).eq(2..=16));
+    }
+
+    #[test]
+    fn every_number_has_one_refusal() {
+        for number in 0..=u16::MAX {
+            let refusal = Refusal::from(number);
+            assert_eq!(refusal.number(), number);
+            let listed = Refusal::ALL.contains(&refusal);
+            assert_eq!(listed, (2..=16).contains(&number));
+        }
+    }
+
+    #[test]
+    fn the_text_has_the_number_and_the_cause() {
+        assert_eq!(
+            Refusal::FieldSize.to_string(),
+            "refused by 6: p is not 2 to 6"
+        );
+    }
+}

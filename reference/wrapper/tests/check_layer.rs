@@ -1,0 +1,60 @@
+//! `product`, `check` and `expand` on document 01's own values and on inputs that no caller means. The
+//! comparison with the reference decoder is in the package `compare`.
+
+use petsivola::{check, expand, lengths, product, Refusal};
+
+/// "Columns 0 5 7 9 / 0 4 8 3 / 0 6 2 10: record 000000 040105FF00 020207FF00 030107FF00."
+const COSTS: [u8; 12] = [0, 5, 7, 9, 0, 4, 8, 3, 0, 6, 2, 10];
+const RECORD: [u8; 18] = [0, 0, 0, 4, 1, 5, 255, 0, 2, 2, 7, 255, 0, 3, 1, 7, 255, 0];
+
+#[test]
+fn product_of_the_bench_table() {
+    assert_eq!(product(3, 3, 3), Ok(5));
+    assert_eq!(product(3, 4, 4), Ok(6));
+    assert_eq!(product(4, 2, 9), Ok(1));
+    assert_eq!(product(6, 2, 32), Ok(3));
+    assert_eq!(product(2, 0, 3), Ok(0));
+    assert_eq!(product(2, 4, 0), Err(Refusal::Weight));
+    assert_eq!(product(7, 0, 0), Err(Refusal::FieldSize));
+}
+
+#[test]
+fn check_writes_the_record_and_nothing_else() {
+    let mut record = [0xA5; 20];
+    assert_eq!(check(2, &[1, 1, 1], &COSTS, &mut record), Ok(18));
+    assert_eq!(record[..18], RECORD);
+    assert_eq!(record[18..], [0xA5; 2]);
+    assert_eq!(lengths::record(2, 3), Some(18));
+}
+
+#[test]
+fn a_refused_check_writes_nothing() {
+    let mut record = [0xA5; 17];
+    let answer = check(2, &[1, 1, 1], &COSTS, &mut record);
+    assert_eq!(answer, Err(Refusal::ShortStore));
+    assert_eq!(record, [0xA5; 17]);
+}
+
+#[test]
+fn expand_writes_the_sent_costs_and_nothing_else() {
+    let mut sent = [0xA5; 13];
+    assert_eq!(expand(2, &[1, 1, 1], &RECORD, &mut sent), Ok(12));
+    assert_eq!(sent, [0, 4, 2, 3, 0, 5, 2, 7, 0, 4, 7, 3, 0xA5]);
+    assert_eq!(lengths::expansion(2, 3), Some(12));
+    let answer = expand(2, &[1, 1, 1], &RECORD[..17], &mut sent);
+    assert_eq!(answer, Err(Refusal::Record));
+    let answer = expand(2, &[1, 1, 1], &RECORD, &mut sent[..11]);
+    assert_eq!(answer, Err(Refusal::ShortBuffer));
+}
+
+#[test]
+fn empty_slices_are_answered() {
+    for p in 0..=u8::MAX {
+        let refusal = match p {
+            2..=6 => Refusal::Degree,
+            _ => Refusal::FieldSize,
+        };
+        assert_eq!(check(p, &[], &[], &mut []), Err(refusal));
+        assert_eq!(expand(p, &[], &[], &mut []), Err(refusal));
+    }
+}

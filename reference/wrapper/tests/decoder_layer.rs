@@ -1,0 +1,58 @@
+//! `line` and `decode` on document 01's own values and on inputs that no caller means. The comparison
+//! with the reference decoder is in the package `compare`.
+
+use petsivola::{decode, lengths, line, Outcome, Refusal};
+
+const CODE: [u8; 16] = [2, 0, 3, 1, 16, 1, 3, 0, 0, 1, 0, 1, 1, 0, 2, 1];
+const FRAME: [u8; 12] = [5, 0, 9, 7, 0, 4, 8, 3, 0, 6, 2, 10];
+
+#[test]
+fn line_reads_two_digits_a_byte() {
+    let mut bytes = [0xA5; 3];
+    assert_eq!(line(b"0AFF", &mut bytes), Ok(2));
+    assert_eq!(bytes, [0x0A, 0xFF, 0xA5]);
+    assert_eq!(line(b"0aFF", &mut bytes), Err(Refusal::Digits));
+    assert_eq!(line(b"0AF", &mut bytes), Err(Refusal::Digits));
+    assert_eq!(line(b"0AFF", &mut bytes[..1]), Err(Refusal::ShortBuffer));
+    let long = [b'0'; lengths::MOST_LINE + 1];
+    assert_eq!(line(&long, &mut bytes), Err(Refusal::LongLine));
+    assert_eq!(bytes, [0x0A, 0xFF, 0xA5]);
+}
+
+#[test]
+fn decode_decodes_the_example() {
+    let mut symbols = [0xA5; 4];
+    let mut costs = [0xA5A5; 13];
+    let mut store = [0xA5; 19];
+    let outcome = decode(&CODE, &FRAME, &mut symbols, &mut costs, &mut store);
+    assert_eq!(outcome, Ok(Outcome::Found(1)));
+    assert_eq!(symbols, [1, 1, 0, 0xA5]);
+    assert_eq!(costs[12], 0xA5A5);
+    // "Column 0 as 5 0 9 7 instead: shifts 000101, the rest equal" to 040105FF00 020207FF00
+    // 030107FF00.
+    let record = [0, 1, 1, 4, 1, 5, 255, 0, 2, 2, 7, 255, 0, 3, 1, 7, 255, 0];
+    assert_eq!(store[..18], record);
+    assert_eq!(store[18], 0xA5);
+    assert_eq!(lengths::frame(2, 3), Some(12));
+    assert_eq!(lengths::store(2, 1, 3), Some(18));
+}
+
+#[test]
+fn a_refused_decoding_writes_nothing() {
+    let mut symbols = [0xA5; 3];
+    let mut costs = [0xA5A5; 12];
+    let mut store = [0xA5; 17];
+    let answer = decode(&CODE, &FRAME, &mut symbols, &mut costs, &mut store);
+    assert_eq!(answer, Err(Refusal::ShortStore));
+    assert_eq!(
+        (symbols, costs, store),
+        ([0xA5; 3], [0xA5A5; 12], [0xA5; 17])
+    );
+}
+
+#[test]
+fn empty_slices_are_answered() {
+    assert_eq!(line(&[], &mut []), Ok(0));
+    let answer = decode(&[], &[], &mut [], &mut [], &mut []);
+    assert_eq!(answer, Err(Refusal::CodeBytes));
+}
