@@ -20,10 +20,10 @@ mutants:
 library:
 	rt staticlib petsivola < /dev/null
 
-# The static library and the program beside the independent decoder, ROUNDS times as long as in the gate.
+# The static library and the program beside the independent decoder: ROUNDS rounds, each as long as in the gate.
 compare: library
 	@rt check decode < /dev/null >&2
-	cargo run --manifest-path reference/Cargo.toml --release --offline -p compare --bin compare -- $(ROUNDS)
+	cargo run --manifest-path reference/Cargo.toml --release --offline -p compare -- $(or $(ROUNDS),10)
 
 # Rewrites docs/bench and docs/simulation.
 bench: library
