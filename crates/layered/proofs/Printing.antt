@@ -3,21 +3,20 @@
 use mathlib.Core.Path.{_≡_, refl, sym, ap, _∙_}
 use mathlib.Core.Bool.{Bool, true, false, true≢false}
 use mathlib.Core.List.{List, [], _∷_, _++_, append-nil}
-use Prim.Native.Nat.{ℕ, zero, suc, _+_, _-_, _*_, _/_, _≤_, _<_}
-use native.Mathlib.Numerals.{add-one}
+use Prim.Native.Nat.{ℕ, suc, _-_, _*_, _/_, _≤_, _<_}
 use native.Mathlib.Omega.{arith}
 use lib.Dec.{eqb, ltb}
 use lib.ListN.{length, take, drop, getD, set, length-append, length-drop, length-map}
 use lib.Seq.{drop-cons, set-at, append-snoc, take-at, take-length, drop-length}
 use borrow.Author.Tests.{eqb-true, ltb-false}
-use Rattle.trellis.specs.Lists.{pick, each, blocks, patch, upTo}
+use Rattle.trellis.specs.Lists.{pick, each, blocks, patch}
 use Rattle.trellis.specs.Reply.{Reply, accepted, refusal}
 use Rattle.trellis.proofs.Loops.{blocks-front, length-even, length-tab}
 use Rattle.trellis.proofs.Places.{length-count}
 use Rattle.machine.specs.CodeLine.{Read, good, bad, Code, parse, frameFault, Numbers, numbersOf}
 use Rattle.machine.specs.Line.{byteAt, lineBytes, lineOk, lineReply, lineLeaves}
 use Rattle.machine.specs.Machine.{run, symbols}
-use Rattle.machine.specs.Decoding.{Decodes, decoding, outcome, filled}
+use Rattle.machine.specs.Decoding.{Decodes, decoding, outcome}
 use Rattle.machine.specs.Printing.{digitsOf, said, ofFrame, frameSaid, printed}
 use Rattle.machine.proofs.Lines.{parse-good}
 use Rattle.machine.proofs.Rooms.{roomy}

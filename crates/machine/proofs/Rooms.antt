@@ -1,26 +1,18 @@
 -- Buffers of 256 symbols, 16,384 costs and a store of 41,344 bytes are long enough for every accepted code line: 1,024 edges in all, and
 -- at most 315 bytes more for each of at most 128 records.
-use mathlib.Core.Path.{_≡_, refl, sym, ap, _∙_}
-use mathlib.Core.Bool.{Bool, true, false}
-use mathlib.Core.List.{List, [], _∷_, _++_}
-use Prim.Native.Nat.{ℕ, zero, suc, _+_, _-_, _*_, _^_, _≤_, _<_}
+use mathlib.Core.Path.{_≡_, ap, _∙_}
+use mathlib.Core.List.{List, [], _∷_}
+use Prim.Native.Nat.{ℕ, zero, suc, _+_, _*_, _≤_}
 use native.Mathlib.Nat.{mul-le-mul, suc-mul}
 use native.Mathlib.Omega.{arith}
-use lib.Dec.{eqb}
 use lib.Pow.{pow-mono}
-use lib.ListN.{length, getD, take, drop, length-map}
-use lib.Seq.{take-at}
-use borrow.Author.Tests.{eqb-true}
-use Rattle.trellis.specs.Lists.{pick, upto, upTo}
+use lib.ListN.{length, getD}
+use Rattle.trellis.specs.Lists.{upto}
 use Rattle.trellis.specs.Record.{recordLength}
-use Rattle.trellis.specs.Reply.{Reply}
-use Rattle.trellis.proofs.Places.{length-count}
-use Rattle.machine.specs.CodeLine.{Read, good, bad, Edge, Code, size, rule, parse, frameFault, numbersOf, Numbers}
-use Rattle.machine.specs.Machine.{place, used, run, symbols}
-use Rattle.machine.specs.Decoding.{Room, Decodes, decoding, After, refused, underCode}
-use Rattle.machine.specs.Printing.{Said, said, ofFrame, printed}
-use Rattle.machine.proofs.Lines.{GoodCode, parse-good, edgeTotal}
-use Rattle.machine.proofs.Demand.{accepted-call}
+use Rattle.machine.specs.CodeLine.{Edge, Code, size, rule}
+use Rattle.machine.specs.Machine.{place, used}
+use Rattle.machine.specs.Decoding.{Room}
+use Rattle.machine.proofs.Lines.{GoodCode, edgeTotal}
 
 -- a sum over a list, taken from its front
 sum-front : (w : List Edge → ℕ) (es : List Edge) (l : List (List Edge)) (m : ℕ)

@@ -1,60 +1,40 @@
-use mathlib.Core.Path.{_≡_, refl, ap, _∙_, sym}
-use mathlib.Core.List.{List, [], _∷_, _++_}
-use mathlib.Core.Logic.{⊎-elim}
-use Prim.Native.Nat.{ℕ, zero, suc, _+_, _-_, _*_, _/_, _%_, _^_, _≤_, _<_}
-use native.Mathlib.Numerals.{add-one}
+-- The buffers are long enough for every accepted code line, so that what decode leaves is what the definition prints.
+use mathlib.Core.Path.{ap, _∙_}
 use native.Mathlib.Omega.{arith}
 use borrow.Author.Needs.{needs}
-use borrow.Author.Tests.{eq-eqb, ne-eqb, lt-ltb, le-ltb, le-leb, lt-leb}
-use lib.ListN.{length, take, drop, getD, set, replicate, length-set, length-append, length-take, length-drop, length-replicate}
-use lib.Seq.{length-take-le}
+use lib.ListN.{length-take}
 use Rattle.layered.specs.Lines.{over}
 use Rattle.layered.proofs.Printing.{tells}
 use Rattle.layered.proofs.print.frame_in.Statement.{statement}
 use Rattle.layered.proofs.print.frame_in.Tie as tie
-use Rattle.layered.proofs.print.frame_in.Reads as reads
-use Rattle.layered.proofs.print.frame_in.Lts as lts
-use Rattle.layered.proofs.print.columns.Reads as columns-reads
-use Rattle.layered.proofs.decode.Reads as decode-reads
-use Rattle.layered.proofs.print.answer.Reads as answer-reads
 
--- src/lib.rt:99:9
 decode-requires : tie.Need-decode-requires
 decode-requires c κs = search needs
 
--- src/lib.rt:100:9
 columns-requires : tie.Need-columns-requires
 columns-requires c κs = search needs
 
--- src/lib.rt:101:22
 slice-reshare-prefix-answer : tie.Need-slice-reshare-prefix-answer
 slice-reshare-prefix-answer c = search needs
 
--- src/lib.rt:101:22
 slice-aggregate-answer : tie.Need-slice-aggregate-answer
 slice-aggregate-answer c = simp length-take (omega arith)
 
--- src/lib.rt:101:5
 answer-requires : tie.Need-answer-requires
 answer-requires c κs = simp length-take (omega arith)
 
--- src/lib.rt:94:1
 same-length : tie.Need-same-length
 same-length c = search needs
 
--- src/lib.rt:94:1
 same-length-2 : tie.Need-same-length-2
 same-length-2 c = search needs
 
--- src/lib.rt:94:1
 same-length-3 : tie.Need-same-length-3
 same-length-3 c = search needs
 
--- src/lib.rt:94:1
 same-length-4 : tie.Need-same-length-4
 same-length-4 c = search needs
 
--- src/lib.rt:94:1
 returns : tie.Need-returns
 returns c =
     let w = c .before .before in

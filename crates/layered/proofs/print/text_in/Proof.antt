@@ -1,83 +1,64 @@
-use mathlib.Core.Path.{_≡_, refl, ap, _∙_, sym}
-use mathlib.Core.List.{List, [], _∷_, _++_}
-use mathlib.Core.Logic.{⊎-elim}
-use Prim.Native.Nat.{ℕ, zero, suc, _+_, _-_, _*_, _/_, _%_, _^_, _≤_, _<_}
-use native.Mathlib.Numerals.{add-one}
+-- A refused line of text prints its refusal; the bytes of an accepted one are the frame.
+use mathlib.Core.Path.{_≡_, ap, sym}
+use mathlib.Core.List.{List}
+use Prim.Native.Nat.{ℕ, _≤_}
 use native.Mathlib.Omega.{arith}
 use borrow.Author.Needs.{needs}
-use borrow.Author.Tests.{eq-eqb, ne-eqb, lt-ltb, le-ltb, le-leb, lt-leb}
-use lib.ListN.{length, take, drop, getD, set, replicate, length-set, length-append, length-take, length-drop, length-replicate}
-use lib.Seq.{length-take-le}
+use lib.ListN.{take, length-take}
 use Rattle.machine.specs.Line.{lineBytes, lineLeaves}
 use Rattle.machine.specs.CodeLine.{parse}
 use Rattle.machine.specs.Printing.{ofFrame, frameSaid, frameLine}
 use Rattle.layered.proofs.Printing.{line-refused, line-read}
 use Rattle.layered.proofs.print.text_in.Statement.{statement}
 use Rattle.layered.proofs.print.text_in.Tie as tie
-use Rattle.layered.proofs.print.text_in.Reads as reads
-use Rattle.layered.proofs.print.text_in.Lts as lts
-use Rattle.layered.proofs.print.frame_in.Reads as frame-in-reads
-use Rattle.layered.proofs.line.Reads as line-reads
-use Rattle.layered.proofs.print.answer.Reads as answer-reads
+
+abbrev start : tie.After-n → tie.Start
+start c = c .before .before .before .before .before .before .before .before .before .before .before .before .before
 
 -- what an accepted line of text is
 told : (c : tie.After-n) → (c .n .given .0 .0 ≤ 16384)
-    × (take (c .n .given .0 .0) (lineLeaves (c .before .before .before .before .before .before .before .before .before .before .before .before .before .args .text .now) (c .before .before .before .before .before .before .before .before .before .before .before .before .before .args .bytes .now)) ≡ lineBytes (c .before .before .before .before .before .before .before .before .before .before .before .before .before .args .text .now))
-    × ((code : List ℕ) → frameSaid code (c .before .before .before .before .before .before .before .before .before .before .before .before .before .args .text .now) ≡ ofFrame (parse code) (lineBytes (c .before .before .before .before .before .before .before .before .before .before .before .before .before .args .text .now)))
+    × (take (c .n .given .0 .0) (lineLeaves (start c .args .text .now) (start c .args .bytes .now)) ≡ lineBytes (start c .args .text .now))
+    × ((code : List ℕ) → frameSaid code (start c .args .text .now) ≡ ofFrame (parse code) (lineBytes (start c .args .text .now)))
 told c =
-    let l = c .before .before .before .before in
-    let s = l .before .before .before .before .before .before .before .before .before in
-    line-read (s .args .text .now) (s .args .bytes .now) (s .pre .0) _ (rw (c .n .given .1) at (l .line .ensures .0))
+    let s = start c in
+    line-read (s .args .text .now) (s .args .bytes .now) (s .pre .0) _ (rw (c .n .given .1) at (c .before .before .before .before .line .ensures .0))
 
--- src/lib.rt:119:11
 line-requires : tie.Need-line-requires
 line-requires c κs = search needs
 
--- src/lib.rt:120:26
 enum-known-k : tie.Need-enum-known-k
 enum-known-k c = search needs
 
--- src/lib.rt:121:47
 slice-reshare-prefix-answer : tie.Need-slice-reshare-prefix-answer
 slice-reshare-prefix-answer c = search needs
 
--- src/lib.rt:121:47
 slice-aggregate-answer : tie.Need-slice-aggregate-answer
 slice-aggregate-answer c = search needs
 
--- src/lib.rt:121:13
 answer-requires : tie.Need-answer-requires
 answer-requires c κs = search needs
 
--- src/lib.rt:124:24
 enum-known-n : tie.Need-enum-known-n
 enum-known-n c = search needs
 
--- src/lib.rt:124:45
 slice-reshare-prefix-frame-in : tie.Need-slice-reshare-prefix-frame-in
 slice-reshare-prefix-frame-in c = omega (arith, told (c .before) .0)
 
--- src/lib.rt:124:45
 slice-aggregate-frame-in : tie.Need-slice-aggregate-frame-in
 slice-aggregate-frame-in c = simp length-take (omega (arith, told (c .before .before) .0))
 
--- src/lib.rt:124:30
 frame-in-requires : tie.Need-frame-in-requires
 frame-in-requires c κs = search needs
 
--- src/lib.rt:106:1
 same-length : tie.Need-same-length
 same-length c = search needs
 
--- src/lib.rt:106:1
 same-length-2 : tie.Need-same-length-2
 same-length-2 c = search needs
 
--- src/lib.rt:106:1
 same-length-3 : tie.Need-same-length-3
 same-length-3 c = search needs
 
--- src/lib.rt:106:1
 returns : tie.Need-returns
 unfolding frameLine
 returns c =
@@ -88,27 +69,21 @@ returns c =
     let e = line-refused (s .args .text .now) (s .args .bytes .now) (s .pre .0) _ (rw (k .k .given .1) at (l .line .ensures .0)) (s .args .code .now) in
     (ap (λ r. r .reply) (sym e), rw e (w .answer .ensures))
 
--- src/lib.rt:106:1
 same-length-4 : tie.Need-same-length-4
 same-length-4 c = search needs
 
--- src/lib.rt:106:1
 same-length-5 : tie.Need-same-length-5
 same-length-5 c = search needs
 
--- src/lib.rt:106:1
 same-length-6 : tie.Need-same-length-6
 same-length-6 c = search needs
 
--- src/lib.rt:106:1
 same-length-7 : tie.Need-same-length-7
 same-length-7 c = search needs
 
--- src/lib.rt:106:1
 same-length-8 : tie.Need-same-length-8
 same-length-8 c = search needs
 
--- src/lib.rt:106:1
 returns-2 : tie.Need-returns-2
 unfolding frameLine
 returns-2 c =
