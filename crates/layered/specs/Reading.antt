@@ -4,10 +4,11 @@ use mathlib.Core.Bool.{Bool, _||_}
 use mathlib.Core.List.{List}
 use Prim.Native.Nat.{ℕ, _+_, _*_, _≤_}
 use lib.Dec.{ltb}
-use lib.ListN.{length, take, getD}
+use lib.ListN.{length, take, drop, getD}
 use Rattle.trellis.specs.Lists.{pick}
 use Rattle.machine.specs.CodeLine.{Read, good, bad, Edge as Pair, edge, wordAt, Numbers}
 use Rattle.machine.specs.Tables.{Flat, flat, Tables, tables}
+use Rattle.layered.specs.Answers.{headerNumbers}
 use Rattle.layered.specs.declared.Header.{Header}
 use Rattle.layered.specs.declared.Header.the-variants.{Read as HeaderRead, Refused as HeaderRefused}
 use Rattle.layered.specs.declared.code.Edge.{Edge}
@@ -70,3 +71,8 @@ headOf s = pick (ltb (length s) 6) (bad 5) (fromField s)
 abbrev pub HeadFits : Header → Type 0
 HeadFits (HeaderRead p n m g i) = (p ≤ 6) × (m ≤ 128)
 HeadFits (HeaderRefused k) = Unit {0}
+
+-- the header of the line from place at on
+pub record HeadAt (h : Header) (s : List ℕ) (at : ℕ) : Type 0 where
+  pub numbers : headerNumbers h ≡ headOf (drop at s)
+  pub fits : HeadFits h

@@ -1,5 +1,6 @@
 // The code line, read front to back, each field once, into tables: the degrees, and all columns and weights end to end.
 use crate::Header;
+use crate::reader;
 ghost use mathlib.Core.Path.{_≡_};
 ghost use mathlib.Core.List.{[]};
 ghost use Prim.Native.Nat.{_+_, _*_, _^_, _≤_, _<_};
@@ -7,7 +8,7 @@ ghost use lib.ListN.{length, take};
 ghost use Rattle.machine.specs.CodeLine.{Code, good, readEdge, parse, numbersOf};
 ghost use Rattle.machine.specs.Tables.{edgesInto, checkInto, checksInto, Tabled};
 ghost use Rattle.layered.specs.Answers.{headerNumbers};
-ghost use Rattle.layered.specs.Reading.{edgeRead, edgesRead, checkRead, CheckFits, checksRead, isOutside, headOf, HeadFits};
+ghost use Rattle.layered.specs.Reading.{edgeRead, edgesRead, checkRead, CheckFits, checksRead, isOutside, headOf, HeadFits, HeadAt};
 
 // An edge's column and weight, or the number of the refusal.
 enum Edge {
@@ -220,13 +221,24 @@ fn head(code: &[u8]) -> Header
     }
 }
 
+// The same from place at on; past the end there is nothing.
+pub fn head_at(code: &[u8], at: usize) -> Header
+    ensures { λ r. ⌜ HeadAt r (now (code .entry)) at ⌝ }
+{
+    if at <= code.len() {
+        head(&code[at..])
+    } else {
+        Header::Refused(5)
+    }
+}
+
 // The numbers of a code line, with its checks in the tables.
 pub fn tables(code: &[u8], degrees: &mut [u8], columns: &mut [u16], weights: &mut [u8]) -> Header
     requires { ⌜ (length (now degrees) ≡ 128) × ((length (now columns) ≡ 1024) × (length (now weights) ≡ 1024)) ⌝ }
     ensures { λ r. ⌜ headerNumbers r ≡ numbersOf (parse (now (code .entry))) ⌝ }
     ensures { λ _. ⌜ ((C : Code) → parse (now (code .entry)) ≡ good C → Tabled C (now (degrees .exit)) (now (columns .exit)) (now (weights .exit))) ⌝ }
 {
-    let h = head(code);
+    let h = reader::first(code);
     let Header::Read {
         p,
         columns: n,

@@ -8,6 +8,7 @@ mod iterate;
 mod num;
 mod parity;
 mod print;
+mod reader;
 mod update;
 
 use checknode::Written;

@@ -9,10 +9,10 @@ use Rattle.layered.proofs.code.tables.Tie as tie
 
 -- what the numbers keep to
 fits : (c : tie.After-h) → (c .h .given .0 .0 ≤ 6) × (c .h .given .0 .1 .1 .0 ≤ 128)
-fits c = rw (c .h .given .1) at (c .before .before .head .ensures .1)
+fits c = rw (c .h .given .1) at (c .before .before .first .ensures .fits)
 
-head-requires : tie.Need-head-requires
-head-requires c κs = search needs
+first-requires : tie.Need-first-requires
+first-requires c κs = search needs
 
 enum-known-h : tie.Need-enum-known-h
 enum-known-h c = search needs
@@ -24,7 +24,7 @@ returns : tie.Need-returns
 returns c =
     let b = c .before .before in
     let s = b .before .before .before .before .before .args .code .now in
-    rw (c .enum-told .given .1) (refused s _ _ _ _ (head-bad s _ (sym (rw (c .enum-told .given .1) at (b .head .ensures .0)))))
+    rw (c .enum-told .given .1) (refused s _ _ _ _ (head-bad s _ (sym (rw (c .enum-told .given .1) at (b .first .ensures .numbers)))))
 
 size-requires : tie.Need-size-requires
 size-requires c κs = fits (c .before) .0
@@ -60,7 +60,7 @@ returns-2 c =
     let h = z .before .before in
     let b = h .before .before in
     let s = b .before .before .before .before .before .args .code .now in
-    let e = sym (rw (h .h .given .1) at (b .head .ensures .0)) in
+    let e = sym (rw (h .h .given .1) at (b .first .ensures .numbers)) in
     refused s _ _ _ _ (rest-bad s _ e (z .size .result) (z .size .ensures) _ (sym (rw (c .before .k .given .1) at (g .checks-at .ensures))))
 
 same-length-4 : tie.Need-same-length-4
@@ -79,14 +79,14 @@ returns-3 c =
     let h = z .before .before in
     let b = h .before .before in
     let s = b .before .before .before .before .before .args .code .now in
-    let e = sym (rw (h .h .given .1) at (b .head .ensures .0)) in
+    let e = sym (rw (h .h .given .1) at (b .first .ensures .numbers)) in
     tabled s _ e (z .size .result) (z .size .ensures) _ _ _ (c .enum-told2 .given .0 .0) (omega (arith, fits h)) (sym (rw (c .enum-told2 .given .1) at (g .checks-at .ensures)))
 
 pub tables-spec : {M : Type 1} → statement M
 tables-spec =
     tie.close
     (tie.spec
-    head-requires
+    first-requires
     enum-known-h
     enum-told
     returns
