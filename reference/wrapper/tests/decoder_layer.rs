@@ -37,6 +37,24 @@ fn decode_decodes_the_example() {
     assert_eq!(lengths::store(2, 1, 3), Some(18));
 }
 
+/// "Degree 2 and 33: 9. Degree 3 and 32 pass. g 16 passes, 17 gives 8."
+#[test]
+fn degrees_and_scales_of_the_bench_table() {
+    let answer = |degree: u8, g: u8| {
+        let mut code = vec![2, 0, 40, 1, g, 1, degree];
+        code.extend((0..degree).flat_map(|column| [0, column, 1]));
+        let frame = [0; 160];
+        let (mut symbols, mut costs, mut store) = ([0xA5; 40], [0xA5A5; 160], [0xA5; 47]);
+        decode(&code, &frame, &mut symbols, &mut costs, &mut store)
+    };
+    assert_eq!(answer(2, 1), Err(Refusal::Degree));
+    assert_eq!(answer(3, 1), Ok(Outcome::Found(0)));
+    assert_eq!(answer(32, 1), Ok(Outcome::Found(0)));
+    assert_eq!(answer(33, 1), Err(Refusal::Degree));
+    assert_eq!(answer(3, 16), Ok(Outcome::Found(0)));
+    assert_eq!(answer(3, 17), Err(Refusal::ScaleOrLimit));
+}
+
 #[test]
 fn a_refused_decoding_writes_nothing() {
     let mut symbols = [0xA5; 3];
