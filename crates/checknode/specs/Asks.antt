@@ -14,6 +14,7 @@ use Rattle.trellis.specs.Rules.{ruleFor}
 use Rattle.engine.specs.Fill.{scattered}
 use Rattle.engine.specs.Ready.{termOf, sumTo}
 use Rattle.checknode.specs.Answers.{weightCases}
+use Rattle.checknode.specs.Table.{productTable}
 
 -- three lists of one key for each of 2 ^ p rows
 pub record Sized (X Y Z : List ℕ) : Type 0 where
@@ -36,6 +37,10 @@ pub record Times (p h : ℕ) : Type 0 where
   pub high : p ≤ 6
   pub element : h < 2 ^ p
   pub closed : (x : ℕ) → x < 2 ^ p → product p h x < 2 ^ p
+
+-- at p = 6 the product table is at hand
+abbrev pub TableFor : ℕ → List ℕ → Type 0
+TableFor p t = p ≡ 6 → t ≡ productTable
 
 -- one column's costs in their rows
 abbrev pub lineFrom : ℕ → ℕ → List ℕ → ℕ → List ℕ → List ℕ

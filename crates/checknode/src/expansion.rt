@@ -1,13 +1,14 @@
 // The expansion of a record.
 use crate::num;
 use crate::products;
+use crate::table;
 ghost use mathlib.Core.Path.{_≡_};
 ghost use Prim.Native.Nat.{_+_, _-_, _*_, _^_, _≤_, _<_};
 ghost use lib.ListN.{length, take, drop};
 ghost use Rattle.trellis.specs.Lists.{tab};
 ghost use Rattle.trellis.specs.Record.{besideGroup, expansion};
 ghost use Rattle.trellis.specs.Rules.{ruleFor};
-ghost use Rattle.checknode.specs.Asks.{readFrom, columnFrom, Readable, Expandable};
+ghost use Rattle.checknode.specs.Asks.{TableFor, readFrom, columnFrom, Readable, Expandable};
 
 // "the S beside n if a's pairs list n, else E(a)", of the group that starts at place at.
 fn beside(r: &[u8], at: usize, n: u8) -> u8
@@ -49,8 +50,9 @@ fn column(p: u8, r: &[u8], d: usize, n: u8, row: &[u8], s: u8, out: &mut [u8])
 }
 
 // All columns, in room of the caller's for one column's products.
-fn columns(p: u8, w: usize, weights: &[u8], r: &[u8], row: &mut [u8], out: &mut [u8])
+fn columns(p: u8, w: usize, weights: &[u8], r: &[u8], table: &[u8], row: &mut [u8], out: &mut [u8])
     requires { ⌜ Expandable p (now weights) (now r) ⌝ }
+    requires { ⌜ TableFor p (now table) ⌝ }
     requires { ⌜ (w ≡ 2 ^ p) × ((length (now row) ≡ 2 ^ p) × (length (now out) ≡ length (now weights) * 2 ^ p)) ⌝ }
     ensures { λ _. ⌜ now (out .exit) ≡ expansion (ruleFor p) (now (weights .entry)) (now (r .entry)) ⌝ }
 {
@@ -59,27 +61,34 @@ fn columns(p: u8, w: usize, weights: &[u8], r: &[u8], row: &mut [u8], out: &mut 
     while n < d {
         let a = n * w;
         let e = a + w;
-        products::fill(p, weights[n], row);
+        products::fill(p, weights[n], table, row);
         column(p, r, d, n as u8, row, r[n], &mut out[a..e]);
         n += 1;
     }
 }
 
 // The part of the room that an expansion takes.
-fn in_room(p: u8, w: usize, weights: &[u8], r: &[u8], row: &mut [u8], out: &mut [u8])
+fn in_room(p: u8, w: usize, weights: &[u8], r: &[u8], table: &[u8], row: &mut [u8], out: &mut [u8])
     requires { ⌜ Expandable p (now weights) (now r) ⌝ }
+    requires { ⌜ TableFor p (now table) ⌝ }
     requires { ⌜ (w ≤ length (now row)) × ((w ≡ 2 ^ p) × (length (now out) ≡ length (now weights) * 2 ^ p)) ⌝ }
     ensures { λ _. ⌜ now (out .exit) ≡ expansion (ruleFor p) (now (weights .entry)) (now (r .entry)) ⌝ }
 {
-    columns(p, w, weights, r, &mut row[..w], out);
+    columns(p, w, weights, r, table, &mut row[..w], out);
 }
 
-// The expansion, with the room that it takes.
+// The expansion, with the room that it takes. The table is copied once for all columns, and only at p = 6: away from it no product is read from
+// a table, so any slice stands in.
 pub fn expand_in(p: u8, w: usize, weights: &[u8], r: &[u8], out: &mut [u8])
     requires { ⌜ Expandable p (now weights) (now r) ⌝ }
     requires { ⌜ (w ≤ 64) × ((w ≡ 2 ^ p) × (length (now out) ≡ length (now weights) * 2 ^ p)) ⌝ }
     ensures { λ _. ⌜ now (out .exit) ≡ expansion (ruleFor p) (now (weights .entry)) (now (r .entry)) ⌝ }
 {
     let mut row = [0u8; 64];
-    in_room(p, w, weights, r, &mut row, out);
+    if p == 6 {
+        let products = table::products();
+        in_room(p, w, weights, r, &products, &mut row, out);
+        return;
+    }
+    in_room(p, w, weights, r, weights, &mut row, out);
 }

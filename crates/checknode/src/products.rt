@@ -7,7 +7,7 @@ ghost use lib.ListN.{length};
 ghost use Rattle.trellis.specs.Lists.{tab};
 ghost use Rattle.trellis.specs.Field.{product};
 ghost use Rattle.engine.specs.Fill.{plusRow};
-ghost use Rattle.checknode.specs.Asks.{Times};
+ghost use Rattle.checknode.specs.Asks.{Times, TableFor};
 
 // The next n products: the first n, each plus t.
 fn plus(row: &mut [u8], n: usize, t: u8)
@@ -40,13 +40,14 @@ fn by_doubling(p: u8, h: u8, row: &mut [u8])
 }
 
 // From the table at p = 6, else by doubling.
-pub fn fill(p: u8, h: u8, row: &mut [u8])
+pub fn fill(p: u8, h: u8, table: &[u8], row: &mut [u8])
     requires { ⌜ Times p h ⌝ }
+    requires { ⌜ TableFor p (now table) ⌝ }
     requires { ⌜ length (now row) ≡ 2 ^ p ⌝ }
     ensures { λ _. ⌜ now (row .exit) ≡ tab (product p h) (2 ^ p) ⌝ }
 {
     if p == 6 {
-        table::row(h, row);
+        table::row_from(table, h, row);
         return;
     }
     by_doubling(p, h, row);

@@ -1,6 +1,7 @@
 // The record of an accepted check.
 use crate::rows;
 use crate::search;
+use crate::table;
 ghost use mathlib.Core.Path.{_≡_};
 ghost use Prim.Native.Nat.{_^_, _≤_};
 ghost use lib.ListN.{length};
@@ -8,7 +9,7 @@ ghost use Rattle.trellis.specs.Record.{recordOf, recordLength};
 ghost use Rattle.trellis.specs.Rules.{ruleFor, columnsOf};
 ghost use Rattle.engine.specs.Ready.{Ready, keysOf};
 ghost use Rattle.engine.specs.Fill.{rowsOf, started, filled};
-ghost use Rattle.checknode.specs.Asks.{Sizes, shiftsOf};
+ghost use Rattle.checknode.specs.Asks.{TableFor, Sizes, shiftsOf};
 
 // No key in any row.
 fn begin(k0: &mut [u16], k1: &mut [u16], k2: &mut [u16])
@@ -25,6 +26,7 @@ fn shifts_with(
     p: u8,
     weights: &[u8],
     costs: &[u8],
+    table: &[u8],
     row: &mut [u8],
     line: &mut [u16],
     k0: &mut [u16],
@@ -33,12 +35,13 @@ fn shifts_with(
     out: &mut [u8],
 )
     requires { ⌜ Ready p (now weights) (now costs) ⌝ }
+    requires { ⌜ TableFor p (now table) ⌝ }
     requires { ⌜ Sizes p (now row) (now line) (now k0) (now k1) (now k2) ⌝ }
     requires { ⌜ (length (now out) ≡ length (now weights)) × (rowsOf (now k0) (now k1) (now k2) ≡ started (2 ^ p)) ⌝ }
     ensures { λ _. ⌜ rowsOf (now (k0 .exit)) (now (k1 .exit)) (now (k2 .exit)) ≡ filled (keysOf p (now (weights .entry)) (now (costs .entry))) (2 ^ p) (length (now (weights .entry))) ⌝ }
     ensures { λ _. ⌜ now (out .exit) ≡ shiftsOf p (now (weights .entry)) (now (costs .entry)) ⌝ }
 {
-    let sum = rows::columns(p, weights, costs, row, line, k0, k1, k2, out);
+    let sum = rows::columns(p, weights, costs, table, row, line, k0, k1, k2, out);
     rows::shift_all(out, sum);
 }
 
@@ -47,6 +50,7 @@ fn record_with(
     p: u8,
     weights: &[u8],
     costs: &[u8],
+    table: &[u8],
     row: &mut [u8],
     line: &mut [u16],
     k0: &mut [u16],
@@ -55,6 +59,7 @@ fn record_with(
     out: &mut [u8],
 )
     requires { ⌜ Ready p (now weights) (now costs) ⌝ }
+    requires { ⌜ TableFor p (now table) ⌝ }
     requires { ⌜ Sizes p (now row) (now line) (now k0) (now k1) (now k2) ⌝ }
     requires { ⌜ length (now out) ≡ recordLength (ruleFor p) (length (now weights)) ⌝ }
     ensures { λ _. ⌜ now (out .exit) ≡ recordOf (ruleFor p) (columnsOf (2 ^ p) (now (weights .entry)) (now (costs .entry))) ⌝ }
@@ -62,7 +67,18 @@ fn record_with(
     begin(k0, k1, k2);
     let d = weights.len();
     let e = out.len();
-    shifts_with(p, weights, costs, row, line, k0, k1, k2, &mut out[..d]);
+    shifts_with(
+        p,
+        weights,
+        costs,
+        table,
+        row,
+        line,
+        k0,
+        k1,
+        k2,
+        &mut out[..d],
+    );
     search::put_groups(k0, k1, k2, &mut out[d..e]);
 }
 
@@ -72,6 +88,7 @@ fn record_room(
     w: usize,
     weights: &[u8],
     costs: &[u8],
+    table: &[u8],
     row: &mut [u8],
     line: &mut [u16],
     k0: &mut [u16],
@@ -80,6 +97,7 @@ fn record_room(
     out: &mut [u8],
 )
     requires { ⌜ Ready p (now weights) (now costs) ⌝ }
+    requires { ⌜ TableFor p (now table) ⌝ }
     requires { ⌜ ((w ≤ length (now row)) × (w ≤ length (now line))) × ((w ≤ length (now k0)) × ((w ≤ length (now k1)) × (w ≤ length (now k2)))) ⌝ }
     requires { ⌜ (w ≡ 2 ^ p) × (length (now out) ≡ recordLength (ruleFor p) (length (now weights))) ⌝ }
     ensures { λ _. ⌜ now (out .exit) ≡ recordOf (ruleFor p) (columnsOf (2 ^ p) (now (weights .entry)) (now (costs .entry))) ⌝ }
@@ -88,6 +106,7 @@ fn record_room(
         p,
         weights,
         costs,
+        table,
         &mut row[..w],
         &mut line[..w],
         &mut k0[..w],
@@ -98,8 +117,9 @@ fn record_room(
 }
 
 // The record, with the room that it takes.
-pub fn record_in(p: u8, w: usize, weights: &[u8], costs: &[u8], out: &mut [u8])
+fn with_room(p: u8, w: usize, weights: &[u8], costs: &[u8], table: &[u8], out: &mut [u8])
     requires { ⌜ Ready p (now weights) (now costs) ⌝ }
+    requires { ⌜ TableFor p (now table) ⌝ }
     requires { ⌜ w ≤ 64 ⌝ }
     requires { ⌜ (w ≡ 2 ^ p) × (length (now out) ≡ recordLength (ruleFor p) (length (now weights))) ⌝ }
     ensures { λ _. ⌜ now (out .exit) ≡ recordOf (ruleFor p) (columnsOf (2 ^ p) (now (weights .entry)) (now (costs .entry))) ⌝ }
@@ -114,6 +134,7 @@ pub fn record_in(p: u8, w: usize, weights: &[u8], costs: &[u8], out: &mut [u8])
         w,
         weights,
         costs,
+        table,
         &mut row,
         &mut line,
         &mut k0,
@@ -121,4 +142,19 @@ pub fn record_in(p: u8, w: usize, weights: &[u8], costs: &[u8], out: &mut [u8])
         &mut k2,
         out,
     );
+}
+
+// The record. The table is copied once for all columns, and only at p = 6: away from it no product is read from a table, so any slice stands in.
+pub fn record_in(p: u8, w: usize, weights: &[u8], costs: &[u8], out: &mut [u8])
+    requires { ⌜ Ready p (now weights) (now costs) ⌝ }
+    requires { ⌜ w ≤ 64 ⌝ }
+    requires { ⌜ (w ≡ 2 ^ p) × (length (now out) ≡ recordLength (ruleFor p) (length (now weights))) ⌝ }
+    ensures { λ _. ⌜ now (out .exit) ≡ recordOf (ruleFor p) (columnsOf (2 ^ p) (now (weights .entry)) (now (costs .entry))) ⌝ }
+{
+    if p == 6 {
+        let products = table::products();
+        with_room(p, w, weights, costs, &products, out);
+        return;
+    }
+    with_room(p, w, weights, costs, weights, out);
 }

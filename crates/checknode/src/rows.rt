@@ -9,7 +9,7 @@ ghost use Rattle.trellis.specs.Field.{xor, product};
 ghost use Rattle.trellis.specs.Check.{firstZero};
 ghost use Rattle.engine.specs.Fill.{rowsOf, merged, started, filled, scattered};
 ghost use Rattle.engine.specs.Ready.{Ready, termOf, sumTo, keysOf};
-ghost use Rattle.checknode.specs.Asks.{Placed, Times, Sizes, lineFrom};
+ghost use Rattle.checknode.specs.Asks.{Placed, Times, TableFor, Sizes, lineFrom};
 
 // v everywhere.
 pub fn set_all(l: &mut [u16], v: u16)
@@ -75,6 +75,7 @@ fn column(
     h: u8,
     costs: &[u8],
     n: u16,
+    table: &[u8],
     row: &mut [u8],
     line: &mut [u16],
     k0: &mut [u16],
@@ -82,12 +83,13 @@ fn column(
     k2: &mut [u16],
 ) -> u8
     requires { ⌜ Times p h ⌝ }
+    requires { ⌜ TableFor p (now table) ⌝ }
     requires { ⌜ Sizes p (now row) (now line) (now k0) (now k1) (now k2) ⌝ }
     requires { ⌜ (n < 256) × ((length (now costs) ≡ 2 ^ p) × (firstZero (now costs) < 2 ^ p)) ⌝ }
     ensures { λ r. ⌜ r ≡ product p h (firstZero (now (costs .entry))) ⌝ }
     ensures { λ _. ⌜ rowsOf (now (k0 .exit)) (now (k1 .exit)) (now (k2 .exit)) ≡ merged (lineFrom p h (now (costs .entry)) n (now (line .entry))) (rowsOf (now (k0 .entry)) (now (k1 .entry)) (now (k2 .entry))) ⌝ }
 {
-    products::fill(p, h, row);
+    products::fill(p, h, table, row);
     let z = first_zero(costs);
     let s = row[z];
     scatter(costs, row, s, n, line);
@@ -100,6 +102,7 @@ pub fn columns(
     p: u8,
     weights: &[u8],
     costs: &[u8],
+    table: &[u8],
     row: &mut [u8],
     line: &mut [u16],
     k0: &mut [u16],
@@ -108,6 +111,7 @@ pub fn columns(
     out: &mut [u8],
 ) -> u8
     requires { ⌜ Ready p (now weights) (now costs) ⌝ }
+    requires { ⌜ TableFor p (now table) ⌝ }
     requires { ⌜ Sizes p (now row) (now line) (now k0) (now k1) (now k2) ⌝ }
     requires { ⌜ (length (now out) ≡ length (now weights)) × (rowsOf (now k0) (now k1) (now k2) ≡ started (2 ^ p)) ⌝ }
     ensures { λ r. ⌜ r ≡ sumTo (termOf p (now (weights .entry)) (now (costs .entry))) (length (now (weights .entry))) ⌝ }
@@ -120,7 +124,18 @@ pub fn columns(
     while n < weights.len() {
         let a = n * w;
         let e = a + w;
-        let s = column(p, weights[n], &costs[a..e], n as u16, row, line, k0, k1, k2);
+        let s = column(
+            p,
+            weights[n],
+            &costs[a..e],
+            n as u16,
+            table,
+            row,
+            line,
+            k0,
+            k1,
+            k2,
+        );
         out[n] = s;
         sum = sum ^ s;
         n += 1;

@@ -4171,8 +4171,15 @@ const PRODUCTS: [u8; 4096] = [
     42, // 63 times 63
 ];
 
+// The whole table, for a caller to hand on.
+pub fn products() -> [u8; 4096]
+    ensures { λ r. ⌜ r ≡ productTable ⌝ }
+{
+    PRODUCTS
+}
+
 // Row h of the table: h times each symbol.
-fn row_from(table: &[u8], h: u8, out: &mut [u8])
+pub fn row_from(table: &[u8], h: u8, out: &mut [u8])
     requires { ⌜ now table ≡ productTable ⌝ }
     requires { ⌜ (h < 64) × (length (now out) ≡ 64) ⌝ }
     ensures { λ _. ⌜ now (out .exit) ≡ tab (product 6 h) 64 ⌝ }
@@ -4183,12 +4190,4 @@ fn row_from(table: &[u8], h: u8, out: &mut [u8])
         out[x] = table[base + x];
         x += 1;
     }
-}
-
-// The products of h with each symbol at p = 6. The table is handed on whole, once: a constant that is indexed in a loop is copied each time.
-pub fn row(h: u8, out: &mut [u8])
-    requires { ⌜ (h < 64) × (length (now out) ≡ 64) ⌝ }
-    ensures { λ _. ⌜ now (out .exit) ≡ tab (product 6 h) 64 ⌝ }
-{
-    row_from(&PRODUCTS, h, out);
 }

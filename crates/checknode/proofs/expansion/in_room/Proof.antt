@@ -13,8 +13,8 @@ slice-aggregate-columns c = simp length-take (omega arith)
 
 columns-requires : tie.Need-columns-requires
 columns-requires c κs =
-    let s = c .before .before .before .before .before .before in
-    (s .pre .0, (s .pre .1 .1 .0, (simp length-take (omega arith), s .pre .1 .1 .1)))
+    let s = c .before .before .before .before .before .before .before in
+    (s .pre .0, (s .pre .1 .0, (s .pre .1 .1 .1 .0, (simp length-take (omega arith), s .pre .1 .1 .1 .1))))
 
 same-length : tie.Need-same-length
 same-length c = search needs

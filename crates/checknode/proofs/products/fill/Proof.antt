@@ -6,22 +6,22 @@ use borrow.Author.Needs.{needs}
 use Rattle.checknode.proofs.products.fill.Statement.{statement}
 use Rattle.checknode.proofs.products.fill.Tie as tie
 
-row-requires : tie.Need-row-requires
-row-requires c κs =
-    let s = c .before .before .before in
+row-from-requires : tie.Need-row-from-requires
+row-from-requires c κs =
+    let s = c .before .before .before .before in
     let e : s .args .p ≡ 6 = omega arith in
     let q : 2 ^ s .args .p ≡ 64 = ap (λ p. 2 ^ p) e in
-    (omega (arith, s .pre .0 .element), omega (arith, s .pre .1))
+    (s .pre .1 .0 e, (omega (arith, s .pre .0 .element), omega (arith, s .pre .1 .1)))
 
 same-length : tie.Need-same-length
 same-length c = search needs
 
 returns : tie.Need-returns
 returns c =
-    let at-row = c .before .before in
-    let start = at-row .before .before .before .before in
+    let at-row-from = c .before .before in
+    let start = at-row-from .before .before .before .before .before in
     let e : start .args .p ≡ 6 = omega arith in
-    rw e (at-row .row .ensures)
+    rw e (at-row-from .row-from .ensures)
 
 by-doubling-requires : tie.Need-by-doubling-requires
 by-doubling-requires c κs = search needs
@@ -33,4 +33,4 @@ returns-2 : tie.Need-returns-2
 returns-2 c = search needs
 
 pub fill-spec : {M : Type 1} → statement M
-fill-spec = tie.close (tie.spec row-requires same-length returns by-doubling-requires same-length-2 returns-2)
+fill-spec = tie.close (tie.spec row-from-requires same-length returns by-doubling-requires same-length-2 returns-2)

@@ -1,28 +1,17 @@
--- Arrays of 64 have room for w at most 64.
+-- At p = 6 the table is at hand; elsewhere none is asked for.
 use native.Mathlib.Omega.{arith}
 use borrow.Author.Needs.{needs}
 use Rattle.checknode.proofs.record.record_in.Statement.{statement}
 use Rattle.checknode.proofs.record.record_in.Tie as tie
 
-slice-aggregate-record-room : tie.Need-slice-aggregate-record-room
-slice-aggregate-record-room c = search needs
+products-requires : tie.Need-products-requires
+products-requires c κs = search needs
 
-slice-aggregate-record-room-2 : tie.Need-slice-aggregate-record-room-2
-slice-aggregate-record-room-2 c = search needs
+slice-aggregate-with-room : tie.Need-slice-aggregate-with-room
+slice-aggregate-with-room c = search needs
 
-slice-aggregate-record-room-3 : tie.Need-slice-aggregate-record-room-3
-slice-aggregate-record-room-3 c = search needs
-
-slice-aggregate-record-room-4 : tie.Need-slice-aggregate-record-room-4
-slice-aggregate-record-room-4 c = search needs
-
-slice-aggregate-record-room-5 : tie.Need-slice-aggregate-record-room-5
-slice-aggregate-record-room-5 c = search needs
-
-record-room-requires : tie.Need-record-room-requires
-record-room-requires c κs =
-    let start = c .before .before .before .before .before .before .before .before .before in
-    (start .pre .0, (((omega arith, omega arith), (omega arith, (omega arith, omega arith))), start .pre .1 .1))
+with-room-requires : tie.Need-with-room-requires
+with-room-requires c κs = search needs
 
 same-length : tie.Need-same-length
 same-length c = search needs
@@ -30,15 +19,26 @@ same-length c = search needs
 returns : tie.Need-returns
 returns c = search needs
 
+with-room-requires-2 : tie.Need-with-room-requires-2
+with-room-requires-2 c κs =
+    let s = c .before .before .before .before .before in
+    (s .pre .0, (λ e. absurd (omega arith), s .pre .1))
+
+same-length-2 : tie.Need-same-length-2
+same-length-2 c = search needs
+
+returns-2 : tie.Need-returns-2
+returns-2 c = search needs
+
 pub record-in-spec : {M : Type 1} → statement M
 record-in-spec =
     tie.close
     (tie.spec
-    slice-aggregate-record-room
-    slice-aggregate-record-room-2
-    slice-aggregate-record-room-3
-    slice-aggregate-record-room-4
-    slice-aggregate-record-room-5
-    record-room-requires
+    products-requires
+    slice-aggregate-with-room
+    with-room-requires
     same-length
-    returns)
+    returns
+    with-room-requires-2
+    same-length-2
+    returns-2)

@@ -37,8 +37,8 @@ slice-aggregate-record-with-5 c = simp length-take (omega arith)
 
 record-with-requires : tie.Need-record-with-requires
 record-with-requires c κs =
-    let start = c .before .before .before .before .before .before .before .before .before .before .before .before .before .before in
-    (start .pre .0, (record { of-row = simp length-take (omega arith); of-line = simp length-take (omega arith); of-x = simp length-take (omega arith); of-y = simp length-take (omega arith); of-z = simp length-take (omega arith) }, start .pre .1 .1 .1))
+    let start = c .before .before .before .before .before .before .before .before .before .before .before .before .before .before .before in
+    (start .pre .0, (start .pre .1 .0, (record { of-row = simp length-take (omega arith); of-line = simp length-take (omega arith); of-x = simp length-take (omega arith); of-y = simp length-take (omega arith); of-z = simp length-take (omega arith) }, start .pre .1 .1 .1 .1)))
 
 same-length : tie.Need-same-length
 same-length c = search needs

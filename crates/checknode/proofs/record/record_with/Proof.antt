@@ -22,18 +22,18 @@ slice-aggregate-shifts-with c = simp length-take (omega arith)
 shifts-with-requires : tie.Need-shifts-with-requires
 shifts-with-requires c κs =
     let at-begin = c .before .before .before .before .before .before .before .before .before .before .before .before in
-    let start = at-begin .before .before .before .before .before .before .before .before .before .before .before .before in
-    (start .pre .0, (record { of-row = start .pre .1 .0 .of-row; of-line = start .pre .1 .0 .of-line; of-x = omega arith; of-y = omega arith; of-z = omega arith }, (simp length-take (omega arith), (at-begin .begin .ensures) ∙ ap started (start .pre .1 .0 .of-x))))
+    let start = at-begin .before .before .before .before .before .before .before .before .before .before .before .before .before in
+    (start .pre .0, (start .pre .1 .0, (record { of-row = start .pre .1 .1 .0 .of-row; of-line = start .pre .1 .1 .0 .of-line; of-x = omega arith; of-y = omega arith; of-z = omega arith }, (simp length-take (omega arith), (at-begin .begin .ensures) ∙ ap started (start .pre .1 .1 .0 .of-x)))))
 
 sub-put-groups : tie.Need-sub-put-groups
 sub-put-groups c =
-    let start = c .before .before .before .before .before .before .before .before .before .before .before .before .before .before .before .before .before .before .before .before .before .before .before .before .before .before .before .before .before .before .before .before .before .before .before .before .before .before .before .before in
-    omega (arith, start .pre .1 .1)
+    let start = c .before .before .before .before .before .before .before .before .before .before .before .before .before .before .before .before .before .before .before .before .before .before .before .before .before .before .before .before .before .before .before .before .before .before .before .before .before .before .before .before .before in
+    omega (arith, start .pre .1 .1 .1)
 
 part-put-groups-start : tie.Need-part-put-groups-start
 part-put-groups-start c =
-    let start = c .before .before .before .before .before .before .before .before .before .before .before .before .before .before .before .before .before .before .before .before .before .before .before .before .before .before .before .before .before .before .before .before .before .before .before .before .before .before .before .before in
-    omega (arith, start .pre .1 .1)
+    let start = c .before .before .before .before .before .before .before .before .before .before .before .before .before .before .before .before .before .before .before .before .before .before .before .before .before .before .before .before .before .before .before .before .before .before .before .before .before .before .before .before .before in
+    omega (arith, start .pre .1 .1 .1)
 
 part-put-groups-end : tie.Need-part-put-groups-end
 part-put-groups-end c = search needs
@@ -42,8 +42,8 @@ put-groups-requires : tie.Need-put-groups-requires
 put-groups-requires c κs =
     let at-shifts-with = c .before .before .before .before .before .before .before .before .before .before .before .before .before .before .before .before in
     let at-begin = at-shifts-with .before .before .before .before .before .before .before .before .before .before .before .before .before in
-    let start = at-begin .before .before .before .before .before .before .before .before .before .before .before .before in
-    (record { p = (start .args .p); power = omega (arith, at-begin .begin .kept, at-shifts-with .shifts-with .kept, start .pre .1 .0 .of-x, start .pre .1 .0 .of-y, start .pre .1 .0 .of-z); same-y = omega (arith, at-begin .begin .kept, at-shifts-with .shifts-with .kept, start .pre .1 .0 .of-x, start .pre .1 .0 .of-y, start .pre .1 .0 .of-z); same-z = omega (arith, at-begin .begin .kept, at-shifts-with .shifts-with .kept, start .pre .1 .0 .of-x, start .pre .1 .0 .of-y, start .pre .1 .0 .of-z) }, simp (length-take, length-drop, length-append) (omega (arith, at-begin .begin .kept, at-shifts-with .shifts-with .kept, start .pre .1 .0 .of-x, start .pre .1 .0 .of-y, start .pre .1 .0 .of-z, start .pre .1 .1, pow-pos (start .args .p), ap length (at-shifts-with .shifts-with .ensures .1) ∙ shifts-length (start .args .p) (start .args .weights .now) (start .args .costs .now))))
+    let start = at-begin .before .before .before .before .before .before .before .before .before .before .before .before .before in
+    (record { p = (start .args .p); power = omega (arith, at-begin .begin .kept, at-shifts-with .shifts-with .kept, start .pre .1 .1 .0 .of-x, start .pre .1 .1 .0 .of-y, start .pre .1 .1 .0 .of-z); same-y = omega (arith, at-begin .begin .kept, at-shifts-with .shifts-with .kept, start .pre .1 .1 .0 .of-x, start .pre .1 .1 .0 .of-y, start .pre .1 .1 .0 .of-z); same-z = omega (arith, at-begin .begin .kept, at-shifts-with .shifts-with .kept, start .pre .1 .1 .0 .of-x, start .pre .1 .1 .0 .of-y, start .pre .1 .1 .0 .of-z) }, simp (length-take, length-drop, length-append) (omega (arith, at-begin .begin .kept, at-shifts-with .shifts-with .kept, start .pre .1 .1 .0 .of-x, start .pre .1 .1 .0 .of-y, start .pre .1 .1 .0 .of-z, start .pre .1 .1 .1, pow-pos (start .args .p), ap length (at-shifts-with .shifts-with .ensures .1) ∙ shifts-length (start .args .p) (start .args .weights .now) (start .args .costs .now))))
 
 same-length : tie.Need-same-length
 same-length c = search needs
@@ -67,9 +67,9 @@ returns : tie.Need-returns
 returns c =
     let at-shifts-with = c .before .before .before .before .before .before .before .before .before .before .before .before .before .before .before .before .before .before .before in
     let at-begin = at-shifts-with .before .before .before .before .before .before .before .before .before .before .before .before .before in
-    let at-shared-slice-known2 = at-begin .before .before .before .before .before .before .before .before .before .before in
+    let at-shared-slice-known2 = at-begin .before .before .before .before .before .before .before .before .before .before .before in
     let start = at-shared-slice-known2 .before .before in
-    record-done (start .args .p) (start .args .weights .now) (start .args .costs .now) (start .args .out .now) (start .pre .0) (λ i. omega (arith, at-shared-slice-known2 .shared-slice-known2 .given i)) _ _ _ (at-shifts-with .shifts-with .ensures .0) (omega (arith, at-begin .begin .kept, at-shifts-with .shifts-with .kept, start .pre .1 .0 .of-x)) _ refl (at-shifts-with .shifts-with .ensures .1) (c .before .before .put-groups .ensures)
+    record-done (start .args .p) (start .args .weights .now) (start .args .costs .now) (start .args .out .now) (start .pre .0) (λ i. omega (arith, at-shared-slice-known2 .shared-slice-known2 .given i)) _ _ _ (at-shifts-with .shifts-with .ensures .0) (omega (arith, at-begin .begin .kept, at-shifts-with .shifts-with .kept, start .pre .1 .1 .0 .of-x)) _ refl (at-shifts-with .shifts-with .ensures .1) (c .before .before .put-groups .ensures)
 
 pub record-with-spec : {M : Type 1} → statement M
 record-with-spec =

@@ -31,7 +31,7 @@ same-length-6 c = search needs
 returns : tie.Need-returns
 returns c =
     let at-columns = c .before .before .before .before .before .before .before .before .before .before .before .before .before .before .before .before in
-    let start = at-columns .before .before .before .before .before .before .before .before .before .before .before .before .before .before .before in
+    let start = at-columns .before .before .before .before .before .before .before .before .before .before .before .before .before .before .before .before in
     (at-columns .columns .ensures .1 .0, shifts-law (start .args .p) (start .args .weights .now) (start .args .costs .now) (at-columns .columns .ensures .0) (at-columns .columns .ensures .1 .1) (c .before .before .shift-all .ensures))
 
 pub shifts-with-spec : {M : Type 1} → statement M

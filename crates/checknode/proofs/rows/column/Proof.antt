@@ -17,8 +17,8 @@ slice-read-s c = search needs
 scatter-requires : tie.Need-scatter-requires
 scatter-requires c κs =
     let at-fill = c .before .before .before .before .before .before in
-    let start = at-fill .before .before .before .before .before .before .before .before in
-    (column-placed (start .args .p) (start .args .h) (start .args .costs .now) (start .args .line .now) (start .pre .0) (at-fill .fill .ensures) (c .before .before .before .first-zero .ensures .0) (start .pre .1 .1 .1 .1) (start .pre .1 .1 .1 .0) (omega arith), omega arith)
+    let start = at-fill .before .before .before .before .before .before .before .before .before in
+    (column-placed (start .args .p) (start .args .h) (start .args .costs .now) (start .args .line .now) (start .pre .0) (at-fill .fill .ensures) (c .before .before .before .first-zero .ensures .0) (start .pre .1 .1 .1 .1 .1) (start .pre .1 .1 .1 .1 .0) (omega arith), omega arith)
 
 merge-requires : tie.Need-merge-requires
 merge-requires c κs = search needs
@@ -44,8 +44,8 @@ returns c =
     let at-scatter = at-merge .before .before .before .before .before .before .before in
     let at-first-zero = at-scatter .before .before .before .before in
     let at-fill = at-first-zero .before .before .before in
-    let start = at-fill .before .before .before .before .before .before .before .before in
-    (column-term (start .args .p) (start .args .h) (start .args .costs .now) (at-fill .fill .ensures) (at-first-zero .first-zero .ensures .0) (start .pre .1 .1 .1 .1), column-done (start .args .p) (start .args .h) (start .args .n) (start .args .costs .now) (start .args .line .now) _ (at-fill .fill .ensures) (at-first-zero .first-zero .ensures .0) (start .pre .1 .1 .1 .1) (start .pre .1 .1 .1 .0) (at-scatter .scatter .ensures) (at-merge .merge .ensures))
+    let start = at-fill .before .before .before .before .before .before .before .before .before in
+    (column-term (start .args .p) (start .args .h) (start .args .costs .now) (at-fill .fill .ensures) (at-first-zero .first-zero .ensures .0) (start .pre .1 .1 .1 .1 .1), column-done (start .args .p) (start .args .h) (start .args .n) (start .args .costs .now) (start .args .line .now) _ (at-fill .fill .ensures) (at-first-zero .first-zero .ensures .0) (start .pre .1 .1 .1 .1 .1) (start .pre .1 .1 .1 .1 .0) (at-scatter .scatter .ensures) (at-merge .merge .ensures))
 
 pub column-spec : {M : Type 1} → statement M
 column-spec =

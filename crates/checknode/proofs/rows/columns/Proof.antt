@@ -16,25 +16,25 @@ use Rattle.checknode.proofs.rows.columns.Statement.{statement}
 use Rattle.checknode.proofs.rows.columns.Tie as tie
 
 abbrev Inv-loop : tie.InvT-loop
-Inv-loop p weights costs row₀ line₀ k0₀ k1₀ k2₀ out₀ w sum₀ n₀ row line k0 k1 k2 out sum n = (n ≤ length weights) × ((Sizes p row line k0 k1 k2) × (((length out ≡ length out₀) × (w ≡ 2 ^ p)) × ((rowsOf k0 k1 k2 ≡ filled (keysOf p weights costs) (2 ^ p) n) × ((out ≡ tab (termOf p weights costs) n ++ drop n out₀) × (sum ≡ sumTo (termOf p weights costs) n)))))
+Inv-loop p weights costs table row₀ line₀ k0₀ k1₀ k2₀ out₀ w sum₀ n₀ row line k0 k1 k2 out sum n = (n ≤ length weights) × ((Sizes p row line k0 k1 k2) × (((length out ≡ length out₀) × (w ≡ 2 ^ p)) × ((rowsOf k0 k1 k2 ≡ filled (keysOf p weights costs) (2 ^ p) n) × ((out ≡ tab (termOf p weights costs) n ++ drop n out₀) × (sum ≡ sumTo (termOf p weights costs) n)))))
 
 abbrev μ-loop : tie.MeasureT-loop
-μ-loop p weights costs row₀ line₀ k0₀ k1₀ k2₀ out₀ w sum₀ n₀ row line k0 k1 k2 out sum n = length weights - n
+μ-loop p weights costs table row₀ line₀ k0₀ k1₀ k2₀ out₀ w sum₀ n₀ row line k0 k1 k2 out sum n = length weights - n
 
 loop-holds : tie.Need-loop-holds Inv-loop μ-loop
 unfolding filled
 loop-holds c =
-    let start = c .before .before .before .before .before .before .before .before in
-    (omega arith, (start .pre .1 .0, ((refl, start .pre .1 .0 .of-line), (start .pre .1 .1 .1, (refl, refl)))))
+    let start = c .before .before .before .before .before .before .before .before .before in
+    (omega arith, (start .pre .1 .1 .0, ((refl, start .pre .1 .1 .0 .of-line), (start .pre .1 .1 .1 .1, (refl, refl)))))
 
 mul-a : tie.Need-mul-a Inv-loop μ-loop
 mul-a c =
-    let start = c .before .before .before .before .before .before .before .before .before .before in
+    let start = c .before .before .before .before .before .before .before .before .before .before .before in
     omega (arith, part-room (start .args .p) (start .args .weights .now) (start .args .costs .now) (start .pre .0) (c .before .loop .n) (omega arith) _ (c .before .loop .inv .1 .1 .0 .1))
 
 add-e : tie.Need-add-e Inv-loop μ-loop
 add-e c =
-    let start = c .before .before .before .before .before .before .before .before .before .before in
+    let start = c .before .before .before .before .before .before .before .before .before .before .before in
     omega (arith, part-room (start .args .p) (start .args .weights .now) (start .args .costs .now) (start .pre .0) (c .before .loop .n) (omega arith) _ (c .before .loop .inv .1 .1 .0 .1))
 
 shared-slice-read-column : tie.Need-shared-slice-read-column Inv-loop μ-loop
@@ -49,7 +49,7 @@ part-column-start c = search needs
 part-column-end : tie.Need-part-column-end Inv-loop μ-loop
 part-column-end c =
     let at-loop = c .before .before in
-    let start = at-loop .before .before .before .before .before .before .before .before .before in
+    let start = at-loop .before .before .before .before .before .before .before .before .before .before in
     omega (arith, part-room (start .args .p) (start .args .weights .now) (start .args .costs .now) (start .pre .0) (at-loop .loop .n) (omega arith) _ (at-loop .loop .inv .1 .1 .0 .1))
 
 cast-column : tie.Need-cast-column Inv-loop μ-loop
@@ -58,15 +58,15 @@ cast-column c = search needs
 column-requires : tie.Need-column-requires Inv-loop μ-loop
 column-requires c κs =
     let at-loop = c .before .before .before .before .before .before .before .before in
-    let start = at-loop .before .before .before .before .before .before .before .before .before in
-    (ready-times (start .args .p) (start .args .weights .now) (start .args .costs .now) (start .pre .0) (at-loop .loop .n) (omega arith), ((at-loop .loop .inv .1 .0), ((omega (arith, start .pre .0 .few)), (ap length (part-is (start .args .p) (start .args .weights .now) (start .args .costs .now) (start .pre .0) (at-loop .loop .n) (omega arith) _ (at-loop .loop .inv .1 .1 .0 .1)) ∙ costs-length (start .args .p) (start .args .weights .now) (start .args .costs .now) (start .pre .0) (at-loop .loop .n) (omega arith), rw (part-is (start .args .p) (start .args .weights .now) (start .args .costs .now) (start .pre .0) (at-loop .loop .n) (omega arith) _ (at-loop .loop .inv .1 .1 .0 .1)) (start .pre .0 .zeros (at-loop .loop .n) (omega arith))))))
+    let start = at-loop .before .before .before .before .before .before .before .before .before .before in
+    (ready-times (start .args .p) (start .args .weights .now) (start .args .costs .now) (start .pre .0) (at-loop .loop .n) (omega arith), (start .pre .1 .0, ((at-loop .loop .inv .1 .0), ((omega (arith, start .pre .0 .few)), (ap length (part-is (start .args .p) (start .args .weights .now) (start .args .costs .now) (start .pre .0) (at-loop .loop .n) (omega arith) _ (at-loop .loop .inv .1 .1 .0 .1)) ∙ costs-length (start .args .p) (start .args .weights .now) (start .args .costs .now) (start .pre .0) (at-loop .loop .n) (omega arith), rw (part-is (start .args .p) (start .args .weights .now) (start .args .costs .now) (start .pre .0) (at-loop .loop .n) (omega arith) _ (at-loop .loop .inv .1 .1 .0 .1)) (start .pre .0 .zeros (at-loop .loop .n) (omega arith)))))))
 
 slice-write-out : tie.Need-slice-write-out Inv-loop μ-loop
 slice-write-out c =
     let at-test = c .before .before .before .before .before .before .before .before .before .before .before .before .before .before .before .before .before .before in
     let at-loop = at-test .before in
-    let start = at-loop .before .before .before .before .before .before .before .before .before in
-    let f : length (start .args .out .now) ≡ length (start .args .weights .now) = start .pre .1 .1 .0 in
+    let start = at-loop .before .before .before .before .before .before .before .before .before .before in
+    let f : length (start .args .out .now) ≡ length (start .args .weights .now) = start .pre .1 .1 .1 .0 in
     omega (arith, at-test .loop-test .taken, at-loop .loop .inv .1 .1 .0 .0)
 
 add-n : tie.Need-add-n Inv-loop μ-loop
@@ -80,8 +80,8 @@ loop-again c =
     let at-column = c .before .before .before .before .before .before .before .before .before .before in
     let at-test = at-column .before .before .before .before .before .before .before .before in
     let at-loop = at-test .before in
-    let start = at-loop .before .before .before .before .before .before .before .before .before in
-    let f : length (start .args .out .now) ≡ length (start .args .weights .now) = start .pre .1 .1 .0 in
+    let start = at-loop .before .before .before .before .before .before .before .before .before .before in
+    let f : length (start .args .out .now) ≡ length (start .args .weights .now) = start .pre .1 .1 .1 .0 in
     let t = term-turn (start .args .p) (start .args .weights .now) (start .args .costs .now) (start .pre .0) (at-loop .loop .n) (omega arith) _ (at-loop .loop .inv .1 .1 .0 .1) (at-column .column .ensures .0) in (
       omega arith,
       (
@@ -119,9 +119,9 @@ same-length-6 c = search needs
 
 returns : tie.Need-returns Inv-loop μ-loop
 returns c =
-    let start = c .before .before .before .before .before .before .before .before .before .before in
+    let start = c .before .before .before .before .before .before .before .before .before .before .before in
     let e : (c .before .loop .n) ≡ length (start .args .weights .now) = omega arith in
-    let f : length (start .args .out .now) ≡ length (start .args .weights .now) = start .pre .1 .1 .0 in
+    let f : length (start .args .out .now) ≡ length (start .args .weights .now) = start .pre .1 .1 .1 .0 in
     (cc, (cc, ((c .before .loop .inv .1 .1 .1 .1 .0)) ∙ rw (e, ← f) (tab-whole (termOf (start .args .p) (start .args .weights .now) (start .args .costs .now)) (start .args .out .now))))
 
 pub columns-spec : {M : Type 1} → statement M
