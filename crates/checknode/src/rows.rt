@@ -124,18 +124,8 @@ pub fn columns(
     while n < weights.len() {
         let a = n * w;
         let e = a + w;
-        let s = column(
-            p,
-            weights[n],
-            &costs[a..e],
-            n as u16,
-            table,
-            row,
-            line,
-            k0,
-            k1,
-            k2,
-        );
+        let h = weights[n];
+        let s = column(p, h, &costs[a..e], n as u16, table, row, line, k0, k1, k2);
         out[n] = s;
         sum = sum ^ s;
         n += 1;

@@ -4171,7 +4171,7 @@ const PRODUCTS: [u8; 4096] = [
     42, // 63 times 63
 ];
 
-// The whole table, for a caller to hand on.
+// The whole table, taken once a call and handed on as a slice: a constant is copied to the stack wherever it is indexed or handed on.
 pub fn products() -> [u8; 4096]
     ensures { λ r. ⌜ r ≡ productTable ⌝ }
 {

@@ -37,8 +37,8 @@ add-e c =
     let start = c .before .before .before .before .before .before .before .before .before .before .before in
     omega (arith, part-room (start .args .p) (start .args .weights .now) (start .args .costs .now) (start .pre .0) (c .before .loop .n) (omega arith) _ (c .before .loop .inv .1 .1 .0 .1))
 
-shared-slice-read-column : tie.Need-shared-slice-read-column Inv-loop μ-loop
-shared-slice-read-column c = search needs
+shared-slice-read-h : tie.Need-shared-slice-read-h Inv-loop μ-loop
+shared-slice-read-h c = search needs
 
 sub-column : tie.Need-sub-column Inv-loop μ-loop
 sub-column c = search needs
@@ -133,7 +133,7 @@ columns-spec =
     loop-holds
     mul-a
     add-e
-    shared-slice-read-column
+    shared-slice-read-h
     sub-column
     part-column-start
     part-column-end
