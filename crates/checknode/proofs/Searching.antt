@@ -1,20 +1,157 @@
 -- What the search functions compute, from their callees' equations: each mirrors its definition in the engine's Keys.
-use mathlib.Core.Path.{_≡_, refl}
+use mathlib.Core.Path.{_≡_, refl, ap, _∙_}
 use mathlib.Core.Bool.{Bool, true, false}
+use mathlib.Core.Logic.{_≢_, inl, inr}
 use mathlib.Core.List.{List, [], _∷_}
-use Prim.Native.Nat.{ℕ, _+_, _/_, _%_, _≤_, _<_, min, max}
+use Prim.Native.Nat.{ℕ, zero, suc, _+_, _*_, _-_, _/_, _%_, _≤_, _<_, min, max}
+use native.Mathlib.Nat.{suc-mul, mul-le-mul-right, add-sub-cancel-left}
 use native.Mathlib.Omega.{arith}
+use borrow.Author.Tests.{le-ltb, le-leb, lt-leb, eq-eqb, ne-eqb}
 use lib.Bits.{bitXor, xor-lt}
-use lib.ListN.{length, getD, set}
-use lib.Dec.{ltb}
-use Rattle.trellis.specs.Lists.{pick}
+use lib.ListN.{length, getD, set, take, drop, length-take, length-drop}
+use lib.Dec.{ltb, leb, eqb}
+use Rattle.trellis.specs.Lists.{pick, upto}
 use Rattle.trellis.specs.Field.{xor}
-use Rattle.engine.specs.Keys.{joined, cheapAt, pairAt, tryAt, bestOf, secondOf, fiveOf, groupFrom, groupOf}
-use Rattle.checknode.specs.Asks.{Sized}
-use borrow.Author.Tests.{le-ltb, le-leb, lt-leb}
+use Rattle.engine.specs.Keys.{joined, pairOf, leftOf, rightOf, leftAt, rightAt, singleAt, tryAt, bestOf, secondOf, fiveOf, groupFrom, groupOf}
+use Rattle.checknode.specs.Asks.{Rowed, Tabled, wordsAt}
+use Rattle.engine.proofs.Pairs.{Reach, best-reach}
 
-pub row-below : (X Y Z : List ℕ) → Sized X Y Z → (a b : ℕ) → a < length X → b < length X → bitXor a b < length X
-row-below X Y Z S a b h k = rw (S .power) (xor-lt (S .p) a b (rw (S .power) at h) (rw (S .power) at k))
+pub row-below : (W : List ℕ) → Rowed W → (a b : ℕ) → a < length W → b < length W → bitXor a b < length W
+row-below W S a b h k = rw (S .power) (xor-lt (S .p) a b (rw (S .power) at h) (rw (S .power) at k))
+
+joined-sum : (u v : ℕ) → joined _+_ u v ≡ u + v
+unfolding joined
+joined-sum u v = omega arith
+
+module _ (u v : ℕ) where
+  abbrev x : ℕ
+  x = u / 65536
+
+  abbrev y : ℕ
+  y = u % 65536
+
+  abbrev s : ℕ
+  s = v / 65536
+
+  abbrev t : ℕ
+  t = v % 65536
+
+  pub pair-shared : {r : ℕ} → x % 256 ≡ s % 256 → r ≡ min (x + t) (y + s) → r ≡ pairOf _+_ u v
+  unfolding pairOf
+  pair-shared e o = simp (eq-eqb _ _ e, joined-sum) o
+
+  pub pair-apart : x % 256 ≢ s % 256 → x + s ≡ pairOf _+_ u v
+  unfolding pairOf
+  pair-apart e = simp (ne-eqb _ _ e, joined-sum)
+
+  pub left-apart : x % 256 ≢ s % 256 → x ≡ leftOf _+_ u v
+  unfolding leftOf
+  left-apart e = simp (ne-eqb _ _ e)
+
+  pub left-first : x % 256 ≡ s % 256 → x + t ≤ y + s → x ≡ leftOf _+_ u v
+  unfolding leftOf
+  left-first e l = simp (eq-eqb _ _ e, joined-sum, le-leb _ _ l)
+
+  pub left-next : x % 256 ≡ s % 256 → y + s < x + t → y ≡ leftOf _+_ u v
+  unfolding leftOf
+  left-next e l = simp (eq-eqb _ _ e, joined-sum, lt-leb _ _ l)
+
+  pub right-apart : x % 256 ≢ s % 256 → s ≡ rightOf _+_ u v
+  unfolding rightOf
+  right-apart e = simp (ne-eqb _ _ e)
+
+  pub right-next : x % 256 ≡ s % 256 → x + t ≤ y + s → t ≡ rightOf _+_ u v
+  unfolding rightOf
+  right-next e l = simp (eq-eqb _ _ e, joined-sum, le-leb _ _ l)
+
+  pub right-first : x % 256 ≡ s % 256 → y + s < x + t → s ≡ rightOf _+_ u v
+  unfolding rightOf
+  right-first e l = simp (eq-eqb _ _ e, joined-sum, lt-leb _ _ l)
+
+module _ (W : List ℕ) (a : ℕ) where
+  pub try-both : (b e : ℕ) {p r : ℕ} → b ≤ bitXor a b → p ≡ pairOf _+_ (getD W b 0) (getD W (bitXor a b) 0) → r ≡ min e (p * 64 + b) → r ≡ tryAt _+_ W a b e
+  unfolding tryAt xor
+  try-both b e h q o = rw (o, q) (simp (le-ltb _ _ h))
+
+  -- one row more
+  pub best-more : (b : ℕ) {e r : ℕ} → 1 ≤ b → e ≡ upto (λ i e. tryAt _+_ W a (suc i) e) (b - 1) (singleAt W a) → r ≡ tryAt _+_ W a b e
+      → r ≡ upto (λ i e. tryAt _+_ W a (suc i) e) (b + 1 - 1) (singleAt W a)
+  best-more zero l e o = absurd (omega arith)
+  best-more (suc b) l e o =
+      let h : suc b - 1 ≡ b = omega arith in
+      let k : suc b + 1 - 1 ≡ suc b = omega arith in
+      rw (o, e, h, k)
+
+-- a table of words
+module _ (q d : ℕ) (t : List ℕ) (B : Tabled q d t) where
+  pub room : (m : ℕ) → m ≤ d → (m * q + q ≤ length t) × (m * q + q ≤ 2112)
+  room m l =
+      let a : suc m * q ≤ (d + 1) * q = mul-le-mul-right q (omega arith) in
+      let b : (d + 1) * q ≤ 33 * q = mul-le-mul-right q (omega (arith, B .few)) in
+      (omega (arith, suc-mul m q, B .long), omega (arith, suc-mul m q, B .limit))
+
+  pub words-long : (m : ℕ) → m ≤ d → length (wordsAt t q m) ≡ q
+  words-long m l = simp (length-take, length-drop) (omega (arith, room m l .0))
+
+  pub rowed : (m : ℕ) → m ≤ d → Rowed (wordsAt t q m)
+  rowed m l = record { p = B .p; power = words-long m l ∙ B .power; limit = omega (arith, words-long m l, B .limit) }
+
+  pub without-law : (m a : ℕ) → m ≤ d → {r : ℕ} → r ≡ bestOf _+_ (take (m * q + q - m * q) (drop (m * q) t)) (length (take (m * q + q - m * q) (drop (m * q) t))) a
+      → r ≡ bestOf _+_ (wordsAt t q m) q a
+  without-law m a l o = (rw (add-sub-cancel-left (m * q) q) at o) ∙ ap (λ n. bestOf _+_ (wordsAt t q m) n a) (words-long m l)
+
+  abbrev W : List ℕ
+  W = wordsAt t q d
+
+  -- the row of the cheapest choice
+  pub row-in : (a : ℕ) → a < q → bestOf _+_ W q a % 64 < q
+  row-in a l = go (best-reach _+_ W q a l (B .limit))
+    where
+      go : Reach _+_ W q a l (B .limit) (bestOf _+_ W q a) → bestOf _+_ W q a % 64 < q
+      go (inl h) = omega (arith, h .0)
+      go (inr h) = h .1 .0
+
+  other : (a b : ℕ) → a < q → b < q → xor a b < q
+  unfolding xor
+  other a b h k = rw (B .power) (xor-lt (B .p) a b (rw (B .power) at h) (rw (B .power) at k))
+
+  -- its columns
+  abbrev first : ℕ → ℕ → Bool
+  first a b = leb (joined _+_ (getD W b 0 / 65536) (getD W (xor a b) 0 % 65536)) (joined _+_ (getD W b 0 % 65536) (getD W (xor a b) 0 / 65536))
+
+  pub left-in : (a b : ℕ) → a < q → b < q → leftAt _+_ W a b < d
+  unfolding leftAt leftOf
+  left-in a b h k = go (eqb b 0) (eqb (getD W b 0 / 65536 % 256) (getD W (xor a b) 0 / 65536 % 256)) (first a b)
+    where
+      go : (x y z : Bool) → pick x (getD W a 0 / 65536 % 256) (pick y (pick z (getD W b 0 / 65536) (getD W b 0 % 65536)) (getD W b 0 / 65536) % 256) < d
+      go true y z = B .inside a h .0
+      go false true true = B .inside b k .0
+      go false true false = B .inside b k .1
+      go false false z = B .inside b k .0
+
+  pub right-in : (a b : ℕ) → a < q → b < q → rightAt _+_ W a b < d
+  unfolding rightAt rightOf
+  right-in a b h k = go (eqb b 0) (eqb (getD W b 0 / 65536 % 256) (getD W (xor a b) 0 / 65536 % 256)) (first a b)
+    where
+      go : (x y z : Bool) → pick x (getD W a 0 / 65536 % 256) (pick y (pick z (getD W (xor a b) 0 % 65536) (getD W (xor a b) 0 / 65536)) (getD W (xor a b) 0 / 65536) % 256) < d
+      go true y z = B .inside a h .0
+      go false true true = B .inside (xor a b) (other a b h k) .1
+      go false true false = B .inside (xor a b) (other a b h k) .0
+      go false false z = B .inside (xor a b) (other a b h k) .0
+
+-- what a group's search has found in the words w that leave no column out
+module _ (q d : ℕ) (t : List ℕ) (B : Tabled q d t) (w : List ℕ) (e : w ≡ wordsAt t q d) (a : ℕ) (l : a < q) where
+  pub found-best : {g : ℕ} → g ≡ bestOf _+_ w (length w) a → g ≡ bestOf _+_ (wordsAt t q d) q a
+  found-best o = (rw e at o) ∙ ap (λ n. bestOf _+_ (wordsAt t q d) n a) (words-long q d t B d (omega arith))
+
+  pub found-row : {g : ℕ} → g ≡ bestOf _+_ w (length w) a → g % 64 < q
+  found-row o = rw (found-best o) (row-in q d t B a l)
+
+  pub found-left : {b i : ℕ} → b < q → i ≡ leftAt _+_ w a b → i < d
+  found-left {b} h o = rw (o, e) (left-in q d t B a b l h)
+
+  pub found-right : {b i : ℕ} → b < q → i ≡ rightAt _+_ w a b → i < d
+  found-right {b} h o = rw (o, e) (right-in q d t B a b l h)
 
 pub five-sets : (l : List ℕ) (a b c d e : ℕ) → length l ≡ 5 → set (set (set (set (set l 0 a) 1 b) 2 c) 3 d) 4 e ≡ a ∷ b ∷ c ∷ d ∷ e ∷ []
 five-sets (v ∷ w ∷ x ∷ y ∷ z ∷ []) a b c d e h = refl
@@ -25,25 +162,11 @@ five-sets (v ∷ w ∷ x ∷ []) a b c d e h = absurd (omega arith)
 five-sets (v ∷ w ∷ x ∷ y ∷ []) a b c d e h = absurd (omega arith)
 five-sets (v ∷ w ∷ x ∷ y ∷ z ∷ u ∷ l) a b c d e h = absurd (omega arith)
 
-pub pair-law : (X Y Z : List ℕ) (b c m : ℕ) {u v s t x y r : ℕ} → u ≡ cheapAt X Y Z b m m → v ≡ cheapAt X Y Z c m (u % 256) → t ≡ cheapAt X Y Z c m m → s ≡ cheapAt X Y Z b m (t % 256)
-    → x ≡ joined _+_ u v → y ≡ joined _+_ s t → r ≡ min x y → r ≡ pairAt _+_ X Y Z b c m
-unfolding pairAt
-pair-law X Y Z b c m p q k l i j o = rw (o, i, j, q, l, p, k)
-
-module _ (X Y Z : List ℕ) (a m b e : ℕ) where
-  pub try-cut : {s : ℕ} → b ≤ bitXor a b → e / 65536 ≤ s → s ≡ getD X b 0 / 256 + getD X (bitXor a b) 0 / 256 → e ≡ tryAt _+_ X Y Z a m b e
-  unfolding tryAt xor
-  try-cut h k s = let l : e / 65536 ≤ getD X b 0 / 256 + getD X (bitXor a b) 0 / 256 = omega arith in simp (le-ltb _ _ h, le-leb _ _ l)
-
-  pub try-both : {s p r : ℕ} → b ≤ bitXor a b → s < e / 65536 → s ≡ getD X b 0 / 256 + getD X (bitXor a b) 0 / 256 → p ≡ pairAt _+_ X Y Z b (bitXor a b) m → r ≡ min e p → r ≡ tryAt _+_ X Y Z a m b e
-  unfolding tryAt xor
-  try-both h k s q o = let l : getD X b 0 / 256 + getD X (bitXor a b) 0 / 256 < e / 65536 = omega arith in rw (o, q) (simp (le-ltb _ _ h, lt-leb _ _ l))
-
-module _ (X Y Z : List ℕ) (q a : ℕ) where
-  pub group-law : {g e i j m n w h s t : ℕ} → g ≡ bestOf _+_ X Y Z q a 255 → e ≡ g / 65536 → i ≡ g / 256 % 256 → j ≡ g % 256 → m ≡ min i j → n ≡ max i j
-      → w ≡ m → h ≡ bestOf _+_ X Y Z q a w → s ≡ h / 65536 → t ≡ secondOf _+_ X Y Z q a m n e → fiveOf e m s n t ≡ groupOf _+_ X Y Z q a
+module _ (T : ℕ → List ℕ) (q d a : ℕ) where
+  pub group-law : {g e b i j m n s t : ℕ} → g ≡ bestOf _+_ (T d) q a → e ≡ g / 16384 → b ≡ g % 64 → i ≡ leftAt _+_ (T d) a b → j ≡ rightAt _+_ (T d) a b → m ≡ min i j → n ≡ max i j
+      → s ≡ bestOf _+_ (T m) q a / 16384 → t ≡ secondOf _+_ T q a m n e → fiveOf e m s n t ≡ groupOf _+_ T q d a
   unfolding groupFrom
-  group-law p e i j m n w h s t = rw (t, s, h, w, n, m, i, j, e, p)
+  group-law p e b i j m n s t = rw (t, s, n, m, i, j, b, e, p)
 
 pub five-length : (e m s n t : ℕ) → length (fiveOf e m s n t) ≡ 5
 unfolding fiveOf
@@ -55,6 +178,6 @@ five-length e m s n t = go (ltb e s) (ltb e t)
     go false true = refl
     go false false = refl
 
-pub group-length : (X Y Z : List ℕ) (q a g : ℕ) → length (groupFrom _+_ X Y Z q a g) ≡ 5
+pub group-length : (T : ℕ → List ℕ) (q a e i j : ℕ) → length (groupFrom _+_ T q a e i j) ≡ 5
 unfolding groupFrom
-group-length X Y Z q a g = five-length _ _ _ _ _
+group-length T q a e i j = five-length _ _ _ _ _

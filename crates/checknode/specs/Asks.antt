@@ -3,10 +3,10 @@ use mathlib.Core.Path.{_≡_}
 use mathlib.Core.Bool.{Bool, false}
 use mathlib.Core.Logic.{_≢_}
 use mathlib.Core.List.{List, map}
-use Prim.Native.Nat.{ℕ, _+_, _-_, _*_, _^_, _≤_, _<_}
+use Prim.Native.Nat.{ℕ, _+_, _-_, _*_, _/_, _%_, _^_, _≤_, _<_}
 use lib.Dec.{eqb, ltb, leb}
 use lib.ListN.{length, getD, take, drop}
-use Rattle.trellis.specs.Lists.{upTo, tab, pick, allTo}
+use Rattle.trellis.specs.Lists.{upTo, tab, part, pick, allTo}
 use Rattle.trellis.specs.Field.{xor, product}
 use Rattle.trellis.specs.Check.{firstZero}
 use Rattle.trellis.specs.Record.{pairsOk, besideGroup, expandAt}
@@ -16,12 +16,24 @@ use Rattle.engine.specs.Ready.{termOf, sumTo}
 use Rattle.checknode.specs.Answers.{weightCases}
 use Rattle.checknode.specs.Table.{productTable}
 
--- three lists of one key for each of 2 ^ p rows
-pub record Sized (X Y Z : List ℕ) : Type 0 where
+-- one word for each of 2 ^ p rows
+pub record Rowed (W : List ℕ) : Type 0 where
   pub p : ℕ
-  pub power : length X ≡ 2 ^ p
-  pub same-y : length Y ≡ length X
-  pub same-z : length Z ≡ length X
+  pub power : length W ≡ 2 ^ p
+  pub limit : length W ≤ 64
+
+-- the words of q rows without column m
+abbrev pub wordsAt : List ℕ → ℕ → ℕ → List ℕ
+wordsAt t q m = part t (m * q) q
+
+-- a table of words without each of d columns and without none, whose keys stand in these columns
+pub record Tabled (q d : ℕ) (t : List ℕ) : Type 0 where
+  pub p : ℕ
+  pub power : q ≡ 2 ^ p
+  pub limit : q ≤ 64
+  pub few : d ≤ 32
+  pub long : length t ≡ (d + 1) * q
+  pub inside : (b : ℕ) → b < q → (getD (wordsAt t q d) b 0 / 65536 % 256 < d) × (getD (wordsAt t q d) b 0 % 65536 % 256 < d)
 
 -- each symbol's row is below 2 ^ p
 pub record Placed (costs row : List ℕ) (s : ℕ) (line : List ℕ) : Type 0 where

@@ -9,6 +9,7 @@ mod rows;
 mod search;
 mod table;
 mod tests;
+mod words;
 
 ghost use mathlib.Core.Path.{_≡_};
 ghost use Rattle.checknode.specs.Answers.{elementReply, productReply, writtenReply, checkReply, checkLeaves, expandReply, expandLeaves};

@@ -21,6 +21,12 @@ pub fn whole(x: u16) -> u32
     x as u32
 }
 
+pub fn place(x: u32) -> usize
+    ensures { λ r. ⌜ r ≡ x ⌝ }
+{
+    x as usize
+}
+
 pub fn byte(x: u32) -> u8
     requires { ⌜ x < 256 ⌝ }
     ensures { λ r. ⌜ r ≡ x ⌝ }

@@ -2,8 +2,9 @@
 use crate::rows;
 use crate::search;
 use crate::table;
+use crate::words;
 ghost use mathlib.Core.Path.{_≡_};
-ghost use Prim.Native.Nat.{_^_, _≤_};
+ghost use Prim.Native.Nat.{_+_, _*_, _^_, _≤_};
 ghost use lib.ListN.{length};
 ghost use Rattle.trellis.specs.Record.{recordOf, recordLength};
 ghost use Rattle.trellis.specs.Rules.{ruleFor, columnsOf};
@@ -56,16 +57,19 @@ fn record_with(
     k0: &mut [u16],
     k1: &mut [u16],
     k2: &mut [u16],
+    without: &mut [u32],
     out: &mut [u8],
 )
     requires { ⌜ Ready p (now weights) (now costs) ⌝ }
     requires { ⌜ TableFor p (now table) ⌝ }
     requires { ⌜ Sizes p (now row) (now line) (now k0) (now k1) (now k2) ⌝ }
+    requires { ⌜ length (now without) ≡ (length (now weights) + 1) * 2 ^ p ⌝ }
     requires { ⌜ length (now out) ≡ recordLength (ruleFor p) (length (now weights)) ⌝ }
     ensures { λ _. ⌜ now (out .exit) ≡ recordOf (ruleFor p) (columnsOf (2 ^ p) (now (weights .entry)) (now (costs .entry))) ⌝ }
 {
     begin(k0, k1, k2);
     let d = weights.len();
+    let q = row.len();
     let e = out.len();
     shifts_with(
         p,
@@ -79,7 +83,8 @@ fn record_with(
         k2,
         &mut out[..d],
     );
-    search::put_groups(k0, k1, k2, &mut out[d..e]);
+    words::fill(k0, k1, k2, d, without);
+    search::put_groups(without, q, d, &mut out[d..e]);
 }
 
 // The parts of the room that the check takes.
@@ -94,14 +99,17 @@ fn record_room(
     k0: &mut [u16],
     k1: &mut [u16],
     k2: &mut [u16],
+    without: &mut [u32],
     out: &mut [u8],
 )
     requires { ⌜ Ready p (now weights) (now costs) ⌝ }
     requires { ⌜ TableFor p (now table) ⌝ }
     requires { ⌜ ((w ≤ length (now row)) × (w ≤ length (now line))) × ((w ≤ length (now k0)) × ((w ≤ length (now k1)) × (w ≤ length (now k2)))) ⌝ }
+    requires { ⌜ (w ≤ 64) × (2112 ≤ length (now without)) ⌝ }
     requires { ⌜ (w ≡ 2 ^ p) × (length (now out) ≡ recordLength (ruleFor p) (length (now weights))) ⌝ }
     ensures { λ _. ⌜ now (out .exit) ≡ recordOf (ruleFor p) (columnsOf (2 ^ p) (now (weights .entry)) (now (costs .entry))) ⌝ }
 {
+    let n = (weights.len() + 1) * w;
     record_with(
         p,
         weights,
@@ -112,6 +120,7 @@ fn record_room(
         &mut k0[..w],
         &mut k1[..w],
         &mut k2[..w],
+        &mut without[..n],
         out,
     );
 }
@@ -129,6 +138,7 @@ fn with_room(p: u8, w: usize, weights: &[u8], costs: &[u8], table: &[u8], out: &
     let mut k0 = [0u16; 64];
     let mut k1 = [0u16; 64];
     let mut k2 = [0u16; 64];
+    let mut without = [0u32; 2112];
     record_room(
         p,
         w,
@@ -140,6 +150,7 @@ fn with_room(p: u8, w: usize, weights: &[u8], costs: &[u8], table: &[u8], out: &
         &mut k0,
         &mut k1,
         &mut k2,
+        &mut without,
         out,
     );
 }

@@ -1,122 +1,141 @@
-// The cheapest choices of one check, from the three cheapest entries of each row.
+// The cheapest choices of one check, from the words of its rows.
 use crate::num;
 ghost use mathlib.Core.Path.{_≡_};
 ghost use mathlib.Core.List.{[], _∷_};
-ghost use Prim.Native.Nat.{_+_, _-_, _*_, _/_, _≤_, _<_};
+ghost use Prim.Native.Nat.{_+_, _-_, _*_, _/_, _%_, _≤_, _<_};
 ghost use lib.ListN.{length, getD};
 ghost use Rattle.trellis.specs.Lists.{blocks};
-ghost use Rattle.engine.specs.Keys.{free, cheapest, joined, cheapAt, pairAt, singleAt, tryAt, bestOf, fiveOf, secondOf, groupOf};
-ghost use Rattle.checknode.specs.Asks.{Sized};
+ghost use Rattle.engine.specs.Keys.{pairOf, leftOf, rightOf, leftAt, rightAt, singleAt, tryAt, bestOf, fiveOf, secondOf, groupOf};
+ghost use Rattle.checknode.specs.Asks.{Rowed, Tabled, wordsAt};
 
-// Whether the key's column, its remainder by 256, is neither m nor n.
-fn avoids(k: u16, m: u16, n: u16) -> bool
-    ensures { λ r. ⌜ r ≡ free k m n ⌝ }
+// The cheapest pair of two columns, from the words of two rows. Both sums are formed first, so that the choice between them takes no jump.
+fn pair_of(u: u32, v: u32) -> u32
+    ensures { λ r. ⌜ (r ≡ pairOf _+_ u v) × (r < 131072) ⌝ }
 {
-    if k % 256 == m {
-        return false;
+    let x = u / 65536;
+    let y = u % 65536;
+    let s = v / 65536;
+    let t = v % 65536;
+    let apart = x + s;
+    let shared = num::least(x + t, y + s);
+    if x % 256 == s % 256 { shared } else { apart }
+}
+
+// The key of that pair in the first row.
+fn left_of(u: u32, v: u32) -> u32
+    ensures { λ r. ⌜ r ≡ leftOf _+_ u v ⌝ }
+{
+    if u / 65536 % 256 != v / 65536 % 256 {
+        return u / 65536;
     }
-    k % 256 != n
-}
-
-// The first of three keys whose column is neither m nor n.
-fn pick_key(x: u16, y: u16, z: u16, m: u16, n: u16) -> u16
-    ensures { λ r. ⌜ r ≡ cheapest x y z m n ⌝ }
-{
-    if avoids(x, m, n) {
-        return x;
+    if u / 65536 + v % 65536 <= u % 65536 + v / 65536 {
+        return u / 65536;
     }
-    if avoids(y, m, n) {
-        return y;
+    u % 65536
+}
+
+// Its key in the second row.
+fn right_of(u: u32, v: u32) -> u32
+    ensures { λ r. ⌜ r ≡ rightOf _+_ u v ⌝ }
+{
+    if u / 65536 % 256 != v / 65536 % 256 {
+        return v / 65536;
     }
-    z
+    if u / 65536 + v % 65536 <= u % 65536 + v / 65536 {
+        return v % 65536;
+    }
+    v / 65536
 }
 
-// The same in row b.
-fn key_at(k0: &[u16], k1: &[u16], k2: &[u16], b: usize, m: u16, n: u16) -> u16
-    requires { ⌜ (b < length (now k0)) × ((b < length (now k1)) × (b < length (now k2))) ⌝ }
-    ensures { λ r. ⌜ r ≡ cheapAt (now (k0 .entry)) (now (k1 .entry)) (now (k2 .entry)) b m n ⌝ }
+// The first column of a choice for a with row b.
+fn left_at(w: &[u32], a: usize, b: usize) -> u8
+    requires { ⌜ Rowed (now w) ⌝ }
+    requires { ⌜ (a < length (now w)) × (b < length (now w)) ⌝ }
+    ensures { λ r. ⌜ r ≡ leftAt _+_ (now (w .entry)) a b ⌝ }
 {
-    pick_key(k0[b], k1[b], k2[b], m, n)
+    if b == 0 {
+        return num::byte(w[a] / 65536 % 256);
+    }
+    num::byte(left_of(w[b], w[a ^ b]) % 256)
 }
 
-// Two keys as one choice: the cost, then the two columns.
-fn join_keys(u: u16, v: u16) -> u32
-    ensures { λ r. ⌜ r ≡ joined _+_ u v ⌝ }
+// The second column, which is the first where b is 0.
+fn right_at(w: &[u32], a: usize, b: usize) -> u8
+    requires { ⌜ Rowed (now w) ⌝ }
+    requires { ⌜ (a < length (now w)) × (b < length (now w)) ⌝ }
+    ensures { λ r. ⌜ r ≡ rightAt _+_ (now (w .entry)) a b ⌝ }
 {
-    num::whole(u / 256 + v / 256) * 65536 + num::whole(u % 256) * 256 + num::whole(v % 256)
+    if b == 0 {
+        return num::byte(w[a] / 65536 % 256);
+    }
+    num::byte(right_of(w[b], w[a ^ b]) % 256)
 }
 
-// The cheapest choice of two columns other than m, of rows b and c.
-fn pair_at(k0: &[u16], k1: &[u16], k2: &[u16], b: usize, c: usize, m: u16) -> u32
-    requires { ⌜ (b < length (now k0)) × ((b < length (now k1)) × (b < length (now k2))) ⌝ }
-    requires { ⌜ (c < length (now k0)) × ((c < length (now k1)) × (c < length (now k2))) ⌝ }
-    ensures { λ r. ⌜ r ≡ pairAt _+_ (now (k0 .entry)) (now (k1 .entry)) (now (k2 .entry)) b c m ⌝ }
-{
-    let u = key_at(k0, k1, k2, b, m, m);
-    let v = key_at(k0, k1, k2, c, m, u % 256);
-    let t = key_at(k0, k1, k2, c, m, m);
-    let s = key_at(k0, k1, k2, b, m, t % 256);
-    num::least(join_keys(u, v), join_keys(s, t))
-}
-
-// The cheapest choice of one column other than m, of row a.
-fn single_at(k0: &[u16], k1: &[u16], k2: &[u16], a: usize, m: u16) -> u32
-    requires { ⌜ (a < length (now k0)) × ((a < length (now k1)) × (a < length (now k2))) ⌝ }
-    ensures { λ r. ⌜ (r ≡ singleAt (now (k0 .entry)) (now (k1 .entry)) (now (k2 .entry)) a m) × (r < 16777216) ⌝ }
-{
-    let u = key_at(k0, k1, k2, a, m, m);
-    num::whole(u / 256) * 65536 + num::whole(u % 256) * 256 + num::whole(u % 256)
-}
-
-// What no pair of rows b and c can cost less than.
-fn floor_of(k0: &[u16], b: usize, c: usize) -> u32
-    requires { ⌜ (b < length (now k0)) × (c < length (now k0)) ⌝ }
-    ensures { λ r. ⌜ r ≡ getD (now (k0 .entry)) b 0 / 256 + getD (now (k0 .entry)) c 0 / 256 ⌝ }
-{
-    num::whole(k0[b]) / 256 + num::whole(k0[c]) / 256
-}
-
-// The cheaper of e and the pairs of rows b and a + b.
-fn try_at(k0: &[u16], k1: &[u16], k2: &[u16], a: usize, m: u16, b: usize, e: u32) -> u32
-    requires { ⌜ Sized (now k0) (now k1) (now k2) ⌝ }
-    requires { ⌜ (a < length (now k0)) × (b < length (now k0)) ⌝ }
-    ensures { λ r. ⌜ (r ≡ tryAt _+_ (now (k0 .entry)) (now (k1 .entry)) (now (k2 .entry)) a m b e) × (r ≤ e) ⌝ }
+// The cheaper of e and the cheapest pair of rows b and a + b.
+fn try_at(w: &[u32], a: usize, b: usize, e: u32) -> u32
+    requires { ⌜ Rowed (now w) ⌝ }
+    requires { ⌜ (a < length (now w)) × (b < length (now w)) ⌝ }
+    ensures { λ r. ⌜ (r ≡ tryAt _+_ (now (w .entry)) a b e) × (r ≤ e) ⌝ }
 {
     let c = a ^ b;
     if c < b {
         return e;
     }
-    if e / 65536 <= floor_of(k0, b, c) {
-        return e;
-    }
-    num::least(e, pair_at(k0, k1, k2, b, c, m))
+    num::least(e, pair_of(w[b], w[c]) * 64 + b as u32)
 }
 
-// The cheapest choice of one or two columns other than m, for a.
-fn best_of(k0: &[u16], k1: &[u16], k2: &[u16], a: usize, m: u16) -> u32
-    requires { ⌜ Sized (now k0) (now k1) (now k2) ⌝ }
-    requires { ⌜ a < length (now k0) ⌝ }
-    ensures { λ r. ⌜ (r ≡ bestOf _+_ (now (k0 .entry)) (now (k1 .entry)) (now (k2 .entry)) (length (now (k0 .entry))) a m) × (r < 16777216) ⌝ }
+// The cheapest choice of one column, from the word of its row.
+fn single_of(u: u32) -> u32
+    ensures { λ r. ⌜ (r ≡ u / 65536 / 256 * 16384) × (r < 4194304) ⌝ }
 {
-    let mut e = single_at(k0, k1, k2, a, m);
-    let mut b = 0;
-    while b < k0.len() {
-        e = try_at(k0, k1, k2, a, m, b, e);
+    u / 65536 / 256 * 16384
+}
+
+// The cheapest choice of one or two columns for a.
+fn best_of(w: &[u32], a: usize) -> u32
+    requires { ⌜ Rowed (now w) ⌝ }
+    requires { ⌜ a < length (now w) ⌝ }
+    ensures { λ r. ⌜ (r ≡ bestOf _+_ (now (w .entry)) (length (now (w .entry))) a) × (r < 4194304) ⌝ }
+{
+    let mut e = single_of(w[a]);
+    let mut b = 1;
+    while b < w.len() {
+        e = try_at(w, a, b, e);
         b += 1;
     }
     e
 }
 
+// The same without column m, from the table of words.
+fn best_without(t: &[u32], q: usize, d: usize, a: usize, m: usize) -> u32
+    requires { ⌜ Tabled q d (now t) ⌝ }
+    requires { ⌜ (a < q) × (m ≤ d) ⌝ }
+    ensures { λ r. ⌜ (r ≡ bestOf _+_ (wordsAt (now (t .entry)) q m) q a) × (r < 4194304) ⌝ }
+{
+    let s = m * q;
+    let e = s + q;
+    best_of(&t[s..e], a)
+}
+
+// S of column m.
+fn sent_of(t: &[u32], q: usize, d: usize, a: usize, m: u8) -> u8
+    requires { ⌜ Tabled q d (now t) ⌝ }
+    requires { ⌜ (a < q) × (m ≤ d) ⌝ }
+    ensures { λ r. ⌜ r ≡ bestOf _+_ (wordsAt (now (t .entry)) q m) q a / 16384 ⌝ }
+{
+    num::byte(best_without(t, q, d, a, num::index(m)) / 16384)
+}
+
 // S of the choice's second column, or E where it has only one.
-fn second_of(k0: &[u16], k1: &[u16], k2: &[u16], a: usize, m: u8, n: u8, e: u8) -> u8
-    requires { ⌜ Sized (now k0) (now k1) (now k2) ⌝ }
-    requires { ⌜ a < length (now k0) ⌝ }
-    ensures { λ r. ⌜ r ≡ secondOf _+_ (now (k0 .entry)) (now (k1 .entry)) (now (k2 .entry)) (length (now (k0 .entry))) a m n e ⌝ }
+fn second_of(t: &[u32], q: usize, d: usize, a: usize, m: u8, n: u8, e: u8) -> u8
+    requires { ⌜ Tabled q d (now t) ⌝ }
+    requires { ⌜ (a < q) × (n ≤ d) ⌝ }
+    ensures { λ r. ⌜ r ≡ secondOf _+_ (wordsAt (now (t .entry)) q) q a m n e ⌝ }
 {
     if m == n {
         return e;
     }
-    num::byte(best_of(k0, k1, k2, a, num::wide(n)) / 65536)
+    sent_of(t, q, d, a, n)
 }
 
 // Five bytes.
@@ -151,34 +170,38 @@ fn put_five(out: &mut [u8], e: u8, m: u8, s: u8, n: u8, t: u8)
     five(out, e, 0xFF, 0x00, 0xFF, 0x00);
 }
 
-// The bytes of a: only the columns of a cheapest choice can have S above E.
-fn put_group(k0: &[u16], k1: &[u16], k2: &[u16], a: usize, out: &mut [u8])
-    requires { ⌜ Sized (now k0) (now k1) (now k2) ⌝ }
-    requires { ⌜ (a < length (now k0)) × (length (now out) ≡ 5) ⌝ }
-    ensures { λ _. ⌜ now (out .exit) ≡ groupOf _+_ (now (k0 .entry)) (now (k1 .entry)) (now (k2 .entry)) (length (now (k0 .entry))) a ⌝ }
+// The bytes of a: only the columns of a cheapest choice can have S above E. The words w leave no column out.
+fn put_group(w: &[u32], t: &[u32], q: usize, d: usize, a: usize, out: &mut [u8])
+    requires { ⌜ Tabled q d (now t) ⌝ }
+    requires { ⌜ now w ≡ wordsAt (now t) q d ⌝ }
+    requires { ⌜ (a < q) × (length (now out) ≡ 5) ⌝ }
+    ensures { λ _. ⌜ now (out .exit) ≡ groupOf _+_ (wordsAt (now (t .entry)) q) q d a ⌝ }
 {
-    let g = best_of(k0, k1, k2, a, 255);
-    let e = num::byte(g / 65536);
-    let i = num::byte(g / 256 % 256);
-    let j = num::byte(g % 256);
+    let g = best_of(w, a);
+    let e = num::byte(g / 16384);
+    let b = num::place(g % 64);
+    let i = left_at(w, a, b);
+    let j = right_at(w, a, b);
     let m = num::lower(i, j);
     let n = num::upper(i, j);
-    let s = num::byte(best_of(k0, k1, k2, a, num::wide(m)) / 65536);
-    let t = second_of(k0, k1, k2, a, m, n, e);
-    put_five(out, e, m, s, n, t);
+    let s = sent_of(t, q, d, a, m);
+    let u = second_of(t, q, d, a, m, n, e);
+    put_five(out, e, m, s, n, u);
 }
 
 // The bytes of each a from 1 on.
-pub fn put_groups(k0: &[u16], k1: &[u16], k2: &[u16], out: &mut [u8])
-    requires { ⌜ Sized (now k0) (now k1) (now k2) ⌝ }
-    requires { ⌜ length (now out) + 5 ≡ length (now k0) * 5 ⌝ }
-    ensures { λ _. ⌜ now (out .exit) ≡ blocks (λ i. groupOf _+_ (now (k0 .entry)) (now (k1 .entry)) (now (k2 .entry)) (length (now (k0 .entry))) (i + 1)) (length (now (k0 .entry)) - 1) ⌝ }
+pub fn put_groups(t: &[u32], q: usize, d: usize, out: &mut [u8])
+    requires { ⌜ Tabled q d (now t) ⌝ }
+    requires { ⌜ length (now out) + 5 ≡ q * 5 ⌝ }
+    ensures { λ _. ⌜ now (out .exit) ≡ blocks (λ i. groupOf _+_ (wordsAt (now (t .entry)) q) q d (i + 1)) (q - 1) ⌝ }
 {
+    let s = d * q;
+    let f = s + q;
     let mut i = 0;
-    while i + 1 < k0.len() {
+    while i + 1 < q {
         let w = i * 5;
         let v = w + 5;
-        put_group(k0, k1, k2, i + 1, &mut out[w..v]);
+        put_group(&t[s..f], t, q, d, i + 1, &mut out[w..v]);
         i += 1;
     }
 }

@@ -1,7 +1,7 @@
 -- The engine's best choices are E and S, and its five bytes are the record's.
 use mathlib.Core.Path.{_≡_, refl, sym, ap, _∙_}
 use mathlib.Core.Bool.{Bool, true, false, cond}
-use mathlib.Core.Logic.{_≢_, inl, inr, ⊎-elim}
+use mathlib.Core.Logic.{_≢_, _⊎_, inl, inr, ⊎-elim}
 use mathlib.Core.List.{List, [], _∷_, _++_}
 use Prim.Native.Nat.{ℕ, _/_, _%_, _-_, _≤_, _<_, min, max}
 use native.Mathlib.Decide.{ℕ-discrete}
@@ -13,87 +13,148 @@ use Rattle.trellis.specs.Field.{xor}
 use Rattle.trellis.specs.Check.{Rule, Column, sentAt, extra}
 use Rattle.trellis.specs.Record.{above, group}
 use Rattle.trellis.specs.Rows.{entry}
-use Rattle.engine.specs.Keys.{bestOf, fiveOf, secondOf, groupFrom, groupOf}
+use Rattle.engine.specs.Keys.{wordBut, wordsBut, pairOf, leftOf, rightOf, leftAt, rightAt, bestOf, fiveOf, secondOf, groupFrom, groupOf}
+use Rattle.trellis.proofs.Loops.{getD-tab}
 use Rattle.trellis.proofs.Sent.{Proper}
 use Rattle.trellis.proofs.Records.{size-xor}
 use Rattle.engine.proofs.Form.{Serves, serves-sent, serves-extra}
-use Rattle.engine.proofs.Rows.{Kept, Single, Pair, Reach, Low, best-reach, best-low, best-two}
+use Rattle.engine.proofs.Rows.{Kept, Word, word-is, eqb-yes}
+use Rattle.engine.proofs.Pairs.{pair-is, best-reach, best-one, best-two}
 use Rattle.engine.proofs.Few.{keep-one, keep-two}
 
-module _ (R : Rule) (cs : List Column) (P : Proper R cs) (two : R .most ≡ 2) (d : 2 < length cs)
+module _ (R : Rule) (cs : List Column) (P : Proper R cs) (two : R .most ≡ 2) (d : 2 < length cs) (few : length cs ≤ 128) (limit : R .size ≤ 64)
     (X Y Z : List ℕ) (K : (b : ℕ) → b < R .size → Kept (entry R cs b) (length cs) (getD X b 0) (getD Y b 0) (getD Z b 0))
-    (a : ℕ) (small : a < R .size) (some : a ≢ 0) where
+    (words : ℕ → List ℕ) (without : (m : ℕ) → m ≤ length cs → words m ≡ wordsBut X Y Z (R .size) m) (a : ℕ) (small : a < R .size) (some : a ≢ 0) where
   comm : (x y : ℕ) → R .join x y ≡ R .join y x
   comm x y = ap (R .join x) (sym (P .joins .right y)) ∙ P .joins .gathers .turn x y 0 ∙ ap (R .join y) (P .joins .right x)
 
-  abbrev best : ℕ → ℕ
-  best m = bestOf (R .join) X Y Z (R .size) a m
+  over : (x y : ℕ) → y ≤ R .join x y
+  over x y = omega (arith, P .joins .gathers .left y, P .joins .mono 0 x y y (omega arith) (omega arith))
 
   closed : (b : ℕ) → b < R .size → xor a b < R .size
   closed b l = size-xor R cs P a b small l
 
-  reach : (m : ℕ) → Reach (R .join) (P .joins .mono) comm X Y Z (entry R cs) (length cs) (R .size) a m K small closed (best m)
-  unfolding bestOf
-  reach m = best-reach (R .join) (P .joins .mono) comm X Y Z (entry R cs) (length cs) (R .size) a m K small closed (R .size) (omega arith)
+  abbrev best : ℕ → ℕ
+  best m = bestOf (R .join) (words m) (R .size) a
 
-  low : (m : ℕ) → Low (R .join) (P .joins .mono) comm X Y Z (entry R cs) (length cs) (R .size) a m K small closed (R .size) (best m)
-  unfolding bestOf
-  low m = best-low (R .join) (P .joins .mono) comm X Y Z (entry R cs) (length cs) (R .size) a m K small closed (R .size) (omega arith)
+  word : (m : ℕ) → m ≤ length cs → (b : ℕ) → b < R .size → Word (entry R cs b) (length cs) m (getD (words m) b 0)
+  word m t b l = rw (without m t, getD-tab (λ b. wordBut (getD X b 0) (getD Y b 0) (getD Z b 0) m) (R .size) b l) (word-is (entry R cs b) (length cs) _ _ _ (K b l) m)
 
-  pub serves : (m : ℕ) → Serves R cs P two d a small some m (best m / 65536)
-  serves m =
+  one : (m : ℕ) → m ≤ length cs → (n : ℕ) → n < length cs → n ≢ m → best m / 16384 ≤ entry R cs a n
+  one m t = best-one (R .join) (P .joins .mono) comm over (words m) (entry R cs) (length cs) (R .size) a m few (word m t) small limit closed
+
+  both : (m : ℕ) → m ≤ length cs → (b : ℕ) → b < R .size → (i j : ℕ) → i < length cs → j < length cs → i ≢ j → i ≢ m → j ≢ m → best m / 16384 ≤ R .join (entry R cs b i) (entry R cs (xor a b) j)
+  both m t = best-two (R .join) (P .joins .mono) comm over (words m) (entry R cs) (length cs) (R .size) a m few (word m t) small limit closed
+
+  -- the choice that the search has found without column m: one column, or two
+  abbrev row : ℕ → ℕ
+  row m = best m % 64
+
+  abbrev lefts : ℕ → ℕ
+  lefts m = leftAt (R .join) (words m) a (row m)
+
+  abbrev rights : ℕ → ℕ
+  rights m = rightAt (R .join) (words m) a (row m)
+
+  abbrev pairAt : ℕ → ℕ
+  pairAt m = pairOf (R .join) (getD (words m) (row m) 0) (getD (words m) (xor a (row m)) 0)
+
+  record Alone (m n : ℕ) : Type 0 where
+    pub in-n : n < length cs
+    pub not-m : n ≢ m
+    pub cost : best m / 16384 ≡ entry R cs a n
+
+  record Beside (m n i : ℕ) : Type 0 where
+    pub in-row : row m < R .size
+    pub in-n : n < length cs
+    pub in-i : i < length cs
+    pub apart : n ≢ i
+    pub n-not-m : n ≢ m
+    pub i-not-m : i ≢ m
+    pub cost : best m / 16384 ≡ R .join (entry R cs (row m) n) (entry R cs (xor a (row m)) i)
+
+  alone : (m : ℕ) → m ≤ length cs → row m ≡ 0 → best m / 16384 ≡ getD (words m) a 0 / 65536 / 256 → (lefts m ≡ rights m) × Alone m (rights m)
+  unfolding leftAt rightAt
+  alone m t z c =
+      let C = word m t a small .first in
+      rw z (refl, record { in-n = C .in-k; not-m = C .not-m; cost = c ∙ sym (C .at-k) })
+
+  beside : (m : ℕ) → m ≤ length cs → row m ≢ 0 → row m < R .size → best m / 64 ≡ pairAt m → Beside m (lefts m) (rights m)
+  unfolding leftAt rightAt
+  beside m t z l e = go (eqb (row m) 0) refl
+    where
+      quarter : (e : ℕ) → e / 16384 ≡ e / 64 / 256
+      quarter e = omega arith
+
+      go : (b : Bool) → eqb (row m) 0 ≡ b
+          → Beside m (pick b (getD (words m) a 0 / 65536 % 256) (leftOf (R .join) (getD (words m) (row m) 0) (getD (words m) (xor a (row m)) 0) % 256))
+          (pick b (getD (words m) a 0 / 65536 % 256) (rightOf (R .join) (getD (words m) (row m) 0) (getD (words m) (xor a (row m)) 0) % 256))
+      go true q = absurd (z (eqb-yes _ _ q))
+      go false q =
+          let p = pair-is (R .join) (P .joins .mono) (length cs) m few (entry R cs (row m)) (entry R cs (xor a (row m))) _ _ (word m t (row m) l) (word m t (xor a (row m)) (closed (row m) l)) in
+          record {
+            in-row = l;
+            in-n = p .in-k;
+            in-i = p .in-l;
+            apart = p .apart;
+            n-not-m = p .k-not-m;
+            i-not-m = p .l-not-m;
+            cost = quarter (best m) ∙ ap (λ y. y / 256) e ∙ p .cost;
+          }
+
+  found : (m : ℕ) → m ≤ length cs → ((lefts m ≡ rights m) × Alone m (rights m)) ⊎ Beside m (lefts m) (rights m)
+  found m t =
+      ⊎-elim (λ (s : (row m ≡ 0) × (best m / 16384 ≡ getD (words m) a 0 / 65536 / 256)). inl (alone m t (s .0) (s .1)))
+      (λ (s : (row m ≢ 0) × ((row m < R .size) × (best m / 64 ≡ pairAt m))). inr (beside m t (s .0) (s .1 .0) (s .1 .1)))
+      (best-reach (R .join) (words m) (R .size) a small limit)
+
+  pub serves : (m : ℕ) → m ≤ length cs → Serves R cs P two d a small some m (best m / 16384)
+  serves m h =
       record {
         reach =
-            ⊎-elim (λ (s : Single (entry R cs a) (length cs) m (best m)). inl record { n = s .n; in-n = s .in-n; not-m = s .not-m; cost = s .cost })
-            (λ (t : (b : ℕ) × (b < R .size) × Pair (R .join) (entry R cs b) (entry R cs (xor a b)) (length cs) m (best m)).
+            ⊎-elim (λ (s : (lefts m ≡ rights m) × Alone m (rights m)). inl record { n = rights m; in-n = s .1 .in-n; not-m = s .1 .not-m; cost = s .1 .cost })
+            (λ (t : Beside m (lefts m) (rights m)).
             inr record {
-              b = t .0;
-              in-b = t .1;
-              n = t .2 .n;
-              i = t .2 .i;
-              in-n = t .2 .in-n;
-              in-i = t .2 .in-i;
-              apart = t .2 .apart;
-              n-not-m = t .2 .n-not-m;
-              i-not-m = t .2 .i-not-m;
-              cost = t .2 .cost;
+              b = row m;
+              in-b = t .in-row;
+              n = lefts m;
+              i = rights m;
+              in-n = t .in-n;
+              in-i = t .in-i;
+              apart = t .apart;
+              n-not-m = t .n-not-m;
+              i-not-m = t .i-not-m;
+              cost = t .cost;
             })
-            (reach m);
-        low-one = λ f o. rw (o .cost) (low m .one (o .n) (o .in-n) (o .not-m));
-        low-two = λ f t. rw (t .cost) (best-two (R .join) (P .joins .mono) comm X Y Z (entry R cs) (length cs) (R .size) a m K small closed (t .b) (t .in-b) (t .n) (t .i) (t .in-n) (t .in-i) (t .apart) (t .n-not-m) (t .i-not-m));
+            (found m h);
+        low-one = λ f o. rw (o .cost) (one m h (o .n) (o .in-n) (o .not-m));
+        low-two = λ f t. rw (t .cost) (both m h (t .b) (t .in-b) (t .n) (t .i) (t .in-n) (t .in-i) (t .apart) (t .n-not-m) (t .i-not-m));
       }
 
-  pub best-sent : (m : ℕ) → m < length cs → sentAt R cs m a ≡ best m / 65536
-  best-sent m l = serves-sent R cs P two d a small some m l _ (serves m)
+  pub best-sent : (m : ℕ) → m < length cs → sentAt R cs m a ≡ best m / 16384
+  best-sent m l = serves-sent R cs P two d a small some m l _ (serves m (omega arith))
 
-  pub best-extra : extra R cs a ≡ best 255 / 65536
-  best-extra = serves-extra R cs P two d a small some 255 (λ l. omega (arith, P .short)) _ (serves 255)
+  -- no column has the number of columns for its own
+  abbrev none : ℕ
+  none = length cs
 
-  abbrev g : ℕ
-  g = best 255
+  pub best-extra : extra R cs a ≡ best none / 16384
+  best-extra = serves-extra R cs P two d a small some none (λ l. omega arith) _ (serves none (omega arith))
 
-  pub columns-in : (g / 256 % 256 < length cs) × (g % 256 < length cs)
+  pub columns-in : (lefts none < length cs) × (rights none < length cs)
   columns-in =
-      ⊎-elim (λ (s : Single (entry R cs a) (length cs) 255 g). omega (arith, s .first, s .second, s .in-n))
-      (λ (t : (b : ℕ) × (b < R .size) × Pair (R .join) (entry R cs b) (entry R cs (xor a b)) (length cs) 255 g).
-      omega (arith, t .2 .first, t .2 .second, t .2 .in-n, t .2 .in-i))
-      (reach 255)
+      ⊎-elim (λ (s : (lefts none ≡ rights none) × Alone none (rights none)). (omega (arith, s .0, s .1 .in-n), s .1 .in-n))
+      (λ (t : Beside none (lefts none) (rights none)). (t .in-n, t .in-i))
+      (found none (omega arith))
 
   -- a column that the cheapest choice does not use is not above E
-  pub not-above : (n : ℕ) → n < length cs → n ≢ g / 256 % 256 → n ≢ g % 256 → sentAt R cs n a ≤ extra R cs a
+  pub not-above : (n : ℕ) → n < length cs → n ≢ lefts none → n ≢ rights none → sentAt R cs n a ≤ extra R cs a
   not-above n l h k =
-      ⊎-elim (λ (s : Single (entry R cs a) (length cs) 255 g).
-      omega (arith, best-extra, best-sent n l, s .cost, low n .one (s .n) (s .in-n) (λ q. h (sym (s .first ∙ q)))))
-      (λ (t : (b : ℕ) × (b < R .size) × Pair (R .join) (entry R cs b) (entry R cs (xor a b)) (length cs) 255 g).
-      let p = t .2 in
-      omega (
-        arith,
-        best-extra,
-        best-sent n l,
-        p .cost,
-        best-two (R .join) (P .joins .mono) comm X Y Z (entry R cs) (length cs) (R .size) a n K small closed (t .0) (t .1) (p .n) (p .i) (p .in-n) (p .in-i) (p .apart) (λ q. h (sym (p .first ∙ q))) (λ q. k (sym (p .second ∙ q))),
-      ))
-      (reach 255)
+      ⊎-elim
+      (λ (s : (lefts none ≡ rights none) × Alone none (rights none)). omega (arith, best-extra, best-sent n l, s .1 .cost, one n (omega arith) (rights none) (s .1 .in-n) (λ q. k (sym q))))
+      (λ (t : Beside none (lefts none) (rights none)).
+      omega (arith, best-extra, best-sent n l, t .cost, both n (omega arith) (row none) (t .in-row) (lefts none) (rights none) (t .in-n) (t .in-i) (t .apart) (λ q. h (sym q)) (λ q. k (sym q))))
+      (found none (omega arith))
 
   -- the five bytes
   module _ (m n : ℕ) (e s t : ℕ) (el : m ≤ n) (nl : n < length cs) (x : extra R cs a ≡ e) (y : sentAt R cs m a ≡ s)
@@ -143,11 +204,12 @@ module _ (R : Rule) (cs : List Column) (P : Proper R cs) (two : R .most ≡ 2) (
         go true c u v w = let k : R .most - 1 ≡ 1 = omega arith in rw (k, ← u, w, y)
         go false c u v w = let k : R .most - 0 ≡ 2 = omega arith in rw (k, ← u, w)
 
-  pub group-is : group R cs a ≡ groupOf (R .join) X Y Z (R .size) a
+  pub group-is : group R cs a ≡ groupOf (R .join) words (R .size) (length cs) a
   unfolding groupFrom secondOf
   group-is =
-      let i : ℕ = g / 256 % 256 in
-      let j : ℕ = g % 256 in
+      let i : ℕ = lefts none in
+      let j : ℕ = rights none in
+      let e : ℕ = best none / 16384 in
       let m : ℕ = min i j in
       let n : ℕ = max i j in
       let c = columns-in in
@@ -155,8 +217,8 @@ module _ (R : Rule) (cs : List Column) (P : Proper R cs) (two : R .most ≡ 2) (
       let ml : m < length cs = omega arith in
       let o : (k : ℕ) → k < length cs → k ≢ m → k ≢ n → sentAt R cs k a ≤ extra R cs a = λ k l u v. not-above k l (omega arith) (omega arith) in
       elim (ℕ-discrete m n) [
-        | yes q ↦ five-one m n (g / 65536) (best m / 65536) _ (omega arith) nl best-extra (best-sent m ml) o q (rw q (same-pick n (g / 65536) _))
-        | no q ↦ five-two m n (g / 65536) (best m / 65536) _ (omega arith) nl best-extra (best-sent m ml) o (omega arith) (best-sent n nl ∙ other-pick m n (g / 65536) _ q)
+        | yes q ↦ five-one m n e (best m / 16384) _ (omega arith) nl best-extra (best-sent m ml) o q (rw q (same-pick n e _))
+        | no q ↦ five-two m n e (best m / 16384) _ (omega arith) nl best-extra (best-sent m ml) o (omega arith) (best-sent n nl ∙ other-pick m n e _ q)
       ]
     where
       same-pick : (n e t : ℕ) → e ≡ pick (eqb n n) e t

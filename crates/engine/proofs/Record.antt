@@ -13,7 +13,7 @@ use Rattle.trellis.specs.Check.{Rule, Column, costAt, weigh, decision, decided,
 use Rattle.trellis.specs.Record.{shifts, group, recordOf}
 use Rattle.trellis.specs.Rows.{entry, symbolAt}
 use Rattle.trellis.specs.Rules.{ruleFor, columnsOf, costsAt}
-use Rattle.engine.specs.Keys.{groupOf}
+use Rattle.engine.specs.Keys.{wordsBut, groupOf}
 use Rattle.engine.specs.Fill.{Rows, rowsOf, filled}
 use Rattle.engine.specs.Ready.{Ready, termOf, sumTo}
 use Rattle.trellis.proofs.Xor.{xor-assoc, xor-comm, xor-cancel}
@@ -103,32 +103,38 @@ module _ (p : ℕ) (ws cs : List ℕ) (D : Ready p ws cs) where
       let d : decided (ruleFor p) theColumns ≡ sumTo (termOf p ws cs) (length ws) = decided-sum (ruleFor p) theColumns ∙ t in
       sym (xor-cancel (termOf p ws cs n) (shift (ruleFor p) theColumns n)) ∙ ap (xor (termOf p ws cs n)) (ap (λ y. xor y (shift (ruleFor p) theColumns n)) (sym (term-is n h)) ∙ sym s ∙ d) ∙ xor-comm _ _
 
-  module _ (bytes : (i : ℕ) → getD cs i 0 < 256) (X Y Z : List ℕ) (F : rowsOf X Y Z ≡ filled (keyOf (ruleFor p) theColumns ready-proper) q (length ws)) where
-    entry-small : (a j : ℕ) → a < q → j < length theColumns → entry (ruleFor p) theColumns a j ≤ 255
-    unfolding entry
-    entry-small a j l h =
-        let e : length theColumns ≡ length ws = length-columns q ws cs in
-        let s = symbol-at (ruleFor p) theColumns ready-proper j h a l in
-        let x : ℕ = symbolAt (ruleFor p) (column theColumns j) a in
-        let c : costAt (column theColumns j) x ≡ getD (costsAt q cs j) x 0 = ap (λ c. costAt c x) (column-at q ws cs j (omega arith)) in
-        let g : getD (costsAt q cs j) x 0 ≡ getD cs (j * q + x) 0 = (let h : x < q = s .1 in rw (getD-take, getD-drop)) in
-        omega (arith, c, g, bytes (j * q + x))
+  module _ (bytes : (i : ℕ) → getD cs i 0 < 256) (X Y Z : List ℕ) (F : rowsOf X Y Z ≡ filled (keyOf (ruleFor p) theColumns ready-proper) q (length ws))
+    where
+      entry-small : (a j : ℕ) → a < q → j < length theColumns → entry (ruleFor p) theColumns a j ≤ 255
+      unfolding entry
+      entry-small a j l h =
+          let e : length theColumns ≡ length ws = length-columns q ws cs in
+          let s = symbol-at (ruleFor p) theColumns ready-proper j h a l in
+          let x : ℕ = symbolAt (ruleFor p) (column theColumns j) a in
+          let c : costAt (column theColumns j) x ≡ getD (costsAt q cs j) x 0 = ap (λ c. costAt c x) (column-at q ws cs j (omega arith)) in
+          let g : getD (costsAt q cs j) x 0 ≡ getD cs (j * q + x) 0 = (let h : x < q = s .1 in rw (getD-take, getD-drop)) in
+          omega (arith, c, g, bytes (j * q + x))
 
-    pub kept : (b : ℕ) → b < q → Kept (entry (ruleFor p) theColumns b) (length theColumns) (getD X b 0) (getD Y b 0) (getD Z b 0)
-    kept b l =
-        let e : length theColumns ≡ length ws = length-columns q ws cs in
-        let r = rows-kept (ruleFor p) theColumns ready-proper (omega (arith, D .three)) (omega (arith, D .few)) entry-small b l in
-        subst (λ (R : Rows). Kept (entry (ruleFor p) theColumns b) (length theColumns) (getD (R .xs) b 0) (getD (R .ys) b 0) (getD (R .zs) b 0)) (ap (filled (keyOf (ruleFor p) theColumns ready-proper) q) e ∙ sym F) r
+      pub kept : (b : ℕ) → b < q → Kept (entry (ruleFor p) theColumns b) (length theColumns) (getD X b 0) (getD Y b 0) (getD Z b 0)
+      kept b l =
+          let e : length theColumns ≡ length ws = length-columns q ws cs in
+          let r = rows-kept (ruleFor p) theColumns ready-proper (omega (arith, D .three)) (omega (arith, D .few)) entry-small b l in
+          subst (λ (R : Rows). Kept (entry (ruleFor p) theColumns b) (length theColumns) (getD (R .xs) b 0) (getD (R .ys) b 0) (getD (R .zs) b 0)) (ap (filled (keyOf (ruleFor p) theColumns ready-proper) q) e ∙ sym F) r
 
-    pub record-is : tab (λ n. xor (sumTo (termOf p ws cs) (length ws)) (termOf p ws cs n)) (length ws) ++ blocks (λ i. groupOf _+_ X Y Z q (i + 1)) (q - 1) ≡ recordOf (ruleFor p) theColumns
-    unfolding recordOf shifts
-    record-is =
-        let e : length theColumns ≡ length ws = length-columns q ws cs in
-        let a : map (shift (ruleFor p) theColumns) (upTo (length theColumns)) ≡ tab (λ n. xor (sumTo (termOf p ws cs) (length ws)) (termOf p ws cs n)) (length ws) =
-        map-tab (shift (ruleFor p) theColumns) 0 (length theColumns) ∙ rw e (tab-ext _ _ (length ws) (λ j l. rw (zero-add j) (shift-is j l))) in
-        let b : each (group (ruleFor p) theColumns) (countFrom 1 (q - 1)) ≡ blocks (λ i. groupOf _+_ X Y Z q (i + 1)) (q - 1) =
-        each-blocks (group (ruleFor p) theColumns) 1 (q - 1)
-        ∙ blocks-ext (λ j. group (ruleFor p) theColumns (1 + j)) (λ i. groupOf _+_ X Y Z q (i + 1)) (q - 1) (λ j l.
-        let u : 1 + j ≡ j + 1 = omega arith in
-        rw u (group-is (ruleFor p) theColumns ready-proper refl (omega (arith, D .three)) X Y Z kept (j + 1) (omega arith) (omega arith))) in
-        rw (a, b)
+      limit : q ≤ 64
+      limit = pow-mono {i = p} {j = 6} (D .high)
+
+      -- with the words of the rows in a table
+      module _ (T : ℕ → List ℕ) (without : (m : ℕ) → m ≤ length ws → T m ≡ wordsBut X Y Z q m) where
+        pub record-is : tab (λ n. xor (sumTo (termOf p ws cs) (length ws)) (termOf p ws cs n)) (length ws) ++ blocks (λ i. groupOf _+_ T q (length ws) (i + 1)) (q - 1) ≡ recordOf (ruleFor p) theColumns
+        unfolding recordOf shifts
+        record-is =
+            let e : length theColumns ≡ length ws = length-columns q ws cs in
+            let a : map (shift (ruleFor p) theColumns) (upTo (length theColumns)) ≡ tab (λ n. xor (sumTo (termOf p ws cs) (length ws)) (termOf p ws cs n)) (length ws) =
+            map-tab (shift (ruleFor p) theColumns) 0 (length theColumns) ∙ rw e (tab-ext _ _ (length ws) (λ j l. rw (zero-add j) (shift-is j l))) in
+            let b : each (group (ruleFor p) theColumns) (countFrom 1 (q - 1)) ≡ blocks (λ i. groupOf _+_ T q (length ws) (i + 1)) (q - 1) =
+            each-blocks (group (ruleFor p) theColumns) 1 (q - 1)
+            ∙ blocks-ext (λ j. group (ruleFor p) theColumns (1 + j)) (λ i. groupOf _+_ T q (length ws) (i + 1)) (q - 1) (λ j l.
+            let u : 1 + j ≡ j + 1 = omega arith in
+            rw (u, ← e) (group-is (ruleFor p) theColumns ready-proper refl (omega (arith, D .three)) (omega (arith, D .few)) limit X Y Z kept T (λ m h. without m (omega arith)) (j + 1) (omega arith) (omega arith))) in
+            rw (a, b)

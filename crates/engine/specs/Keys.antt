@@ -1,64 +1,87 @@
--- The engine's numbers: a key is a cost times 256 plus a column; a choice is a cost times 65,536 plus two columns.
-use mathlib.Core.Bool.{Bool, true, false}
+-- The engine's numbers. A key is a cost times 256 plus a column. A word holds the two cheapest keys of a row, the cheaper times 65,536 plus the
+-- other. A pair is the joined cost of two keys times 256 plus the sum of their columns; a choice is a pair times 64 plus the row of its first key.
 use mathlib.Core.List.{List, [], _∷_}
-use Prim.Native.Nat.{ℕ, _+_, _*_, _/_, _%_, min, max}
+use Prim.Native.Nat.{ℕ, suc, _+_, _*_, _/_, _%_, _-_, min, max}
 use lib.Dec.{leb, ltb, eqb}
 use lib.ListN.{getD}
-use Rattle.trellis.specs.Lists.{pick, upto}
+use Rattle.trellis.specs.Lists.{pick, upto, tab}
 use Rattle.trellis.specs.Field.{xor}
 
-abbrev pub not : Bool → Bool
-not true = false
-not false = true
+-- of three rising keys in three columns, the cheapest in a column other than m, and the next
+unfoldable pub firstBut : ℕ → ℕ → ℕ → ℕ
+firstBut x y m = pick (eqb (x % 256) m) y x
 
--- the column of key k is neither m nor n
-unfoldable pub free : ℕ → ℕ → ℕ → Bool
-free k m n = pick (eqb (k % 256) m) false (not (eqb (k % 256) n))
+unfoldable pub nextBut : ℕ → ℕ → ℕ → ℕ → ℕ
+nextBut x y z m = pick (eqb (x % 256) m) z (pick (eqb (y % 256) m) z y)
 
--- the first of three keys whose column is neither m nor n
-unfoldable pub cheapest : ℕ → ℕ → ℕ → ℕ → ℕ → ℕ
-cheapest x y z m n = pick (free x m n) x (pick (free y m n) y z)
+unfoldable pub wordBut : ℕ → ℕ → ℕ → ℕ → ℕ
+wordBut x y z m = firstBut x y m * 65536 + nextBut x y z m
 
--- two keys as one choice
+-- the words of q rows
+abbrev pub wordsBut : List ℕ → List ℕ → List ℕ → ℕ → ℕ → List ℕ
+wordsBut X Y Z q m = tab (λ b. wordBut (getD X b 0) (getD Y b 0) (getD Z b 0) m) q
+
+-- two keys as one pair
 unfoldable pub joined : (ℕ → ℕ → ℕ) → ℕ → ℕ → ℕ
-joined op u v = op (u / 256) (v / 256) * 65536 + u % 256 * 256 + v % 256
+joined op u v = op (u / 256) (v / 256) * 256 + (u % 256 + v % 256)
 
--- the three keys of row b
-abbrev pub cheapAt : List ℕ → List ℕ → List ℕ → ℕ → ℕ → ℕ → ℕ
-cheapAt X Y Z b m n = cheapest (getD X b 0) (getD Y b 0) (getD Z b 0) m n
+-- the cheapest pair of two columns from the words of two rows: both cheapest keys, or, where these stand in one column, one of them and the
+-- other row's next
+unfoldable pub pairOf : (ℕ → ℕ → ℕ) → ℕ → ℕ → ℕ
+pairOf op u v =
+    pick (eqb (u / 65536 % 256) (v / 65536 % 256)) (min (joined op (u / 65536) (v % 65536)) (joined op (u % 65536) (v / 65536)))
+    (joined op (u / 65536) (v / 65536))
 
--- the cheapest choice of two columns other than m, one entry of row b and one of row c
-unfoldable pub pairAt : (ℕ → ℕ → ℕ) → List ℕ → List ℕ → List ℕ → ℕ → ℕ → ℕ → ℕ
-pairAt op X Y Z b c m =
-    min (joined op (cheapAt X Y Z b m m) (cheapAt X Y Z c m (cheapAt X Y Z b m m % 256)))
-    (joined op (cheapAt X Y Z b m (cheapAt X Y Z c m m % 256)) (cheapAt X Y Z c m m))
+-- its keys
+unfoldable pub leftOf : (ℕ → ℕ → ℕ) → ℕ → ℕ → ℕ
+leftOf op u v =
+    pick (eqb (u / 65536 % 256) (v / 65536 % 256)) (pick (leb (joined op (u / 65536) (v % 65536)) (joined op (u % 65536) (v / 65536))) (u / 65536) (u % 65536))
+    (u / 65536)
 
--- one entry of row a
-unfoldable pub singleAt : List ℕ → List ℕ → List ℕ → ℕ → ℕ → ℕ
-singleAt X Y Z a m = cheapAt X Y Z a m m / 256 * 65536 + cheapAt X Y Z a m m % 256 * 256 + cheapAt X Y Z a m m % 256
+unfoldable pub rightOf : (ℕ → ℕ → ℕ) → ℕ → ℕ → ℕ
+rightOf op u v =
+    pick (eqb (u / 65536 % 256) (v / 65536 % 256)) (pick (leb (joined op (u / 65536) (v % 65536)) (joined op (u % 65536) (v / 65536))) (v % 65536) (v / 65536))
+    (v / 65536)
 
--- the cheaper of e and the pairs of rows b and a + b
-unfoldable pub tryAt : (ℕ → ℕ → ℕ) → List ℕ → List ℕ → List ℕ → ℕ → ℕ → ℕ → ℕ → ℕ
-tryAt op X Y Z a m b e =
-    pick (ltb (xor a b) b) e (pick (leb (e / 65536) (op (getD X b 0 / 256) (getD X (xor a b) 0 / 256))) e (min e (pairAt op X Y Z b (xor a b) m)))
+-- the cheapest choice of one column, in row a; row 0 stands for no second column
+unfoldable pub singleAt : List ℕ → ℕ → ℕ
+singleAt W a = getD W a 0 / 65536 / 256 * 16384
 
-unfoldable pub bestOf : (ℕ → ℕ → ℕ) → List ℕ → List ℕ → List ℕ → ℕ → ℕ → ℕ → ℕ
-bestOf op X Y Z q a m = upto (tryAt op X Y Z a m) q (singleAt X Y Z a m)
+-- the cheaper of e and the cheapest pair of rows b and a + b
+unfoldable pub tryAt : (ℕ → ℕ → ℕ) → List ℕ → ℕ → ℕ → ℕ → ℕ
+tryAt op W a b e = pick (ltb (xor a b) b) e (min e (pairOf op (getD W b 0) (getD W (xor a b) 0) * 64 + b))
+
+-- the cheapest choice for a
+unfoldable pub bestOf : (ℕ → ℕ → ℕ) → List ℕ → ℕ → ℕ → ℕ
+bestOf op W q a = upto (λ i e. tryAt op W a (suc i) e) (q - 1) (singleAt W a)
+
+-- the two columns of a choice with rows b and a + b; one column twice where b is 0
+unfoldable pub leftAt : (ℕ → ℕ → ℕ) → List ℕ → ℕ → ℕ → ℕ
+leftAt op W a b = pick (eqb b 0) (getD W a 0 / 65536 % 256) (leftOf op (getD W b 0) (getD W (xor a b) 0) % 256)
+
+unfoldable pub rightAt : (ℕ → ℕ → ℕ) → List ℕ → ℕ → ℕ → ℕ
+rightAt op W a b = pick (eqb b 0) (getD W a 0 / 65536 % 256) (rightOf op (getD W b 0) (getD W (xor a b) 0) % 256)
 
 -- E, the pairs above it, FF 00 for each pair that is not used; m < n, or n has no pair
 unfoldable pub fiveOf : ℕ → ℕ → ℕ → ℕ → ℕ → List ℕ
 fiveOf e m s n t =
     e ∷ pick (ltb e s) (m ∷ s ∷ pick (ltb e t) (n ∷ t ∷ []) (255 ∷ 0 ∷ [])) (pick (ltb e t) (n ∷ t ∷ 255 ∷ 0 ∷ []) (255 ∷ 0 ∷ 255 ∷ 0 ∷ []))
 
+-- S of column m, where T has the words without it
+abbrev pub sentOf : (ℕ → ℕ → ℕ) → (ℕ → List ℕ) → ℕ → ℕ → ℕ → ℕ
+sentOf op T q a m = bestOf op (T m) q a / 16384
+
 -- S of the second column, or E where there is only one
-unfoldable pub secondOf : (ℕ → ℕ → ℕ) → List ℕ → List ℕ → List ℕ → ℕ → ℕ → ℕ → ℕ → ℕ → ℕ
-secondOf op X Y Z q a m n e = pick (eqb m n) e (bestOf op X Y Z q a n / 65536)
+unfoldable pub secondOf : (ℕ → ℕ → ℕ) → (ℕ → List ℕ) → ℕ → ℕ → ℕ → ℕ → ℕ → ℕ
+secondOf op T q a m n e = pick (eqb m n) e (sentOf op T q a n)
 
--- the five bytes of a: g is the cheapest choice
-unfoldable pub groupFrom : (ℕ → ℕ → ℕ) → List ℕ → List ℕ → List ℕ → ℕ → ℕ → ℕ → List ℕ
-groupFrom op X Y Z q a g =
-    fiveOf (g / 65536) (min (g / 256 % 256) (g % 256)) (bestOf op X Y Z q a (min (g / 256 % 256) (g % 256)) / 65536) (max (g / 256 % 256) (g % 256))
-    (secondOf op X Y Z q a (min (g / 256 % 256) (g % 256)) (max (g / 256 % 256) (g % 256)) (g / 65536))
+-- the five bytes of a, from its cheapest cost e and the two columns of a cheapest choice
+unfoldable pub groupFrom : (ℕ → ℕ → ℕ) → (ℕ → List ℕ) → ℕ → ℕ → ℕ → ℕ → ℕ → List ℕ
+groupFrom op T q a e i j = fiveOf e (min i j) (sentOf op T q a (min i j)) (max i j) (secondOf op T q a (min i j) (max i j) e)
 
-abbrev pub groupOf : (ℕ → ℕ → ℕ) → List ℕ → List ℕ → List ℕ → ℕ → ℕ → List ℕ
-groupOf op X Y Z q a = groupFrom op X Y Z q a (bestOf op X Y Z q a 255)
+-- the same from a cheapest choice g; T d leaves no column out
+abbrev pub groupAt : (ℕ → ℕ → ℕ) → (ℕ → List ℕ) → ℕ → ℕ → ℕ → ℕ → List ℕ
+groupAt op T q d a g = groupFrom op T q a (g / 16384) (leftAt op (T d) a (g % 64)) (rightAt op (T d) a (g % 64))
+
+abbrev pub groupOf : (ℕ → ℕ → ℕ) → (ℕ → List ℕ) → ℕ → ℕ → ℕ → List ℕ
+groupOf op T q d a = groupAt op T q d a (bestOf op (T d) q a)

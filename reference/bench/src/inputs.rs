@@ -11,8 +11,8 @@ use simulate::quantiser::Quantiser;
 /// The costs per nat of every frame; the simulation's sweep shows that finer costs gain nothing.
 const QUANTISER: Quantiser = Quantiser { costs_per_nat: 8.0 };
 
-/// Where the costs of a check come from. The search leaves out pairs of rows that cannot win, so its
-/// time depends on the costs.
+/// Where the costs of a check come from. A cheapest choice of one column saves a search, so the time
+/// depends on the costs.
 #[derive(Clone, Copy, Debug, PartialEq, Eq)]
 pub enum Costs {
     /// Quantised symbols of a noisy channel, as the first iteration brings them.

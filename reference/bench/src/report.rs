@@ -30,9 +30,7 @@ impl Report<'_> {
             check_table(self.channel),
             "![Time per check](time-per-check.svg)\n\n![Ratio to Rust](ratio-to-rust.svg)\n\n"
                 .to_string(),
-            "The same with uniform costs from 0 to 255. The search leaves out pairs of rows that \
-             cannot win, so its time depends on the costs.\n\n"
-                .to_string(),
+            "The same with uniform costs from 0 to 255.\n\n".to_string(),
             check_table(self.uniform),
             "## Expansion, and record sizes\n\nA record has d + 5(q - 1) bytes, plain messages d·q. \
              The expansion tests the form of the record first.\n\n"

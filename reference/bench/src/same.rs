@@ -10,6 +10,7 @@ mod field;
 mod record;
 mod rows;
 mod search;
+mod words;
 
 pub use decode::decode;
 pub use expansion::expand;

@@ -2,7 +2,7 @@
 
 use super::field::MOST;
 use super::rows::{first_zero, Rows};
-use super::search::GROUP;
+use super::search::{put_groups, GROUP};
 use super::Refusal;
 
 /// "Check: 6, 9, 11, 12, 13, 4."
@@ -59,5 +59,5 @@ fn put_record(p: u8, q: usize, weights: &[u8], costs: &[u8], out: &mut [u8]) {
     let (shifts, groups) = out.split_at_mut(weights.len());
     rows.clear();
     rows.fill(p, weights, costs, &mut row[..q], &mut line[..q], shifts);
-    rows.keys().put_groups(groups);
+    put_groups(&rows.words(weights.len()), groups);
 }

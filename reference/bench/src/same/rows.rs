@@ -2,7 +2,7 @@
 //! `checknode`, module `rows`. An entry is one number, its key: cost times 256 plus column.
 
 use super::field;
-use super::search::Keys;
+use super::words::Words;
 
 /// The three rising keys of each row, in three slices of q.
 pub struct Rows<'a> {
@@ -22,13 +22,9 @@ impl Rows<'_> {
         self.third.fill(65_535);
     }
 
-    /// The keys, to search in.
-    pub fn keys(&self) -> Keys<'_> {
-        Keys {
-            first: self.first,
-            second: self.second,
-            third: self.third,
-        }
+    /// Their words, to search in.
+    pub fn words(&self, columns: usize) -> Words {
+        Words::new(self.first, self.second, self.third, columns)
     }
 
     /// All columns: leaves the shifts in `shifts`.

@@ -1,4 +1,4 @@
--- Arrays of 64 have room for w at most 64.
+-- Arrays of 64 have room for w at most 64, and one of 33 times 64 for the words.
 use native.Mathlib.Omega.{arith}
 use borrow.Author.Needs.{needs}
 use Rattle.checknode.proofs.record.with_room.Statement.{statement}
@@ -19,10 +19,13 @@ slice-aggregate-record-room-4 c = search needs
 slice-aggregate-record-room-5 : tie.Need-slice-aggregate-record-room-5
 slice-aggregate-record-room-5 c = search needs
 
+slice-aggregate-record-room-6 : tie.Need-slice-aggregate-record-room-6
+slice-aggregate-record-room-6 c = search needs
+
 record-room-requires : tie.Need-record-room-requires
 record-room-requires c κs =
-    let start = c .before .before .before .before .before .before .before .before .before .before in
-    (start .pre .0, (start .pre .1 .0, (((omega arith, omega arith), (omega arith, (omega arith, omega arith))), start .pre .1 .1 .1)))
+    let start = c .before .before .before .before .before .before .before .before .before .before .before in
+    (start .pre .0, (start .pre .1 .0, (((omega arith, omega arith), (omega arith, (omega arith, omega arith))), ((start .pre .1 .1 .0, omega arith), start .pre .1 .1 .1))))
 
 same-length : tie.Need-same-length
 same-length c = search needs
@@ -39,6 +42,7 @@ with-room-spec =
     slice-aggregate-record-room-3
     slice-aggregate-record-room-4
     slice-aggregate-record-room-5
+    slice-aggregate-record-room-6
     record-room-requires
     same-length
     returns)

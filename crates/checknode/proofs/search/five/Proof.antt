@@ -1,8 +1,8 @@
 -- Five stores into a slice of five.
-use Rattle.checknode.proofs.Searching.{five-sets}
 use native.Mathlib.Omega.{arith}
 use borrow.Author.Needs.{needs}
 use lib.ListN.{length-set}
+use Rattle.checknode.proofs.Searching.{five-sets}
 use Rattle.checknode.proofs.Searching.{five-sets}
 use Rattle.checknode.proofs.search.five.Statement.{statement}
 use Rattle.checknode.proofs.search.five.Tie as tie

@@ -1,28 +1,33 @@
 -- After i turns the bytes of the first i groups stand end to end.
 use mathlib.Core.Path.{_≡_, refl}
 use mathlib.Core.List.{_++_}
-use Prim.Native.Nat.{_+_, _*_, _≤_, _-_}
+use Prim.Native.Nat.{_+_, _-_, _*_, _≤_}
+use native.Mathlib.Nat.{add-sub-cancel-left}
 use native.Mathlib.Omega.{arith}
 use borrow.Author.Needs.{needs}
 use lib.ListN.{length, drop, length-take, length-drop}
 use Rattle.trellis.specs.Lists.{blocks}
 use Rattle.engine.specs.Keys.{groupOf}
-use lib.Pow.{pow-pos}
+use Rattle.checknode.specs.Asks.{wordsAt}
 use Rattle.trellis.proofs.Loops.{block-more, block-end}
 use Rattle.checknode.proofs.Searching.{group-length}
 use Rattle.checknode.proofs.search.put_groups.Statement.{statement}
 use Rattle.checknode.proofs.search.put_groups.Tie as tie
 
 abbrev Inv-loop : tie.InvT-loop
-Inv-loop k0 k1 k2 out₀ i₀ out i = (i + 1 ≤ length k0) × ((length out ≡ length out₀) × (out ≡ blocks (λ j. groupOf _+_ k0 k1 k2 (length k0) (j + 1)) i ++ drop (i * 5) out₀))
+Inv-loop t q d out₀ s f i₀ out i = (i + 1 ≤ q) × ((length out ≡ length out₀) × (out ≡ blocks (λ j. groupOf _+_ (wordsAt t q) q d (j + 1)) i ++ drop (i * 5) out₀))
 
 abbrev μ-loop : tie.MeasureT-loop
-μ-loop k0 k1 k2 out₀ i₀ out i = length k0 - i
+μ-loop t q d out₀ s f i₀ out i = q - i
+
+mul-s : tie.Need-mul-s Inv-loop μ-loop
+mul-s c = search needs
+
+add-f : tie.Need-add-f Inv-loop μ-loop
+add-f c = search needs
 
 loop-holds : tie.Need-loop-holds Inv-loop μ-loop
-loop-holds c =
-    let start = c .before .before .before .before in
-    (omega (arith, start .pre .0 .power, pow-pos (start .pre .0 .p)), (refl, refl))
+loop-holds c = search needs
 
 add-loop : tie.Need-add-loop Inv-loop μ-loop
 add-loop c = search needs
@@ -33,8 +38,8 @@ mul-w c = search needs
 add-v : tie.Need-add-v Inv-loop μ-loop
 add-v c = search needs
 
-add-put-group : tie.Need-add-put-group Inv-loop μ-loop
-add-put-group c = search needs
+mul-put-group : tie.Need-mul-put-group Inv-loop μ-loop
+mul-put-group c = search needs
 
 sub-put-group : tie.Need-sub-put-group Inv-loop μ-loop
 sub-put-group c = search needs
@@ -45,10 +50,24 @@ part-put-group-start c = search needs
 part-put-group-end : tie.Need-part-put-group-end Inv-loop μ-loop
 part-put-group-end c = search needs
 
+add-put-group : tie.Need-add-put-group Inv-loop μ-loop
+add-put-group c = search needs
+
+sub-put-group-2 : tie.Need-sub-put-group-2 Inv-loop μ-loop
+sub-put-group-2 c = search needs
+
+part-put-group-start-2 : tie.Need-part-put-group-start-2 Inv-loop μ-loop
+part-put-group-start-2 c = search needs
+
+part-put-group-end-2 : tie.Need-part-put-group-end-2 Inv-loop μ-loop
+part-put-group-end-2 c = search needs
+
 put-group-requires : tie.Need-put-group-requires Inv-loop μ-loop
 put-group-requires c κs =
-    let start = c .before .before .before .before .before .before .before in
-    (start .pre .0, (omega arith, simp (length-take, length-drop) (omega arith)))
+    let start = c .before .before .before .before .before .before in
+    let q = start .args .q in
+    let d = start .args .d in
+    (start .pre .0, (rw (add-sub-cancel-left (d * q) q) refl, (omega arith, simp (length-take, length-drop) (omega arith))))
 
 add-i : tie.Need-add-i Inv-loop μ-loop
 add-i c = search needs
@@ -58,17 +77,21 @@ loop-less c = search needs
 
 loop-again : tie.Need-loop-again Inv-loop μ-loop
 loop-again c =
-    let at-loop = c .before .before .before .before .before in
-    let start = at-loop .before .before .before .before .before in
-    (omega arith, (omega arith, block-more (λ j. groupOf _+_ (start .args .k0 .now) (start .args .k1 .now) (start .args .k2 .now) (length (start .args .k0 .now)) (j + 1)) 5 (λ j. group-length (start .args .k0 .now) (start .args .k1 .now) (start .args .k2 .now) _ _ _) (start .args .out .now) (at-loop .loop .out) (at-loop .loop .i) (at-loop .loop .inv .1 .1) (c .before .before .put-group .ensures)))
+    let at-loop = c .before .before .before .before .before .before in
+    let start = at-loop .before .before .before in
+    let T = wordsAt (start .args .t .now) (start .args .q) in
+    (omega arith, (omega arith, block-more (λ j. groupOf _+_ T (start .args .q) (start .args .d) (j + 1)) 5 (λ j. group-length T _ _ _ _ _) (start .args .out .now) (at-loop .loop .out) (at-loop .loop .i) (at-loop .loop .inv .1 .1) (c .before .before .put-group .ensures)))
 
 same-length : tie.Need-same-length Inv-loop μ-loop
 same-length c = search needs
 
 returns : tie.Need-returns Inv-loop μ-loop
 returns c =
-    let start = c .before .before .before .before .before .before in
-    let e : c .before .loop .i ≡ length (start .args .k0 .now) - 1 = omega arith in let h : length (start .args .out .now) ≡ c .before .loop .i * 5 = omega arith in rw (← e) (block-end (λ j. groupOf _+_ (start .args .k0 .now) (start .args .k1 .now) (start .args .k2 .now) (length (start .args .k0 .now)) (j + 1)) 5 (λ j. group-length (start .args .k0 .now) (start .args .k1 .now) (start .args .k2 .now) _ _ _) (start .args .out .now) (c .before .loop .out) (c .before .loop .i) (c .before .loop .inv .1 .1) h)
+    let start = c .before .before .before .before in
+    let T = wordsAt (start .args .t .now) (start .args .q) in
+    let e : c .before .loop .i ≡ start .args .q - 1 = omega arith in
+    let h : length (start .args .out .now) ≡ c .before .loop .i * 5 = omega arith in
+    rw (← e) (block-end (λ j. groupOf _+_ T (start .args .q) (start .args .d) (j + 1)) 5 (λ j. group-length T _ _ _ _ _) (start .args .out .now) (c .before .loop .out) (c .before .loop .i) (c .before .loop .inv .1 .1) h)
 
 pub put-groups-spec : {M : Type 1} → statement M
 put-groups-spec =
@@ -76,14 +99,20 @@ put-groups-spec =
     (tie.spec
     Inv-loop
     μ-loop
+    mul-s
+    add-f
     loop-holds
     add-loop
     mul-w
     add-v
-    add-put-group
+    mul-put-group
     sub-put-group
     part-put-group-start
     part-put-group-end
+    add-put-group
+    sub-put-group-2
+    part-put-group-start-2
+    part-put-group-end-2
     put-group-requires
     add-i
     loop-less

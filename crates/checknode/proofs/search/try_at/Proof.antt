@@ -1,10 +1,10 @@
--- A pair of rows that cannot win is skipped, as the definition skips it.
+-- Of the two orders of a pair of rows one is skipped, as the definition skips it.
 use native.Mathlib.Omega.{arith}
-use borrow.Author.Needs.{needs}
 use borrow.Author.Tests.{lt-ltb}
+use borrow.Author.Needs.{needs}
 use Rattle.trellis.specs.Field.{xor}
 use Rattle.engine.specs.Keys.{tryAt}
-use Rattle.checknode.proofs.Searching.{row-below, try-cut, try-both}
+use Rattle.checknode.proofs.Searching.{row-below, try-both}
 use Rattle.checknode.proofs.search.try_at.Statement.{statement}
 use Rattle.checknode.proofs.search.try_at.Tie as tie
 
@@ -12,31 +12,55 @@ returns : tie.Need-returns
 unfolding tryAt xor
 returns c = (simp (lt-ltb _ _ (c .if1 .taken)), omega arith)
 
-floor-of-requires : tie.Need-floor-of-requires
-floor-of-requires c κs =
+mul-pair-of : tie.Need-mul-pair-of
+mul-pair-of c = search needs
+
+shared-slice-read-pair-of : tie.Need-shared-slice-read-pair-of
+shared-slice-read-pair-of c = search needs
+
+mul-pair-of-2 : tie.Need-mul-pair-of-2
+mul-pair-of-2 c =
+    let start = c .before .before .before in
+    omega (arith, row-below (start .args .w .now) (start .pre .0) (start .args .a) (start .args .b) (start .pre .1 .0) (start .pre .1 .1), start .pre .0 .limit)
+
+shared-slice-read-pair-of-2 : tie.Need-shared-slice-read-pair-of-2
+shared-slice-read-pair-of-2 c =
     let start = c .before .before .before .before in
-    (omega arith, row-below (start .args .k0 .now) (start .args .k1 .now) (start .args .k2 .now) (start .pre .0) (start .args .a) (start .args .b) (start .pre .1 .0) (start .pre .1 .1))
+    row-below (start .args .w .now) (start .pre .0) (start .args .a) (start .args .b) (start .pre .1 .0) (start .pre .1 .1)
 
-returns-2 : tie.Need-returns-2
-returns-2 c =
-    let start = c .before .before .before .before .before .before in
-    (try-cut (start .args .k0 .now) (start .args .k1 .now) (start .args .k2 .now) (start .args .a) (start .args .m) (start .args .b) (start .args .e) (c .before .before .if1 .left) (c .if2 .taken) (c .before .floor-of .ensures), omega arith)
+pair-of-requires : tie.Need-pair-of-requires
+pair-of-requires c κs = search needs
 
-pair-at-requires : tie.Need-pair-at-requires
-pair-at-requires c κs =
-    let start = c .before .before .before .before .before .before in
-    let h = row-below (start .args .k0 .now) (start .args .k1 .now) (start .args .k2 .now) (start .pre .0) (start .args .a) (start .args .b) (start .pre .1 .0) (start .pre .1 .1) in ((omega arith, (omega arith, omega arith)), (h, (omega arith, omega arith)))
+mul-least : tie.Need-mul-least
+mul-least c = search needs
+
+cast-least : tie.Need-cast-least
+cast-least c = search needs
+
+add-least : tie.Need-add-least
+add-least c = search needs
 
 least-requires : tie.Need-least-requires
 least-requires c κs = search needs
 
-returns-3 : tie.Need-returns-3
-returns-3 c =
+returns-2 : tie.Need-returns-2
+returns-2 c =
     let at-if1 = c .before .before .before .before in
-    let start = at-if1 .before .before .before .before in
-    (try-both (start .args .k0 .now) (start .args .k1 .now) (start .args .k2 .now) (start .args .a) (start .args .m) (start .args .b) (start .args .e) (at-if1 .if1 .left) (c .before .before .if2 .left) (c .before .before .before .floor-of .ensures) (c .before .pair-at .ensures) (c .least .ensures), omega arith)
+    let start = at-if1 .before .before in
+    (try-both (start .args .w .now) (start .args .a) (start .args .b) (start .args .e) (at-if1 .if1 .left) (c .before .pair-of .ensures .0) (c .least .ensures), omega arith)
 
 pub try-at-spec : {M : Type 1} → statement M
 try-at-spec =
     tie.close
-    (tie.spec returns floor-of-requires returns-2 pair-at-requires least-requires returns-3)
+    (tie.spec
+    returns
+    mul-pair-of
+    shared-slice-read-pair-of
+    mul-pair-of-2
+    shared-slice-read-pair-of-2
+    pair-of-requires
+    mul-least
+    cast-least
+    add-least
+    least-requires
+    returns-2)
