@@ -13,7 +13,7 @@ use lib.Dec.{ltb, leb, eqb}
 use Rattle.trellis.specs.Lists.{pick, upto}
 use Rattle.trellis.specs.Field.{xor}
 use Rattle.engine.specs.Keys.{joined, pairOf, leftOf, rightOf, leftAt, rightAt, singleAt, tryAt, bestOf, secondOf, fiveOf, groupFrom, groupOf}
-use Rattle.checknode.specs.Asks.{Rowed, Tabled, wordsAt}
+use Rattle.checknode.specs.Asks.{Rowed, Tabled, minimaAt}
 use Rattle.engine.proofs.Pairs.{Reach, best-reach}
 
 pub row-below : (W : List ℕ) → Rowed W → (a b : ℕ) → a < length W → b < length W → bitXor a b < length W
@@ -82,7 +82,7 @@ module _ (W : List ℕ) (a : ℕ) where
       let k : suc b + 1 - 1 ≡ suc b = omega arith in
       rw (o, e, h, k)
 
--- a table of words
+-- a table of minima
 module _ (q d : ℕ) (t : List ℕ) (B : Tabled q d t) where
   pub room : (m : ℕ) → m ≤ d → (m * q + q ≤ length t) × (m * q + q ≤ 2112)
   room m l =
@@ -90,18 +90,18 @@ module _ (q d : ℕ) (t : List ℕ) (B : Tabled q d t) where
       let b : (d + 1) * q ≤ 33 * q = mul-le-mul-right q (omega (arith, B .few)) in
       (omega (arith, suc-mul m q, B .long), omega (arith, suc-mul m q, B .limit))
 
-  pub words-long : (m : ℕ) → m ≤ d → length (wordsAt t q m) ≡ q
-  words-long m l = simp (length-take, length-drop) (omega (arith, room m l .0))
+  pub minima-long : (m : ℕ) → m ≤ d → length (minimaAt t q m) ≡ q
+  minima-long m l = simp (length-take, length-drop) (omega (arith, room m l .0))
 
-  pub rowed : (m : ℕ) → m ≤ d → Rowed (wordsAt t q m)
-  rowed m l = record { p = B .p; power = words-long m l ∙ B .power; limit = omega (arith, words-long m l, B .limit) }
+  pub rowed : (m : ℕ) → m ≤ d → Rowed (minimaAt t q m)
+  rowed m l = record { p = B .p; power = minima-long m l ∙ B .power; limit = omega (arith, minima-long m l, B .limit) }
 
   pub without-law : (m a : ℕ) → m ≤ d → {r : ℕ} → r ≡ bestOf _+_ (take (m * q + q - m * q) (drop (m * q) t)) (length (take (m * q + q - m * q) (drop (m * q) t))) a
-      → r ≡ bestOf _+_ (wordsAt t q m) q a
-  without-law m a l o = (rw (add-sub-cancel-left (m * q) q) at o) ∙ ap (λ n. bestOf _+_ (wordsAt t q m) n a) (words-long m l)
+      → r ≡ bestOf _+_ (minimaAt t q m) q a
+  without-law m a l o = (rw (add-sub-cancel-left (m * q) q) at o) ∙ ap (λ n. bestOf _+_ (minimaAt t q m) n a) (minima-long m l)
 
   abbrev W : List ℕ
-  W = wordsAt t q d
+  W = minimaAt t q d
 
   -- the row of the cheapest choice
   pub row-in : (a : ℕ) → a < q → bestOf _+_ W q a % 64 < q
@@ -139,10 +139,10 @@ module _ (q d : ℕ) (t : List ℕ) (B : Tabled q d t) where
       go false true false = B .inside (xor a b) (other a b h k) .0
       go false false z = B .inside (xor a b) (other a b h k) .0
 
--- what a group's search has found in the words w that leave no column out
-module _ (q d : ℕ) (t : List ℕ) (B : Tabled q d t) (w : List ℕ) (e : w ≡ wordsAt t q d) (a : ℕ) (l : a < q) where
-  pub found-best : {g : ℕ} → g ≡ bestOf _+_ w (length w) a → g ≡ bestOf _+_ (wordsAt t q d) q a
-  found-best o = (rw e at o) ∙ ap (λ n. bestOf _+_ (wordsAt t q d) n a) (words-long q d t B d (omega arith))
+-- what a group's search has found in the minima w that leave no column out
+module _ (q d : ℕ) (t : List ℕ) (B : Tabled q d t) (w : List ℕ) (e : w ≡ minimaAt t q d) (a : ℕ) (l : a < q) where
+  pub found-best : {g : ℕ} → g ≡ bestOf _+_ w (length w) a → g ≡ bestOf _+_ (minimaAt t q d) q a
+  found-best o = (rw e at o) ∙ ap (λ n. bestOf _+_ (minimaAt t q d) n a) (minima-long q d t B d (omega arith))
 
   pub found-row : {g : ℕ} → g ≡ bestOf _+_ w (length w) a → g % 64 < q
   found-row o = rw (found-best o) (row-in q d t B a l)

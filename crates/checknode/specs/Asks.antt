@@ -16,24 +16,24 @@ use Rattle.engine.specs.Ready.{termOf, sumTo}
 use Rattle.checknode.specs.Answers.{weightCases}
 use Rattle.checknode.specs.Table.{productTable}
 
--- one word for each of 2 ^ p rows
+-- the minima of each of 2 ^ p rows
 pub record Rowed (W : List ℕ) : Type 0 where
   pub p : ℕ
   pub power : length W ≡ 2 ^ p
   pub limit : length W ≤ 64
 
--- the words of q rows without column m
-abbrev pub wordsAt : List ℕ → ℕ → ℕ → List ℕ
-wordsAt t q m = part t (m * q) q
+-- the minima of q rows without column m
+abbrev pub minimaAt : List ℕ → ℕ → ℕ → List ℕ
+minimaAt t q m = part t (m * q) q
 
--- a table of words without each of d columns and without none, whose keys stand in these columns
+-- a table of minima without each of d columns and without none, whose keys stand in these columns
 pub record Tabled (q d : ℕ) (t : List ℕ) : Type 0 where
   pub p : ℕ
   pub power : q ≡ 2 ^ p
   pub limit : q ≤ 64
   pub few : d ≤ 32
   pub long : length t ≡ (d + 1) * q
-  pub inside : (b : ℕ) → b < q → (getD (wordsAt t q d) b 0 / 65536 % 256 < d) × (getD (wordsAt t q d) b 0 % 65536 % 256 < d)
+  pub inside : (b : ℕ) → b < q → (getD (minimaAt t q d) b 0 / 65536 % 256 < d) × (getD (minimaAt t q d) b 0 % 65536 % 256 < d)
 
 -- each symbol's row is below 2 ^ p
 pub record Placed (costs row : List ℕ) (s : ℕ) (line : List ℕ) : Type 0 where

@@ -2,6 +2,7 @@
 mod expansion;
 mod field;
 mod form;
+mod minima;
 mod num;
 mod products;
 mod record;
@@ -9,7 +10,6 @@ mod rows;
 mod search;
 mod table;
 mod tests;
-mod words;
 
 ghost use mathlib.Core.Path.{_≡_};
 ghost use Rattle.checknode.specs.Answers.{elementReply, productReply, writtenReply, checkReply, checkLeaves, expandReply, expandLeaves};

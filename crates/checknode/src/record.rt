@@ -1,8 +1,8 @@
 // The record of an accepted check.
+use crate::minima;
 use crate::rows;
 use crate::search;
 use crate::table;
-use crate::words;
 ghost use mathlib.Core.Path.{_≡_};
 ghost use Prim.Native.Nat.{_+_, _*_, _^_, _≤_};
 ghost use lib.ListN.{length};
@@ -83,7 +83,7 @@ fn record_with(
         k2,
         &mut out[..d],
     );
-    words::fill(k0, k1, k2, d, without);
+    minima::fill(k0, k1, k2, d, without);
     search::put_groups(without, q, d, &mut out[d..e]);
 }
 

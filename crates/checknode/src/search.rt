@@ -1,4 +1,4 @@
-// The cheapest choices of one check, from the words of its rows.
+// The cheapest choices of one check, from the minima of its rows.
 use crate::num;
 ghost use mathlib.Core.Path.{_≡_};
 ghost use mathlib.Core.List.{[], _∷_};
@@ -6,9 +6,9 @@ ghost use Prim.Native.Nat.{_+_, _-_, _*_, _/_, _%_, _≤_, _<_};
 ghost use lib.ListN.{length, getD};
 ghost use Rattle.trellis.specs.Lists.{blocks};
 ghost use Rattle.engine.specs.Keys.{pairOf, leftOf, rightOf, leftAt, rightAt, singleAt, tryAt, bestOf, fiveOf, secondOf, groupOf};
-ghost use Rattle.checknode.specs.Asks.{Rowed, Tabled, wordsAt};
+ghost use Rattle.checknode.specs.Asks.{Rowed, Tabled, minimaAt};
 
-// The cheapest pair of two columns, from the words of two rows. Both sums are formed first, so that the choice between them takes no jump.
+// The cheapest pair of two columns, from the minima of two rows. Both sums are formed first, so that the choice between them takes no jump.
 fn pair_of(u: u32, v: u32) -> u32
     ensures { λ r. ⌜ (r ≡ pairOf _+_ u v) × (r < 131072) ⌝ }
 {
@@ -84,7 +84,7 @@ fn try_at(w: &[u32], a: usize, b: usize, e: u32) -> u32
     num::least(e, pair_of(w[b], w[c]) * 64 + b as u32)
 }
 
-// The cheapest choice of one column, from the word of its row.
+// The cheapest choice of one column, from the minima of its row.
 fn single_of(u: u32) -> u32
     ensures { λ r. ⌜ (r ≡ u / 65536 / 256 * 16384) × (r < 4194304) ⌝ }
 {
@@ -106,11 +106,11 @@ fn best_of(w: &[u32], a: usize) -> u32
     e
 }
 
-// The same without column m, from the table of words.
+// The same without column m, from the table of minima.
 fn best_without(t: &[u32], q: usize, d: usize, a: usize, m: usize) -> u32
     requires { ⌜ Tabled q d (now t) ⌝ }
     requires { ⌜ (a < q) × (m ≤ d) ⌝ }
-    ensures { λ r. ⌜ (r ≡ bestOf _+_ (wordsAt (now (t .entry)) q m) q a) × (r < 4194304) ⌝ }
+    ensures { λ r. ⌜ (r ≡ bestOf _+_ (minimaAt (now (t .entry)) q m) q a) × (r < 4194304) ⌝ }
 {
     let s = m * q;
     let e = s + q;
@@ -121,7 +121,7 @@ fn best_without(t: &[u32], q: usize, d: usize, a: usize, m: usize) -> u32
 fn sent_of(t: &[u32], q: usize, d: usize, a: usize, m: u8) -> u8
     requires { ⌜ Tabled q d (now t) ⌝ }
     requires { ⌜ (a < q) × (m ≤ d) ⌝ }
-    ensures { λ r. ⌜ r ≡ bestOf _+_ (wordsAt (now (t .entry)) q m) q a / 16384 ⌝ }
+    ensures { λ r. ⌜ r ≡ bestOf _+_ (minimaAt (now (t .entry)) q m) q a / 16384 ⌝ }
 {
     num::byte(best_without(t, q, d, a, num::index(m)) / 16384)
 }
@@ -130,7 +130,7 @@ fn sent_of(t: &[u32], q: usize, d: usize, a: usize, m: u8) -> u8
 fn second_of(t: &[u32], q: usize, d: usize, a: usize, m: u8, n: u8, e: u8) -> u8
     requires { ⌜ Tabled q d (now t) ⌝ }
     requires { ⌜ (a < q) × (n ≤ d) ⌝ }
-    ensures { λ r. ⌜ r ≡ secondOf _+_ (wordsAt (now (t .entry)) q) q a m n e ⌝ }
+    ensures { λ r. ⌜ r ≡ secondOf _+_ (minimaAt (now (t .entry)) q) q a m n e ⌝ }
 {
     if m == n {
         return e;
@@ -170,12 +170,12 @@ fn put_five(out: &mut [u8], e: u8, m: u8, s: u8, n: u8, t: u8)
     five(out, e, 0xFF, 0x00, 0xFF, 0x00);
 }
 
-// The bytes of a: only the columns of a cheapest choice can have S above E. The words w leave no column out.
+// The bytes of a: only the columns of a cheapest choice can have S above E. The minima w leave no column out.
 fn put_group(w: &[u32], t: &[u32], q: usize, d: usize, a: usize, out: &mut [u8])
     requires { ⌜ Tabled q d (now t) ⌝ }
-    requires { ⌜ now w ≡ wordsAt (now t) q d ⌝ }
+    requires { ⌜ now w ≡ minimaAt (now t) q d ⌝ }
     requires { ⌜ (a < q) × (length (now out) ≡ 5) ⌝ }
-    ensures { λ _. ⌜ now (out .exit) ≡ groupOf _+_ (wordsAt (now (t .entry)) q) q d a ⌝ }
+    ensures { λ _. ⌜ now (out .exit) ≡ groupOf _+_ (minimaAt (now (t .entry)) q) q d a ⌝ }
 {
     let g = best_of(w, a);
     let e = num::byte(g / 16384);
@@ -193,7 +193,7 @@ fn put_group(w: &[u32], t: &[u32], q: usize, d: usize, a: usize, out: &mut [u8])
 pub fn put_groups(t: &[u32], q: usize, d: usize, out: &mut [u8])
     requires { ⌜ Tabled q d (now t) ⌝ }
     requires { ⌜ length (now out) + 5 ≡ q * 5 ⌝ }
-    ensures { λ _. ⌜ now (out .exit) ≡ blocks (λ i. groupOf _+_ (wordsAt (now (t .entry)) q) q d (i + 1)) (q - 1) ⌝ }
+    ensures { λ _. ⌜ now (out .exit) ≡ blocks (λ i. groupOf _+_ (minimaAt (now (t .entry)) q) q d (i + 1)) (q - 1) ⌝ }
 {
     let s = d * q;
     let f = s + q;

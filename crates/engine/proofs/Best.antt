@@ -13,18 +13,18 @@ use Rattle.trellis.specs.Field.{xor}
 use Rattle.trellis.specs.Check.{Rule, Column, sentAt, extra}
 use Rattle.trellis.specs.Record.{above, group}
 use Rattle.trellis.specs.Rows.{entry}
-use Rattle.engine.specs.Keys.{wordBut, wordsBut, pairOf, leftOf, rightOf, leftAt, rightAt, bestOf, fiveOf, secondOf, groupFrom, groupOf}
+use Rattle.engine.specs.Keys.{bothBut, minimaBut, pairOf, leftOf, rightOf, leftAt, rightAt, bestOf, fiveOf, secondOf, groupFrom, groupOf}
 use Rattle.trellis.proofs.Loops.{getD-tab}
 use Rattle.trellis.proofs.Sent.{Proper}
 use Rattle.trellis.proofs.Records.{size-xor}
 use Rattle.engine.proofs.Form.{Serves, serves-sent, serves-extra}
-use Rattle.engine.proofs.Rows.{Kept, Word, word-is, eqb-yes}
+use Rattle.engine.proofs.Rows.{Kept, Minima, minima-is, eqb-yes}
 use Rattle.engine.proofs.Pairs.{pair-is, best-reach, best-one, best-two}
 use Rattle.engine.proofs.Few.{keep-one, keep-two}
 
 module _ (R : Rule) (cs : List Column) (P : Proper R cs) (two : R .most ≡ 2) (d : 2 < length cs) (few : length cs ≤ 128) (limit : R .size ≤ 64)
     (X Y Z : List ℕ) (K : (b : ℕ) → b < R .size → Kept (entry R cs b) (length cs) (getD X b 0) (getD Y b 0) (getD Z b 0))
-    (words : ℕ → List ℕ) (without : (m : ℕ) → m ≤ length cs → words m ≡ wordsBut X Y Z (R .size) m) (a : ℕ) (small : a < R .size) (some : a ≢ 0) where
+    (minima : ℕ → List ℕ) (without : (m : ℕ) → m ≤ length cs → minima m ≡ minimaBut X Y Z (R .size) m) (a : ℕ) (small : a < R .size) (some : a ≢ 0) where
   comm : (x y : ℕ) → R .join x y ≡ R .join y x
   comm x y = ap (R .join x) (sym (P .joins .right y)) ∙ P .joins .gathers .turn x y 0 ∙ ap (R .join y) (P .joins .right x)
 
@@ -35,29 +35,29 @@ module _ (R : Rule) (cs : List Column) (P : Proper R cs) (two : R .most ≡ 2) (
   closed b l = size-xor R cs P a b small l
 
   abbrev best : ℕ → ℕ
-  best m = bestOf (R .join) (words m) (R .size) a
+  best m = bestOf (R .join) (minima m) (R .size) a
 
-  word : (m : ℕ) → m ≤ length cs → (b : ℕ) → b < R .size → Word (entry R cs b) (length cs) m (getD (words m) b 0)
-  word m t b l = rw (without m t, getD-tab (λ b. wordBut (getD X b 0) (getD Y b 0) (getD Z b 0) m) (R .size) b l) (word-is (entry R cs b) (length cs) _ _ _ (K b l) m)
+  row-minima : (m : ℕ) → m ≤ length cs → (b : ℕ) → b < R .size → Minima (entry R cs b) (length cs) m (getD (minima m) b 0)
+  row-minima m t b l = rw (without m t, getD-tab (λ b. bothBut (getD X b 0) (getD Y b 0) (getD Z b 0) m) (R .size) b l) (minima-is (entry R cs b) (length cs) _ _ _ (K b l) m)
 
   one : (m : ℕ) → m ≤ length cs → (n : ℕ) → n < length cs → n ≢ m → best m / 16384 ≤ entry R cs a n
-  one m t = best-one (R .join) (P .joins .mono) comm over (words m) (entry R cs) (length cs) (R .size) a m few (word m t) small limit closed
+  one m t = best-one (R .join) (P .joins .mono) comm over (minima m) (entry R cs) (length cs) (R .size) a m few (row-minima m t) small limit closed
 
   both : (m : ℕ) → m ≤ length cs → (b : ℕ) → b < R .size → (i j : ℕ) → i < length cs → j < length cs → i ≢ j → i ≢ m → j ≢ m → best m / 16384 ≤ R .join (entry R cs b i) (entry R cs (xor a b) j)
-  both m t = best-two (R .join) (P .joins .mono) comm over (words m) (entry R cs) (length cs) (R .size) a m few (word m t) small limit closed
+  both m t = best-two (R .join) (P .joins .mono) comm over (minima m) (entry R cs) (length cs) (R .size) a m few (row-minima m t) small limit closed
 
   -- the choice that the search has found without column m: one column, or two
   abbrev row : ℕ → ℕ
   row m = best m % 64
 
   abbrev lefts : ℕ → ℕ
-  lefts m = leftAt (R .join) (words m) a (row m)
+  lefts m = leftAt (R .join) (minima m) a (row m)
 
   abbrev rights : ℕ → ℕ
-  rights m = rightAt (R .join) (words m) a (row m)
+  rights m = rightAt (R .join) (minima m) a (row m)
 
   abbrev pairAt : ℕ → ℕ
-  pairAt m = pairOf (R .join) (getD (words m) (row m) 0) (getD (words m) (xor a (row m)) 0)
+  pairAt m = pairOf (R .join) (getD (minima m) (row m) 0) (getD (minima m) (xor a (row m)) 0)
 
   record Alone (m n : ℕ) : Type 0 where
     pub in-n : n < length cs
@@ -73,10 +73,10 @@ module _ (R : Rule) (cs : List Column) (P : Proper R cs) (two : R .most ≡ 2) (
     pub i-not-m : i ≢ m
     pub cost : best m / 16384 ≡ R .join (entry R cs (row m) n) (entry R cs (xor a (row m)) i)
 
-  alone : (m : ℕ) → m ≤ length cs → row m ≡ 0 → best m / 16384 ≡ getD (words m) a 0 / 65536 / 256 → (lefts m ≡ rights m) × Alone m (rights m)
+  alone : (m : ℕ) → m ≤ length cs → row m ≡ 0 → best m / 16384 ≡ getD (minima m) a 0 / 65536 / 256 → (lefts m ≡ rights m) × Alone m (rights m)
   unfolding leftAt rightAt
   alone m t z c =
-      let C = word m t a small .first in
+      let C = row-minima m t a small .first in
       rw z (refl, record { in-n = C .in-k; not-m = C .not-m; cost = c ∙ sym (C .at-k) })
 
   beside : (m : ℕ) → m ≤ length cs → row m ≢ 0 → row m < R .size → best m / 64 ≡ pairAt m → Beside m (lefts m) (rights m)
@@ -87,11 +87,11 @@ module _ (R : Rule) (cs : List Column) (P : Proper R cs) (two : R .most ≡ 2) (
       quarter e = omega arith
 
       go : (b : Bool) → eqb (row m) 0 ≡ b
-          → Beside m (pick b (getD (words m) a 0 / 65536 % 256) (leftOf (R .join) (getD (words m) (row m) 0) (getD (words m) (xor a (row m)) 0) % 256))
-          (pick b (getD (words m) a 0 / 65536 % 256) (rightOf (R .join) (getD (words m) (row m) 0) (getD (words m) (xor a (row m)) 0) % 256))
+          → Beside m (pick b (getD (minima m) a 0 / 65536 % 256) (leftOf (R .join) (getD (minima m) (row m) 0) (getD (minima m) (xor a (row m)) 0) % 256))
+          (pick b (getD (minima m) a 0 / 65536 % 256) (rightOf (R .join) (getD (minima m) (row m) 0) (getD (minima m) (xor a (row m)) 0) % 256))
       go true q = absurd (z (eqb-yes _ _ q))
       go false q =
-          let p = pair-is (R .join) (P .joins .mono) (length cs) m few (entry R cs (row m)) (entry R cs (xor a (row m))) _ _ (word m t (row m) l) (word m t (xor a (row m)) (closed (row m) l)) in
+          let p = pair-is (R .join) (P .joins .mono) (length cs) m few (entry R cs (row m)) (entry R cs (xor a (row m))) _ _ (row-minima m t (row m) l) (row-minima m t (xor a (row m)) (closed (row m) l)) in
           record {
             in-row = l;
             in-n = p .in-k;
@@ -104,9 +104,9 @@ module _ (R : Rule) (cs : List Column) (P : Proper R cs) (two : R .most ≡ 2) (
 
   found : (m : ℕ) → m ≤ length cs → ((lefts m ≡ rights m) × Alone m (rights m)) ⊎ Beside m (lefts m) (rights m)
   found m t =
-      ⊎-elim (λ (s : (row m ≡ 0) × (best m / 16384 ≡ getD (words m) a 0 / 65536 / 256)). inl (alone m t (s .0) (s .1)))
+      ⊎-elim (λ (s : (row m ≡ 0) × (best m / 16384 ≡ getD (minima m) a 0 / 65536 / 256)). inl (alone m t (s .0) (s .1)))
       (λ (s : (row m ≢ 0) × ((row m < R .size) × (best m / 64 ≡ pairAt m))). inr (beside m t (s .0) (s .1 .0) (s .1 .1)))
-      (best-reach (R .join) (words m) (R .size) a small limit)
+      (best-reach (R .join) (minima m) (R .size) a small limit)
 
   pub serves : (m : ℕ) → m ≤ length cs → Serves R cs P two d a small some m (best m / 16384)
   serves m h =
@@ -204,7 +204,7 @@ module _ (R : Rule) (cs : List Column) (P : Proper R cs) (two : R .most ≡ 2) (
         go true c u v w = let k : R .most - 1 ≡ 1 = omega arith in rw (k, ← u, w, y)
         go false c u v w = let k : R .most - 0 ≡ 2 = omega arith in rw (k, ← u, w)
 
-  pub group-is : group R cs a ≡ groupOf (R .join) words (R .size) (length cs) a
+  pub group-is : group R cs a ≡ groupOf (R .join) minima (R .size) (length cs) a
   unfolding groupFrom secondOf
   group-is =
       let i : ℕ = lefts none in

@@ -1,4 +1,4 @@
--- Two words give the cheapest pair of two rows, and `bestOf` is the least over one entry of row a and the pairs of rows b and a + b.
+-- The minima of two rows give their cheapest pair, and `bestOf` is the least over one entry of row a and the pairs of rows b and a + b.
 use mathlib.Core.Path.{_≡_, refl, sym, ap, _∙_}
 use mathlib.Core.Bool.{Bool, true, false}
 use mathlib.Core.Logic.{_≢_, _⊎_, inl, inr}
@@ -13,7 +13,7 @@ use Rattle.trellis.specs.Lists.{pick, upto}
 use Rattle.trellis.specs.Field.{xor}
 use Rattle.engine.specs.Keys.{joined, pairOf, leftOf, rightOf, singleAt, tryAt, bestOf}
 use Rattle.trellis.proofs.Xor.{xor-cancel, xor-right}
-use Rattle.engine.proofs.Rows.{Cheapest, Word, eqb-yes, eqb-no}
+use Rattle.engine.proofs.Rows.{Cheapest, Minima, eqb-yes, eqb-no}
 
 -- e is a pair of keys k and l in two columns other than m, of rows with entries g and h
 pub record Pair (op : ℕ → ℕ → ℕ) (g h : ℕ → ℕ) (d m e k l : ℕ) : Type 0 where
@@ -41,7 +41,7 @@ module _ (op : ℕ → ℕ → ℕ) (mono : (a b c d : ℕ) → a ≤ b → c �
   least-keys k l n i s t C D p q u v x y =
       omega (arith, joined-cost op k l (omega (arith, C .in-k, D .in-k)), mono (k / 256) (g n) (l / 256) (h i) (C .least n p u x) (D .least i q v y))
 
-  module _ (u v : ℕ) (U : Word g d m u) (M : Word h d m v) where
+  module _ (u v : ℕ) (U : Minima g d m u) (M : Minima h d m v) where
     abbrev x : ℕ
     x = u / 65536
 
@@ -157,7 +157,7 @@ module _ (op : ℕ → ℕ → ℕ) (W : List ℕ) (q a : ℕ) (small : a < q) (
   best-low = after-low (q - 1) (omega arith)
 
 module _ (op : ℕ → ℕ → ℕ) (mono : (a b c d : ℕ) → a ≤ b → c ≤ d → op a c ≤ op b d) (comm : (a b : ℕ) → op a b ≡ op b a) (over : (a b : ℕ) → b ≤ op a b)
-    (W : List ℕ) (F : ℕ → ℕ → ℕ) (d q a m : ℕ) (short : d ≤ 128) (K : (b : ℕ) → b < q → Word (F b) d m (getD W b 0)) (small : a < q) (limit : q ≤ 64)
+    (W : List ℕ) (F : ℕ → ℕ → ℕ) (d q a m : ℕ) (short : d ≤ 128) (K : (b : ℕ) → b < q → Minima (F b) d m (getD W b 0)) (small : a < q) (limit : q ≤ 64)
     (closed : (b : ℕ) → b < q → xor a b < q) where
   abbrev e : ℕ
   e = bestOf op W q a

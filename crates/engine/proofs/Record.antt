@@ -13,7 +13,7 @@ use Rattle.trellis.specs.Check.{Rule, Column, costAt, weigh, decision, decided,
 use Rattle.trellis.specs.Record.{shifts, group, recordOf}
 use Rattle.trellis.specs.Rows.{entry, symbolAt}
 use Rattle.trellis.specs.Rules.{ruleFor, columnsOf, costsAt}
-use Rattle.engine.specs.Keys.{wordsBut, groupOf}
+use Rattle.engine.specs.Keys.{minimaBut, groupOf}
 use Rattle.engine.specs.Fill.{Rows, rowsOf, filled}
 use Rattle.engine.specs.Ready.{Ready, termOf, sumTo}
 use Rattle.trellis.proofs.Xor.{xor-assoc, xor-comm, xor-cancel}
@@ -124,8 +124,8 @@ module _ (p : ℕ) (ws cs : List ℕ) (D : Ready p ws cs) where
       limit : q ≤ 64
       limit = pow-mono {i = p} {j = 6} (D .high)
 
-      -- with the words of the rows in a table
-      module _ (T : ℕ → List ℕ) (without : (m : ℕ) → m ≤ length ws → T m ≡ wordsBut X Y Z q m) where
+      -- with the minima of the rows in a table
+      module _ (T : ℕ → List ℕ) (without : (m : ℕ) → m ≤ length ws → T m ≡ minimaBut X Y Z q m) where
         pub record-is : tab (λ n. xor (sumTo (termOf p ws cs) (length ws)) (termOf p ws cs n)) (length ws) ++ blocks (λ i. groupOf _+_ T q (length ws) (i + 1)) (q - 1) ≡ recordOf (ruleFor p) theColumns
         unfolding recordOf shifts
         record-is =

@@ -1,4 +1,4 @@
--- Three kept keys of each row: with one column left out, two of them are still the cheapest two, and these two are the row's word.
+-- Three kept keys of each row: with one column left out, two of them are still the cheapest two, and these are the row's minima.
 use mathlib.Core.Path.{_≡_, refl, sym, _∙_}
 use mathlib.Core.Bool.{Bool, true, false}
 use mathlib.Core.Logic.{_≢_, _⊎_, ⊎-elim}
@@ -6,7 +6,7 @@ use Prim.Native.Nat.{ℕ, _+_, _*_, _/_, _%_, _≤_, _<_}
 use native.Mathlib.Omega.{arith}
 use lib.Dec.{T, eqb, eqb→eq, eqb-refl}
 use Rattle.trellis.specs.Lists.{pick}
-use Rattle.engine.specs.Keys.{firstBut, nextBut, wordBut}
+use Rattle.engine.specs.Keys.{firstBut, nextBut, bothBut}
 
 -- x, y, z are kept of a row whose entry in column j is g j, for j below d
 pub record Kept (g : ℕ → ℕ) (d x y z : ℕ) : Type 0 where
@@ -31,8 +31,8 @@ pub record Cheapest (g : ℕ → ℕ) (d m n k : ℕ) : Type 0 where
   pub not-n : k % 256 ≢ n
   pub least : (j : ℕ) → j < d → j ≢ m → j ≢ n → k / 256 ≤ g j
 
--- w holds the two cheapest entries of a row in columns other than m
-pub record Word (g : ℕ → ℕ) (d m w : ℕ) : Type 0 where
+-- w holds both minima, the two cheapest entries of a row in columns other than m
+pub record Minima (g : ℕ → ℕ) (d m w : ℕ) : Type 0 where
   pub first : Cheapest g d m m (w / 65536)
   pub next : Cheapest g d m (w / 65536 % 256) (w % 65536)
 
@@ -113,9 +113,9 @@ module _ (g : ℕ → ℕ) (d x y z : ℕ) (K : Kept g d x y z) (m : ℕ) where
       go false true p q = left-y (eqb-no _ _ p) (eqb-yes _ _ q)
       go false false p q = left-none (eqb-no _ _ p) (eqb-no _ _ q)
 
-  pub word-is : Word g d m (wordBut x y z m)
-  unfolding wordBut
-  word-is =
+  pub minima-is : Minima g d m (bothBut x y z m)
+  unfolding bothBut
+  minima-is =
       let u : ℕ = firstBut x y m in
       let v : ℕ = nextBut x y z m in
       let h : (u * 65536 + v) / 65536 ≡ u = omega (arith, left .small) in

@@ -1,5 +1,6 @@
--- The engine's numbers. A key is a cost times 256 plus a column. A word holds the two cheapest keys of a row, the cheaper times 65,536 plus the
--- other. A pair is the joined cost of two keys times 256 plus the sum of their columns; a choice is a pair times 64 plus the row of its first key.
+-- The engine's numbers. A key is a cost times 256 plus a column. A row's minima are its two cheapest keys in one number, the cheaper times 65,536
+-- plus the other. A pair is the joined cost of two keys times 256 plus the sum of their columns; a choice is a pair times 64 plus the row of its
+-- first key.
 use mathlib.Core.List.{List, [], _∷_}
 use Prim.Native.Nat.{ℕ, suc, _+_, _*_, _/_, _%_, _-_, min, max}
 use lib.Dec.{leb, ltb, eqb}
@@ -14,18 +15,18 @@ firstBut x y m = pick (eqb (x % 256) m) y x
 unfoldable pub nextBut : ℕ → ℕ → ℕ → ℕ → ℕ
 nextBut x y z m = pick (eqb (x % 256) m) z (pick (eqb (y % 256) m) z y)
 
-unfoldable pub wordBut : ℕ → ℕ → ℕ → ℕ → ℕ
-wordBut x y z m = firstBut x y m * 65536 + nextBut x y z m
+unfoldable pub bothBut : ℕ → ℕ → ℕ → ℕ → ℕ
+bothBut x y z m = firstBut x y m * 65536 + nextBut x y z m
 
--- the words of q rows
-abbrev pub wordsBut : List ℕ → List ℕ → List ℕ → ℕ → ℕ → List ℕ
-wordsBut X Y Z q m = tab (λ b. wordBut (getD X b 0) (getD Y b 0) (getD Z b 0) m) q
+-- the minima of q rows
+abbrev pub minimaBut : List ℕ → List ℕ → List ℕ → ℕ → ℕ → List ℕ
+minimaBut X Y Z q m = tab (λ b. bothBut (getD X b 0) (getD Y b 0) (getD Z b 0) m) q
 
 -- two keys as one pair
 unfoldable pub joined : (ℕ → ℕ → ℕ) → ℕ → ℕ → ℕ
 joined op u v = op (u / 256) (v / 256) * 256 + (u % 256 + v % 256)
 
--- the cheapest pair of two columns from the words of two rows: both cheapest keys, or, where these stand in one column, one of them and the
+-- the cheapest pair of two columns from the minima of two rows: both cheapest keys, or, where these stand in one column, one of them and the
 -- other row's next
 unfoldable pub pairOf : (ℕ → ℕ → ℕ) → ℕ → ℕ → ℕ
 pairOf op u v =
@@ -67,7 +68,7 @@ unfoldable pub fiveOf : ℕ → ℕ → ℕ → ℕ → ℕ → List ℕ
 fiveOf e m s n t =
     e ∷ pick (ltb e s) (m ∷ s ∷ pick (ltb e t) (n ∷ t ∷ []) (255 ∷ 0 ∷ [])) (pick (ltb e t) (n ∷ t ∷ 255 ∷ 0 ∷ []) (255 ∷ 0 ∷ 255 ∷ 0 ∷ []))
 
--- S of column m, where T has the words without it
+-- S of column m, where T has the minima without it
 abbrev pub sentOf : (ℕ → ℕ → ℕ) → (ℕ → List ℕ) → ℕ → ℕ → ℕ → ℕ
 sentOf op T q a m = bestOf op (T m) q a / 16384
 

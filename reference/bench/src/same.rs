@@ -7,10 +7,10 @@ mod code;
 mod decode;
 mod expansion;
 mod field;
+mod minima;
 mod record;
 mod rows;
 mod search;
-mod words;
 
 pub use decode::decode;
 pub use expansion::expand;

@@ -59,5 +59,5 @@ fn put_record(p: u8, q: usize, weights: &[u8], costs: &[u8], out: &mut [u8]) {
     let (shifts, groups) = out.split_at_mut(weights.len());
     rows.clear();
     rows.fill(p, weights, costs, &mut row[..q], &mut line[..q], shifts);
-    put_groups(&rows.words(weights.len()), groups);
+    put_groups(&rows.minima(weights.len()), groups);
 }

@@ -2,7 +2,7 @@
 //! `checknode`, module `rows`. An entry is one number, its key: cost times 256 plus column.
 
 use super::field;
-use super::words::Words;
+use super::minima::Minima;
 
 /// The three rising keys of each row, in three slices of q.
 pub struct Rows<'a> {
@@ -22,9 +22,9 @@ impl Rows<'_> {
         self.third.fill(65_535);
     }
 
-    /// Their words, to search in.
-    pub fn words(&self, columns: usize) -> Words {
-        Words::new(self.first, self.second, self.third, columns)
+    /// Their minima, to search in.
+    pub fn minima(&self, columns: usize) -> Minima {
+        Minima::new(self.first, self.second, self.third, columns)
     }
 
     /// All columns: leaves the shifts in `shifts`.

@@ -1,27 +1,27 @@
-//! The cheapest choices of one check, from the words of its rows. Crate `checknode`, module `search`. A
+//! The cheapest choices of one check, from the minima of its rows. Crate `checknode`, module `search`. A
 //! pair is the sum of two keys: the cost times 256, plus both columns. A choice is a pair times 64, plus
 //! the row of its first key.
 
-use super::words::Words;
+use super::minima::Minima;
 
 /// The bytes of each a in a record.
 pub const GROUP: usize = 5;
 
 /// The bytes of each a from 1 on.
-pub fn put_groups(words: &Words, out: &mut [u8]) {
+pub fn put_groups(minima: &Minima, out: &mut [u8]) {
     let (groups, _) = out.as_chunks_mut();
     for (a, group) in (1..).zip(groups) {
-        *group = group_of(words, a);
+        *group = group_of(minima, a);
     }
 }
 
 /// The bytes of a: only the columns of a cheapest choice can have S above E.
-fn group_of(words: &Words, a: usize) -> [u8; GROUP] {
-    let choice = best(words.all(), a);
+fn group_of(minima: &Minima, a: usize) -> [u8; GROUP] {
+    let choice = best(minima.all(), a);
     let extra = cost(choice);
-    let (i, j) = columns(words.all(), a, (choice % 64) as usize);
+    let (i, j) = columns(minima.all(), a, (choice % 64) as usize);
     let (m, n) = (i.min(j), i.max(j));
-    let sent = |column: u8| cost(best(words.without(usize::from(column)), a));
+    let sent = |column: u8| cost(best(minima.without(usize::from(column)), a));
     let s = sent(m);
     let t = if m == n { extra } else { sent(n) };
     match (extra < s, extra < t) {
@@ -33,18 +33,18 @@ fn group_of(words: &Words, a: usize) -> [u8; GROUP] {
 }
 
 /// The cheapest choice of one or two columns for a.
-fn best(words: &[u32], a: usize) -> u32 {
-    let mut best = words[a] / 65_536 / 256 * 16_384;
-    for b in 1..words.len() {
+fn best(minima: &[u32], a: usize) -> u32 {
+    let mut best = minima[a] / 65_536 / 256 * 16_384;
+    for b in 1..minima.len() {
         let c = a ^ b;
         if b <= c {
-            best = best.min(pair(words[b], words[c]) * 64 + b as u32);
+            best = best.min(pair(minima[b], minima[c]) * 64 + b as u32);
         }
     }
     best
 }
 
-/// The cheapest pair of two columns, from the words of two rows. Both sums are formed first, so that the
+/// The cheapest pair of two columns, from the minima of two rows. Both sums are formed first, so that the
 /// choice between them takes no jump.
 fn pair(u: u32, v: u32) -> u32 {
     let (x, y) = (u / 65_536, u % 65_536);
@@ -59,12 +59,12 @@ fn pair(u: u32, v: u32) -> u32 {
 }
 
 /// The two columns of a choice for a with row b; one column twice where b is 0.
-fn columns(words: &[u32], a: usize, b: usize) -> (u8, u8) {
+fn columns(minima: &[u32], a: usize, b: usize) -> (u8, u8) {
     if b == 0 {
-        let column = (words[a] / 65_536) as u8;
+        let column = (minima[a] / 65_536) as u8;
         return (column, column);
     }
-    let (u, v) = (words[b], words[a ^ b]);
+    let (u, v) = (minima[b], minima[a ^ b]);
     let (x, y) = (u / 65_536, u % 65_536);
     let (s, t) = (v / 65_536, v % 65_536);
     let (left, right) = if x % 256 != s % 256 {

@@ -1,10 +1,10 @@
--- The first w elements of each array are slices of w, and those of the words a slice of w for each column and one more.
+-- The first w elements of each array are slices of w, and those of the minima a slice of w for each column and one more.
 use mathlib.Core.Path.{ap}
 use Prim.Native.Nat.{_+_, _*_}
 use native.Mathlib.Omega.{arith}
 use borrow.Author.Needs.{needs}
 use lib.ListN.{length, length-take}
-use Rattle.checknode.proofs.Recording.{words-room}
+use Rattle.checknode.proofs.Recording.{minima-room}
 use Rattle.checknode.proofs.record.record_room.Statement.{statement}
 use Rattle.checknode.proofs.record.record_room.Tie as tie
 
@@ -14,7 +14,7 @@ add-n c = search needs
 mul-n : tie.Need-mul-n
 mul-n c =
     let start = c .before .before .before .before .before .before .before .before .before .before in
-    omega (arith, words-room (length (start .args .weights .now)) (start .args .w) (start .pre .0 .few) (start .pre .1 .1 .1 .0 .0))
+    omega (arith, minima-room (length (start .args .weights .now)) (start .args .w) (start .pre .0 .few) (start .pre .1 .1 .1 .0 .0))
 
 slice-relend-prefix-record-with : tie.Need-slice-relend-prefix-record-with
 slice-relend-prefix-record-with c = search needs
@@ -49,17 +49,17 @@ slice-aggregate-record-with-5 c = simp length-take (omega arith)
 slice-relend-prefix-record-with-6 : tie.Need-slice-relend-prefix-record-with-6
 slice-relend-prefix-record-with-6 c =
     let start = c .before .before .before .before .before .before .before .before .before .before .before .before .before .before .before in
-    omega (arith, words-room (length (start .args .weights .now)) (start .args .w) (start .pre .0 .few) (start .pre .1 .1 .1 .0 .0), start .pre .1 .1 .1 .0 .1)
+    omega (arith, minima-room (length (start .args .weights .now)) (start .args .w) (start .pre .0 .few) (start .pre .1 .1 .1 .0 .0), start .pre .1 .1 .1 .0 .1)
 
 slice-aggregate-record-with-6 : tie.Need-slice-aggregate-record-with-6
 slice-aggregate-record-with-6 c =
     let start = c .before .before .before .before .before .before .before .before .before .before .before .before .before .before .before .before in
-    simp length-take (omega (arith, words-room (length (start .args .weights .now)) (start .args .w) (start .pre .0 .few) (start .pre .1 .1 .1 .0 .0), start .pre .1 .1 .1 .0 .1))
+    simp length-take (omega (arith, minima-room (length (start .args .weights .now)) (start .args .w) (start .pre .0 .few) (start .pre .1 .1 .1 .0 .0), start .pre .1 .1 .1 .0 .1))
 
 record-with-requires : tie.Need-record-with-requires
 record-with-requires c κs =
     let start = c .before .before .before .before .before .before .before .before .before .before .before .before .before .before .before .before .before in
-    let n = words-room (length (start .args .weights .now)) (start .args .w) (start .pre .0 .few) (start .pre .1 .1 .1 .0 .0) in
+    let n = minima-room (length (start .args .weights .now)) (start .args .w) (start .pre .0 .few) (start .pre .1 .1 .1 .0 .0) in
     let e = ap (λ w. (length (start .args .weights .now) + 1) * w) (start .pre .1 .1 .1 .1 .0) in
     (start .pre .0, (start .pre .1 .0, (record { of-row = simp length-take (omega arith); of-line = simp length-take (omega arith); of-x = simp length-take (omega arith); of-y = simp length-take (omega arith); of-z = simp length-take (omega arith) }, (simp length-take (omega (arith, n, e, start .pre .1 .1 .1 .0 .1)), start .pre .1 .1 .1 .1 .1))))
 

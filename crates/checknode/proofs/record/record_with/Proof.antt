@@ -1,4 +1,4 @@
--- Shifts first, then the groups from the rows' words: together the record.
+-- Shifts first, then the groups from the rows' minima: together the record.
 use mathlib.Core.Path.{refl, ap, _∙_}
 use Prim.Native.Nat.{_+_, _*_}
 use native.Mathlib.Omega.{arith}

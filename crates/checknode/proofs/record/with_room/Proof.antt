@@ -1,4 +1,4 @@
--- Arrays of 64 have room for w at most 64, and one of 33 times 64 for the words.
+-- Arrays of 64 have room for w at most 64, and one of 33 times 64 for the minima.
 use native.Mathlib.Omega.{arith}
 use borrow.Author.Needs.{needs}
 use Rattle.checknode.proofs.record.with_room.Statement.{statement}

@@ -1,10 +1,10 @@
--- The part of the table that holds the words without column m has one word for each row.
+-- The part of the table that holds the minima without column m has one number for each row.
 use Prim.Native.Nat.{_*_}
 use native.Mathlib.Omega.{arith}
 use native.Mathlib.Nat.{add-sub-cancel-left}
 use borrow.Author.Needs.{needs}
 use Rattle.checknode.proofs.Searching.{without-law}
-use Rattle.checknode.proofs.Searching.{room, words-long, rowed}
+use Rattle.checknode.proofs.Searching.{room, minima-long, rowed}
 use Rattle.checknode.proofs.search.best_without.Statement.{statement}
 use Rattle.checknode.proofs.search.best_without.Tie as tie
 
@@ -37,7 +37,7 @@ part-best-of-end c =
 best-of-requires : tie.Need-best-of-requires
 best-of-requires c κs =
     let start = c .before .before in
-    let l = words-long (start .args .q) (start .args .d) (start .args .t .now) (start .pre .0) (start .args .m) (start .pre .1 .1) in
+    let l = minima-long (start .args .q) (start .args .d) (start .args .t .now) (start .pre .0) (start .args .m) (start .pre .1 .1) in
     rw (add-sub-cancel-left (start .args .m * start .args .q) (start .args .q)) (rowed (start .args .q) (start .args .d) (start .args .t .now) (start .pre .0) (start .args .m) (start .pre .1 .1), omega (arith, l, start .pre .1 .0))
 
 returns : tie.Need-returns

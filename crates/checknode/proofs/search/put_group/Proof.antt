@@ -5,15 +5,15 @@ use native.Mathlib.Omega.{arith}
 use borrow.Author.Needs.{needs}
 use lib.ListN.{length}
 use Rattle.engine.specs.Keys.{leftAt, rightAt}
-use Rattle.checknode.specs.Asks.{wordsAt}
-use Rattle.checknode.proofs.Searching.{words-long, rowed, found-best, found-row, found-left, found-right, group-law}
+use Rattle.checknode.specs.Asks.{minimaAt}
+use Rattle.checknode.proofs.Searching.{minima-long, rowed, found-best, found-row, found-left, found-right, group-law}
 use Rattle.checknode.proofs.search.put_group.Statement.{statement}
 use Rattle.checknode.proofs.search.put_group.Tie as tie
 
 best-of-requires : tie.Need-best-of-requires
 best-of-requires c κs =
     let start = c .before .before .before in
-    rw (start .pre .1 .0) (rowed (start .args .q) (start .args .d) (start .args .t .now) (start .pre .0) (start .args .d) (omega arith), omega (arith, start .pre .1 .1, words-long (start .args .q) (start .args .d) (start .args .t .now) (start .pre .0) (start .args .d) (omega arith)))
+    rw (start .pre .1 .0) (rowed (start .args .q) (start .args .d) (start .args .t .now) (start .pre .0) (start .args .d) (omega arith), omega (arith, start .pre .1 .1, minima-long (start .args .q) (start .args .d) (start .args .t .now) (start .pre .0) (start .args .d) (omega arith)))
 
 byte-requires : tie.Need-byte-requires
 byte-requires c κs = search needs
@@ -24,12 +24,12 @@ place-requires c κs = search needs
 -- the row of the choice that was found
 row-of : (c : tie.After-place)
     → let s = c .before .before .before .before .before .before in
-    c .place .result < length (wordsAt (s .args .t .now) (s .args .q) (s .args .d))
+    c .place .result < length (minimaAt (s .args .t .now) (s .args .q) (s .args .d))
 row-of c =
     let at-best-of = c .before .before in
     let start = at-best-of .before .before .before .before in
     let w = start .pre .1 .0 in
-    let l = words-long (start .args .q) (start .args .d) (start .args .t .now) (start .pre .0) (start .args .d) (omega arith) in
+    let l = minima-long (start .args .q) (start .args .d) (start .args .t .now) (start .pre .0) (start .args .d) (omega arith) in
     let g = found-row (start .args .q) (start .args .d) (start .args .t .now) (start .pre .0) (start .args .w .now) w (start .args .a) (start .pre .1 .1 .0) (at-best-of .best-of .ensures .0) in
     omega (arith, l, g, c .place .ensures)
 
@@ -38,7 +38,7 @@ left-at-requires c κs =
     let at-best-of = c .before .before in
     let start = at-best-of .before .before .before .before in
     let B = start .pre .0 in
-    let l = words-long (start .args .q) (start .args .d) (start .args .t .now) B (start .args .d) (omega arith) in
+    let l = minima-long (start .args .q) (start .args .d) (start .args .t .now) B (start .args .d) (omega arith) in
     rw (start .pre .1 .0) (rowed (start .args .q) (start .args .d) (start .args .t .now) B (start .args .d) (omega arith), (omega (arith, l, start .pre .1 .1), row-of c))
 
 right-at-requires : tie.Need-right-at-requires
@@ -58,7 +58,7 @@ columns-of c =
     let at-place = c .before .before in
     let start = at-place .before .before .before .before .before .before in
     let e = start .pre .1 .0 in
-    let l = words-long (start .args .q) (start .args .d) (start .args .t .now) (start .pre .0) (start .args .d) (omega arith) in
+    let l = minima-long (start .args .q) (start .args .d) (start .args .t .now) (start .pre .0) (start .args .d) (omega arith) in
     let b : at-place .place .result < start .args .q = omega (arith, l, row-of at-place) in
     (found-left (start .args .q) (start .args .d) (start .args .t .now) (start .pre .0) (start .args .w .now) e (start .args .a) (start .pre .1 .1 .0) b (c .before .left-at .ensures), found-right (start .args .q) (start .args .d) (start .args .t .now) (start .pre .0) (start .args .w .now) e (start .args .a) (start .pre .1 .1 .0) b (c .right-at .ensures))
 
@@ -93,7 +93,7 @@ returns c =
     let at-best-of = at-byte .before in
     let start = at-best-of .before .before .before .before in
     let e = start .pre .1 .0 in
-    let T = wordsAt (start .args .t .now) (start .args .q) in
+    let T = minimaAt (start .args .t .now) (start .args .q) in
     (c .before .before .put-five .ensures) ∙ group-law T (start .args .q) (start .args .d) (start .args .a) (found-best (start .args .q) (start .args .d) (start .args .t .now) (start .pre .0) (start .args .w .now) e (start .args .a) (start .pre .1 .1 .0) (at-best-of .best-of .ensures .0)) (at-byte .byte .ensures) (at-place .place .ensures) (at-left-at .left-at .ensures ∙ ap (λ w. leftAt _+_ w (start .args .a) (at-place .place .result)) e) (at-right-at .right-at .ensures ∙ ap (λ w. rightAt _+_ w (start .args .a) (at-place .place .result)) e) (at-lower .lower .ensures) (at-upper .upper .ensures) (at-sent-of .sent-of .ensures) (at-second-of .second-of .ensures)
 
 pub put-group-spec : {M : Type 1} → statement M

@@ -8,14 +8,14 @@ use borrow.Author.Needs.{needs}
 use lib.ListN.{length, drop, length-take, length-drop}
 use Rattle.trellis.specs.Lists.{blocks}
 use Rattle.engine.specs.Keys.{groupOf}
-use Rattle.checknode.specs.Asks.{wordsAt}
+use Rattle.checknode.specs.Asks.{minimaAt}
 use Rattle.trellis.proofs.Loops.{block-more, block-end}
 use Rattle.checknode.proofs.Searching.{group-length}
 use Rattle.checknode.proofs.search.put_groups.Statement.{statement}
 use Rattle.checknode.proofs.search.put_groups.Tie as tie
 
 abbrev Inv-loop : tie.InvT-loop
-Inv-loop t q d out₀ s f i₀ out i = (i + 1 ≤ q) × ((length out ≡ length out₀) × (out ≡ blocks (λ j. groupOf _+_ (wordsAt t q) q d (j + 1)) i ++ drop (i * 5) out₀))
+Inv-loop t q d out₀ s f i₀ out i = (i + 1 ≤ q) × ((length out ≡ length out₀) × (out ≡ blocks (λ j. groupOf _+_ (minimaAt t q) q d (j + 1)) i ++ drop (i * 5) out₀))
 
 abbrev μ-loop : tie.MeasureT-loop
 μ-loop t q d out₀ s f i₀ out i = q - i
@@ -79,7 +79,7 @@ loop-again : tie.Need-loop-again Inv-loop μ-loop
 loop-again c =
     let at-loop = c .before .before .before .before .before .before in
     let start = at-loop .before .before .before in
-    let T = wordsAt (start .args .t .now) (start .args .q) in
+    let T = minimaAt (start .args .t .now) (start .args .q) in
     (omega arith, (omega arith, block-more (λ j. groupOf _+_ T (start .args .q) (start .args .d) (j + 1)) 5 (λ j. group-length T _ _ _ _ _) (start .args .out .now) (at-loop .loop .out) (at-loop .loop .i) (at-loop .loop .inv .1 .1) (c .before .before .put-group .ensures)))
 
 same-length : tie.Need-same-length Inv-loop μ-loop
@@ -88,7 +88,7 @@ same-length c = search needs
 returns : tie.Need-returns Inv-loop μ-loop
 returns c =
     let start = c .before .before .before .before in
-    let T = wordsAt (start .args .t .now) (start .args .q) in
+    let T = minimaAt (start .args .t .now) (start .args .q) in
     let e : c .before .loop .i ≡ start .args .q - 1 = omega arith in
     let h : length (start .args .out .now) ≡ c .before .loop .i * 5 = omega arith in
     rw (← e) (block-end (λ j. groupOf _+_ T (start .args .q) (start .args .d) (j + 1)) 5 (λ j. group-length T _ _ _ _ _) (start .args .out .now) (c .before .loop .out) (c .before .loop .i) (c .before .loop .inv .1 .1) h)

@@ -1,8 +1,8 @@
 -- The definition's tests are the function's.
 use borrow.Author.Tests.{eq-eqb, ne-eqb}
 use Rattle.engine.specs.Keys.{nextBut}
-use Rattle.checknode.proofs.words.next_but.Statement.{statement}
-use Rattle.checknode.proofs.words.next_but.Tie as tie
+use Rattle.checknode.proofs.minima.next_but.Statement.{statement}
+use Rattle.checknode.proofs.minima.next_but.Tie as tie
 
 returns : tie.Need-returns
 unfolding nextBut

@@ -1,8 +1,8 @@
 -- Two keys of 16 bits in one number of 32.
 use borrow.Author.Needs.{needs}
-use Rattle.engine.specs.Keys.{wordBut}
-use Rattle.checknode.proofs.words.word_but.Statement.{statement}
-use Rattle.checknode.proofs.words.word_but.Tie as tie
+use Rattle.engine.specs.Keys.{bothBut}
+use Rattle.checknode.proofs.minima.both_but.Statement.{statement}
+use Rattle.checknode.proofs.minima.both_but.Tie as tie
 
 first-but-requires : tie.Need-first-but-requires
 first-but-requires c κs = search needs
@@ -23,11 +23,11 @@ add-result : tie.Need-add-result
 add-result c = search needs
 
 returns : tie.Need-returns
-unfolding wordBut
+unfolding bothBut
 returns c = cc
 
-pub word-but-spec : {M : Type 1} → statement M
-word-but-spec =
+pub both-but-spec : {M : Type 1} → statement M
+both-but-spec =
     tie.close
     (tie.spec
     first-but-requires

@@ -1,8 +1,8 @@
 -- The definition's test is the function's.
 use borrow.Author.Tests.{eq-eqb, ne-eqb}
 use Rattle.engine.specs.Keys.{firstBut}
-use Rattle.checknode.proofs.words.first_but.Statement.{statement}
-use Rattle.checknode.proofs.words.first_but.Tie as tie
+use Rattle.checknode.proofs.minima.first_but.Statement.{statement}
+use Rattle.checknode.proofs.minima.first_but.Tie as tie
 
 returns : tie.Need-returns
 unfolding firstBut
