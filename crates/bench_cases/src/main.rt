@@ -97,13 +97,16 @@ fn print_count(answer: Written) {
     end_line();
 }
 
-fn main() {
+fn product_cases() {
     product_case(3, 3, 3);
     product_case(3, 4, 4);
     product_case(4, 2, 9);
     product_case(6, 2, 32);
     product_case(7, 0, 0);
     product_case(2, 4, 0);
+}
+
+fn record_cases() {
     record_case(
         2,
         b"\x01\x01\x01",
@@ -134,10 +137,19 @@ fn main() {
         b"\x01\x02\x03",
         b"\x09\x00\x09\x09\x09\x00\x09\x09\x09\x00\x09\x09",
     );
+}
+
+fn degree_cases() {
     let weights = [1u8; 33];
     let costs = [0u8; 132];
     degree_case(&weights[..2], &costs[..8]);
     degree_case(&weights[..3], &costs[..12]);
     degree_case(&weights[..32], &costs[..128]);
     degree_case(&weights, &costs);
+}
+
+fn main() {
+    product_cases();
+    record_cases();
+    degree_cases();
 }
