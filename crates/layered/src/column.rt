@@ -61,15 +61,14 @@ pub fn gather(costs: &[u16], cols: &[u16], old: &[u8], g: u16, q: usize, out: &m
     }
 }
 
-// Q plus a scaled cost.
+// Q plus a scaled cost. Two costs make more than a byte holds: the sum is formed in 32 bits, and 16 hold it.
 fn sum(c: u8, s: u8, g: u16) -> u16
     requires { ⌜ g ≤ 16 ⌝ }
     ensures { λ r. ⌜ (r ≡ c + scaled g s) × (r ≤ 510) ⌝ }
 {
-    let v = num::wide(c);
     let w = num::wide(s);
     let m = g * w / 16;
-    v + m
+    ((c as u32) + (m as u32)) as u16
 }
 
 fn least_summed(qs: &[u8], new: &[u8], g: u16) -> u16

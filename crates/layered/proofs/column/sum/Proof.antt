@@ -9,17 +9,20 @@ use Rattle.layered.proofs.column.sum.Tie as tie
 wide-requires : tie.Need-wide-requires
 wide-requires c κs = search needs
 
-wide-requires-2 : tie.Need-wide-requires-2
-wide-requires-2 c κs = search needs
-
 mul-m : tie.Need-mul-m
-mul-m c = omega (arith, mul-small (c .before .before .args .g) (c .wide2 .result) (omega arith) (omega arith))
+mul-m c = omega (arith, mul-small (c .before .args .g) (c .wide .result) (omega arith) (omega arith))
+
+cast-result : tie.Need-cast-result
+cast-result c = omega (arith, mul-small (c .before .args .g) (c .wide .result) (omega arith) (omega arith))
 
 add-result : tie.Need-add-result
-add-result c = omega (arith, mul-small (c .before .before .args .g) (c .wide2 .result) (omega arith) (omega arith))
+add-result c = omega (arith, mul-small (c .before .args .g) (c .wide .result) (omega arith) (omega arith))
+
+cast-result-2 : tie.Need-cast-result-2
+cast-result-2 c = omega (arith, mul-small (c .before .args .g) (c .wide .result) (omega arith) (omega arith))
 
 returns : tie.Need-returns
-returns c = (cc, omega (arith, mul-small (c .before .before .args .g) (c .wide2 .result) (omega arith) (omega arith)))
+returns c = (cc, omega (arith, mul-small (c .before .args .g) (c .wide .result) (omega arith) (omega arith)))
 
 pub sum-spec : {M : Type 1} → statement M
-sum-spec = tie.close (tie.spec wide-requires wide-requires-2 mul-m add-result returns)
+sum-spec = tie.close (tie.spec wide-requires mul-m cast-result add-result cast-result-2 returns)
