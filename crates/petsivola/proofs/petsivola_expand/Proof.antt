@@ -1,6 +1,7 @@
 -- The reply of the call, packed; what it writes is short enough for the lower half.
 use mathlib.Core.Path.{ap, _∙_}
 use native.Mathlib.Omega.{arith}
+use native.Mathlib.Nat.{le-trans}
 use Rattle.checknode.proofs.Values.{expand-short}
 use Rattle.petsivola.specs.Packed.{packed}
 use borrow.Author.Needs.{needs}
@@ -11,10 +12,7 @@ expand-requires : tie.Need-expand-requires
 expand-requires c κs = search needs
 
 of-written-requires : tie.Need-of-written-requires
-of-written-requires c κs =
-    let at-call = c .before .before in
-    let s = at-call .before .before .before .before .before in
-    rw (at-call .expand .ensures .0) (omega (arith, expand-short (s .args .p) (s .args .weights .now) (s .args .bytes .now) (s .args .out .now)))
+of-written-requires c κs = rw (c .before .before .expand .ensures .0) (le-trans (expand-short _ _ _ _) (omega arith))
 
 same-length : tie.Need-same-length
 same-length c = search needs

@@ -1,6 +1,5 @@
 -- The reply of the call, packed; what it writes is short enough for the lower half.
 use mathlib.Core.Path.{ap, _∙_}
-use native.Mathlib.Omega.{arith}
 use borrow.Author.Needs.{needs}
 use Rattle.petsivola.specs.Packed.{packed}
 use Rattle.petsivola.proofs.Short.{line-short}
@@ -11,10 +10,7 @@ line-requires : tie.Need-line-requires
 line-requires c κs = search needs
 
 of-written-requires : tie.Need-of-written-requires
-of-written-requires c κs =
-    let at-call = c .before .before in
-    let s = at-call .before .before .before .before in
-    rw (at-call .line .ensures .0) (omega (arith, line-short (s .args .text .now) (s .args .out .now)))
+of-written-requires c κs = rw (c .before .before .line .ensures .0) (line-short _ _)
 
 same-length : tie.Need-same-length
 same-length c = search needs
