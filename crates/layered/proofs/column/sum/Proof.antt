@@ -1,5 +1,6 @@
 -- A scaled cost is at most 255 (mul-small), so the sum is at most 510.
-use Prim.Native.Nat.{_-_}
+use mathlib.Core.Path.{_≡_, ap}
+use Prim.Native.Nat.{_*_}
 use native.Mathlib.Omega.{arith}
 use borrow.Author.Needs.{needs}
 use Rattle.layered.proofs.Columns.{mul-small}
@@ -22,7 +23,10 @@ cast-result-2 : tie.Need-cast-result-2
 cast-result-2 c = omega (arith, mul-small (c .before .args .g) (c .wide .result) (omega arith) (omega arith))
 
 returns : tie.Need-returns
-returns c = (cc, omega (arith, mul-small (c .before .args .g) (c .wide .result) (omega arith) (omega arith)))
+returns c =
+    let h = mul-small (c .before .args .g) (c .wide .result) (omega arith) (omega arith) in
+    let e : c .before .args .g * c .wide .result ≡ c .before .args .g * c .before .args .s = ap (λ k. c .before .args .g * k) (c .wide .ensures .0) in
+    (omega (arith, e), omega (arith, h))
 
 pub sum-spec : {M : Type 1} → statement M
 sum-spec = tie.close (tie.spec wide-requires mul-m cast-result add-result cast-result-2 returns)
