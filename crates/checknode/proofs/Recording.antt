@@ -1,7 +1,7 @@
 -- The rows begin empty; their minima stand in a table, column by column; shifts and groups, written one after the other, are the record.
 use mathlib.Core.Path.{_≡_, sym, ap, _∙_}
 use mathlib.Core.List.{List, [], _++_, append-nil}
-use Prim.Native.Nat.{ℕ, zero, suc, _+_, _*_, _/_, _%_, _^_, _≤_, _<_, _-_}
+use Prim.Native.Nat.{ℕ, zero, suc, _+_, _*_, _^_, _≤_, _<_, _-_}
 use native.Mathlib.Nat.{not-suc-le-zero, le-of-suc-le-suc, suc-mul, add-comm, mul-le-mul-right}
 use native.Mathlib.Omega.{arith}
 use lib.ListN.{length, take, drop, getD, drop-of-length-le}
@@ -14,7 +14,7 @@ use Rattle.trellis.specs.Rules.{ruleFor, columnsOf}
 use Rattle.engine.specs.Keys.{bothBut, minimaBut, groupOf}
 use Rattle.engine.specs.Fill.{Rows, rowsOf, merged, started, filled}
 use Rattle.engine.specs.Ready.{Ready, termOf, sumTo, keysOf}
-use Rattle.checknode.specs.Asks.{shiftsOf, Tabled, minimaAt}
+use Rattle.checknode.specs.Asks.{shiftsOf, Inside, Tabled, minimaAt}
 use Rattle.trellis.proofs.Loops.{length-tab, getD-tab, tab-ext, blocks-front, length-even}
 use Rattle.engine.proofs.Rows.{minima-is}
 use Rattle.engine.proofs.Record.{length-columns, kept, record-is}
@@ -64,12 +64,12 @@ module _ (p : ℕ) (ws cs : List ℕ) (D : Ready p ws cs) (bytes : (i : ℕ) →
   pub minima-are : (m : ℕ) → m ≤ length ws → minimaAt t q m ≡ minimaBut X Y Z q m
   minima-are m l = rw T (block-at (minimaBut X Y Z q) q (minima-length X Y Z q) (length ws + 1) m (omega arith))
 
-  inside : (b : ℕ) → b < q → (getD (minimaAt t q (length ws)) b 0 / 65536 % 256 < length ws) × (getD (minimaAt t q (length ws)) b 0 % 65536 % 256 < length ws)
+  inside : (b : ℕ) → b < q → Inside (length ws) (getD (minimaAt t q (length ws)) b 0)
   inside b l =
       let e = length-columns (2 ^ p) ws cs in
       let w = minima-is _ _ _ _ _ (kept p ws cs D bytes X Y Z F b (omega arith)) (length ws) in
       let g = getD-tab (λ b. bothBut (getD X b 0) (getD Y b 0) (getD Z b 0) (length ws)) q b l in
-      rw (minima-are (length ws) (omega arith), g) (omega (arith, w .first .in-k), omega (arith, w .next .in-k))
+      rw (minima-are (length ws) (omega arith), g) (w .small, (omega (arith, w .first .in-k), omega (arith, w .next .in-k)))
 
   pub tabled : Tabled q (length ws) t
   tabled = record {

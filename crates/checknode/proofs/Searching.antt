@@ -12,8 +12,8 @@ use lib.ListN.{length, getD, set, take, drop, length-take, length-drop}
 use lib.Dec.{ltb, leb, eqb}
 use Rattle.trellis.specs.Lists.{pick, upto}
 use Rattle.trellis.specs.Field.{xor}
-use Rattle.engine.specs.Keys.{joined, pairOf, leftOf, rightOf, leftAt, rightAt, singleAt, tryAt, bestOf, secondOf, fiveOf, groupFrom, groupOf}
-use Rattle.checknode.specs.Asks.{Rowed, Tabled, minimaAt}
+use Rattle.engine.specs.Keys.{joined, pairOf, keysOf, columnsAt, singleAt, tryAt, bestOf, secondOf, fiveOf, groupFrom, groupOf}
+use Rattle.checknode.specs.Asks.{Rowed, Inside, Tabled, minimaAt}
 use Rattle.engine.proofs.Pairs.{Reach, best-reach}
 
 pub row-below : (W : List ℕ) → Rowed W → (a b : ℕ) → a < length W → b < length W → bitXor a b < length W
@@ -44,29 +44,17 @@ module _ (u v : ℕ) where
   unfolding pairOf
   pair-apart e = simp (ne-eqb _ _ e, joined-sum)
 
-  pub left-apart : x % 256 ≢ s % 256 → x ≡ leftOf _+_ u v
-  unfolding leftOf
-  left-apart e = simp (ne-eqb _ _ e)
+  pub keys-apart : x % 256 ≢ s % 256 → x * 65536 + s ≡ keysOf _+_ u v
+  unfolding keysOf
+  keys-apart e = simp (ne-eqb _ _ e)
 
-  pub left-first : x % 256 ≡ s % 256 → x + t ≤ y + s → x ≡ leftOf _+_ u v
-  unfolding leftOf
-  left-first e l = simp (eq-eqb _ _ e, joined-sum, le-leb _ _ l)
+  pub keys-first : x % 256 ≡ s % 256 → x + t ≤ y + s → x * 65536 + t ≡ keysOf _+_ u v
+  unfolding keysOf
+  keys-first e l = simp (eq-eqb _ _ e, joined-sum, le-leb _ _ l)
 
-  pub left-next : x % 256 ≡ s % 256 → y + s < x + t → y ≡ leftOf _+_ u v
-  unfolding leftOf
-  left-next e l = simp (eq-eqb _ _ e, joined-sum, lt-leb _ _ l)
-
-  pub right-apart : x % 256 ≢ s % 256 → s ≡ rightOf _+_ u v
-  unfolding rightOf
-  right-apart e = simp (ne-eqb _ _ e)
-
-  pub right-next : x % 256 ≡ s % 256 → x + t ≤ y + s → t ≡ rightOf _+_ u v
-  unfolding rightOf
-  right-next e l = simp (eq-eqb _ _ e, joined-sum, le-leb _ _ l)
-
-  pub right-first : x % 256 ≡ s % 256 → y + s < x + t → s ≡ rightOf _+_ u v
-  unfolding rightOf
-  right-first e l = simp (eq-eqb _ _ e, joined-sum, lt-leb _ _ l)
+  pub keys-next : x % 256 ≡ s % 256 → y + s < x + t → y * 65536 + s ≡ keysOf _+_ u v
+  unfolding keysOf
+  keys-next e l = simp (eq-eqb _ _ e, joined-sum, lt-leb _ _ l)
 
 module _ (W : List ℕ) (a : ℕ) where
   pub try-both : (b e : ℕ) {p r : ℕ} → b ≤ bitXor a b → p ≡ pairOf _+_ (getD W b 0) (getD W (bitXor a b) 0) → r ≡ min e (p * 64 + b) → r ≡ tryAt _+_ W a b e
@@ -81,6 +69,23 @@ module _ (W : List ℕ) (a : ℕ) where
       let h : suc b - 1 ≡ b = omega arith in
       let k : suc b + 1 - 1 ≡ suc b = omega arith in
       rw (o, e, h, k)
+
+-- the columns of two keys, and of those that the tests choose
+two-columns : (d k l : ℕ) → l < 65536 → k % 256 < d → l % 256 < d
+    → (((k * 65536 + l) / 65536 % 256 * 256 + (k * 65536 + l) % 256) / 256 < d) × (((k * 65536 + l) / 65536 % 256 * 256 + (k * 65536 + l) % 256) % 256 < d)
+two-columns d k l h i j =
+    let a : (k * 65536 + l) / 65536 ≡ k = omega arith in
+    let b : (k * 65536 + l) % 256 ≡ l % 256 = omega arith in
+    rw (a, b) (omega arith, omega arith)
+
+columns-inside : (d w u v : ℕ) → Inside d w → Inside d u → Inside d v → (a b c : Bool)
+    → let k : ℕ = pick b (pick c (u / 65536 * 65536 + v % 65536) (u % 65536 * 65536 + v / 65536)) (u / 65536 * 65536 + v / 65536) in
+    let n : ℕ = pick a (w / 65536 % 256 * 257) (k / 65536 % 256 * 256 + k % 256) in
+    (n / 256 < d) × (n % 256 < d)
+columns-inside d w u v i j k true b c = (omega (arith, i), omega (arith, i))
+columns-inside d w u v i j k false true true = two-columns d (u / 65536) (v % 65536) (omega arith) (j .1 .0) (k .1 .1)
+columns-inside d w u v i j k false true false = two-columns d (u % 65536) (v / 65536) (k .0) (j .1 .1) (k .1 .0)
+columns-inside d w u v i j k false false c = two-columns d (u / 65536) (v / 65536) (k .0) (j .1 .0) (k .1 .0)
 
 -- a table of minima
 module _ (q d : ℕ) (t : List ℕ) (B : Tabled q d t) where
@@ -115,29 +120,14 @@ module _ (q d : ℕ) (t : List ℕ) (B : Tabled q d t) where
   unfolding xor
   other a b h k = rw (B .power) (xor-lt (B .p) a b (rw (B .power) at h) (rw (B .power) at k))
 
-  -- its columns
-  abbrev first : ℕ → ℕ → Bool
-  first a b = leb (joined _+_ (getD W b 0 / 65536) (getD W (xor a b) 0 % 65536)) (joined _+_ (getD W b 0 % 65536) (getD W (xor a b) 0 / 65536))
-
-  pub left-in : (a b : ℕ) → a < q → b < q → leftAt _+_ W a b < d
-  unfolding leftAt leftOf
-  left-in a b h k = go (eqb b 0) (eqb (getD W b 0 / 65536 % 256) (getD W (xor a b) 0 / 65536 % 256)) (first a b)
-    where
-      go : (x y z : Bool) → pick x (getD W a 0 / 65536 % 256) (pick y (pick z (getD W b 0 / 65536) (getD W b 0 % 65536)) (getD W b 0 / 65536) % 256) < d
-      go true y z = B .inside a h .0
-      go false true true = B .inside b k .0
-      go false true false = B .inside b k .1
-      go false false z = B .inside b k .0
-
-  pub right-in : (a b : ℕ) → a < q → b < q → rightAt _+_ W a b < d
-  unfolding rightAt rightOf
-  right-in a b h k = go (eqb b 0) (eqb (getD W b 0 / 65536 % 256) (getD W (xor a b) 0 / 65536 % 256)) (first a b)
-    where
-      go : (x y z : Bool) → pick x (getD W a 0 / 65536 % 256) (pick y (pick z (getD W (xor a b) 0 % 65536) (getD W (xor a b) 0 / 65536)) (getD W (xor a b) 0 / 65536) % 256) < d
-      go true y z = B .inside a h .0
-      go false true true = B .inside (xor a b) (other a b h k) .1
-      go false true false = B .inside (xor a b) (other a b h k) .0
-      go false false z = B .inside (xor a b) (other a b h k) .0
+  -- its columns are below d
+  pub columns-in : (a b : ℕ) → a < q → b < q → (columnsAt _+_ W a b / 256 < d) × (columnsAt _+_ W a b % 256 < d)
+  unfolding columnsAt keysOf
+  columns-in a b h k =
+      let u : ℕ = getD W b 0 in
+      let v : ℕ = getD W (xor a b) 0 in
+      columns-inside d (getD W a 0) u v (B .inside a h) (B .inside b k) (B .inside (xor a b) (other a b h k)) (eqb b 0) (eqb (u / 65536 % 256) (v / 65536 % 256))
+      (leb (joined _+_ (u / 65536) (v % 65536)) (joined _+_ (u % 65536) (v / 65536)))
 
 -- what a group's search has found in the minima w that leave no column out
 module _ (q d : ℕ) (t : List ℕ) (B : Tabled q d t) (w : List ℕ) (e : w ≡ minimaAt t q d) (a : ℕ) (l : a < q) where
@@ -147,11 +137,8 @@ module _ (q d : ℕ) (t : List ℕ) (B : Tabled q d t) (w : List ℕ) (e : w ≡
   pub found-row : {g : ℕ} → g ≡ bestOf _+_ w (length w) a → g % 64 < q
   found-row o = rw (found-best o) (row-in q d t B a l)
 
-  pub found-left : {b i : ℕ} → b < q → i ≡ leftAt _+_ w a b → i < d
-  found-left {b} h o = rw (o, e) (left-in q d t B a b l h)
-
-  pub found-right : {b i : ℕ} → b < q → i ≡ rightAt _+_ w a b → i < d
-  found-right {b} h o = rw (o, e) (right-in q d t B a b l h)
+  pub found-columns : {b c : ℕ} → b < q → c ≡ columnsAt _+_ w a b → (c / 256 < d) × (c % 256 < d)
+  found-columns {b} h o = rw (o, e) (columns-in q d t B a b l h)
 
 pub five-sets : (l : List ℕ) (a b c d e : ℕ) → length l ≡ 5 → set (set (set (set (set l 0 a) 1 b) 2 c) 3 d) 4 e ≡ a ∷ b ∷ c ∷ d ∷ e ∷ []
 five-sets (v ∷ w ∷ x ∷ y ∷ z ∷ []) a b c d e h = refl
@@ -163,10 +150,10 @@ five-sets (v ∷ w ∷ x ∷ y ∷ []) a b c d e h = absurd (omega arith)
 five-sets (v ∷ w ∷ x ∷ y ∷ z ∷ u ∷ l) a b c d e h = absurd (omega arith)
 
 module _ (T : ℕ → List ℕ) (q d a : ℕ) where
-  pub group-law : {g e b i j m n s t : ℕ} → g ≡ bestOf _+_ (T d) q a → e ≡ g / 16384 → b ≡ g % 64 → i ≡ leftAt _+_ (T d) a b → j ≡ rightAt _+_ (T d) a b → m ≡ min i j → n ≡ max i j
+  pub group-law : {g e b c i j m n s t : ℕ} → g ≡ bestOf _+_ (T d) q a → e ≡ g / 16384 → b ≡ g % 64 → c ≡ columnsAt _+_ (T d) a b → i ≡ c / 256 → j ≡ c % 256 → m ≡ min i j → n ≡ max i j
       → s ≡ bestOf _+_ (T m) q a / 16384 → t ≡ secondOf _+_ T q a m n e → fiveOf e m s n t ≡ groupOf _+_ T q d a
   unfolding groupFrom
-  group-law p e b i j m n s t = rw (t, s, n, m, i, j, b, e, p)
+  group-law p e b c i j m n s t = rw (t, s, n, m, i, j, c, b, e, p)
 
 pub five-length : (e m s n t : ℕ) → length (fiveOf e m s n t) ≡ 5
 unfolding fiveOf

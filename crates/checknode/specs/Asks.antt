@@ -26,6 +26,10 @@ pub record Rowed (W : List ℕ) : Type 0 where
 abbrev pub minimaAt : List ℕ → ℕ → ℕ → List ℕ
 minimaAt t q m = part t (m * q) q
 
+-- two keys of 16 bits, in columns below d
+abbrev pub Inside : ℕ → ℕ → Type 0
+Inside d u = (u / 65536 < 65536) × ((u / 65536 % 256 < d) × (u % 65536 % 256 < d))
+
 -- a table of minima without each of d columns and without none, whose keys stand in these columns
 pub record Tabled (q d : ℕ) (t : List ℕ) : Type 0 where
   pub p : ℕ
@@ -33,7 +37,7 @@ pub record Tabled (q d : ℕ) (t : List ℕ) : Type 0 where
   pub limit : q ≤ 64
   pub few : d ≤ 32
   pub long : length t ≡ (d + 1) * q
-  pub inside : (b : ℕ) → b < q → (getD (minimaAt t q d) b 0 / 65536 % 256 < d) × (getD (minimaAt t q d) b 0 % 65536 % 256 < d)
+  pub inside : (b : ℕ) → b < q → Inside d (getD (minimaAt t q d) b 0)
 
 -- each symbol's row is below 2 ^ p
 pub record Placed (costs row : List ℕ) (s : ℕ) (line : List ℕ) : Type 0 where

@@ -5,7 +5,7 @@ ghost use mathlib.Core.List.{[], _∷_};
 ghost use Prim.Native.Nat.{_+_, _-_, _*_, _/_, _%_, _≤_, _<_};
 ghost use lib.ListN.{length, getD};
 ghost use Rattle.trellis.specs.Lists.{blocks};
-ghost use Rattle.engine.specs.Keys.{pairOf, leftOf, rightOf, leftAt, rightAt, singleAt, tryAt, bestOf, fiveOf, secondOf, groupOf};
+ghost use Rattle.engine.specs.Keys.{pairOf, keysOf, columnsAt, singleAt, tryAt, bestOf, fiveOf, secondOf, groupOf};
 ghost use Rattle.checknode.specs.Asks.{Rowed, Tabled, minimaAt};
 
 // The cheapest pair of two columns, from the minima of two rows. Both sums are formed first, so that the choice between them takes no jump.
@@ -21,54 +21,34 @@ fn pair_of(u: u32, v: u32) -> u32
     if x % 256 == s % 256 { shared } else { apart }
 }
 
-// The key of that pair in the first row.
-fn left_of(u: u32, v: u32) -> u32
-    ensures { λ r. ⌜ r ≡ leftOf _+_ u v ⌝ }
+// The two keys of that pair in one number, by the same tests.
+fn keys_of(u: u32, v: u32) -> u32
+    ensures { λ r. ⌜ r ≡ keysOf _+_ u v ⌝ }
 {
-    if u / 65536 % 256 != v / 65536 % 256 {
-        return u / 65536;
+    let x = u / 65536;
+    let y = u % 65536;
+    let s = v / 65536;
+    let t = v % 65536;
+    if x % 256 != s % 256 {
+        return x * 65536 + s;
     }
-    if u / 65536 + v % 65536 <= u % 65536 + v / 65536 {
-        return u / 65536;
+    if x + t <= y + s {
+        return x * 65536 + t;
     }
-    u % 65536
+    y * 65536 + s
 }
 
-// Its key in the second row.
-fn right_of(u: u32, v: u32) -> u32
-    ensures { λ r. ⌜ r ≡ rightOf _+_ u v ⌝ }
-{
-    if u / 65536 % 256 != v / 65536 % 256 {
-        return v / 65536;
-    }
-    if u / 65536 + v % 65536 <= u % 65536 + v / 65536 {
-        return v % 65536;
-    }
-    v / 65536
-}
-
-// The first column of a choice for a with row b.
-fn left_at(w: &[u32], a: usize, b: usize) -> u8
+// The two columns of a choice for a with row b, the first times 256 plus the second; one column twice where b is 0.
+fn columns_at(w: &[u32], a: usize, b: usize) -> u32
     requires { ⌜ Rowed (now w) ⌝ }
     requires { ⌜ (a < length (now w)) × (b < length (now w)) ⌝ }
-    ensures { λ r. ⌜ r ≡ leftAt _+_ (now (w .entry)) a b ⌝ }
+    ensures { λ r. ⌜ (r ≡ columnsAt _+_ (now (w .entry)) a b) × (r < 65536) ⌝ }
 {
     if b == 0 {
-        return num::byte(w[a] / 65536 % 256);
+        return w[a] / 65536 % 256 * 257;
     }
-    num::byte(left_of(w[b], w[a ^ b]) % 256)
-}
-
-// The second column, which is the first where b is 0.
-fn right_at(w: &[u32], a: usize, b: usize) -> u8
-    requires { ⌜ Rowed (now w) ⌝ }
-    requires { ⌜ (a < length (now w)) × (b < length (now w)) ⌝ }
-    ensures { λ r. ⌜ r ≡ rightAt _+_ (now (w .entry)) a b ⌝ }
-{
-    if b == 0 {
-        return num::byte(w[a] / 65536 % 256);
-    }
-    num::byte(right_of(w[b], w[a ^ b]) % 256)
+    let keys = keys_of(w[b], w[a ^ b]);
+    keys / 65536 % 256 * 256 + keys % 256
 }
 
 // The cheaper of e and the cheapest pair of rows b and a + b.
@@ -180,8 +160,9 @@ fn put_group(w: &[u32], t: &[u32], q: usize, d: usize, a: usize, out: &mut [u8])
     let g = best_of(w, a);
     let e = num::byte(g / 16384);
     let b = num::place(g % 64);
-    let i = left_at(w, a, b);
-    let j = right_at(w, a, b);
+    let columns = columns_at(w, a, b);
+    let i = num::byte(columns / 256);
+    let j = num::byte(columns % 256);
     let m = num::lower(i, j);
     let n = num::upper(i, j);
     let s = sent_of(t, q, d, a, m);

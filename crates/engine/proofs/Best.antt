@@ -3,7 +3,7 @@ use mathlib.Core.Path.{_≡_, refl, sym, ap, _∙_}
 use mathlib.Core.Bool.{Bool, true, false, cond}
 use mathlib.Core.Logic.{_≢_, _⊎_, inl, inr, ⊎-elim}
 use mathlib.Core.List.{List, [], _∷_, _++_}
-use Prim.Native.Nat.{ℕ, _/_, _%_, _-_, _≤_, _<_, min, max}
+use Prim.Native.Nat.{ℕ, _+_, _*_, _/_, _%_, _-_, _≤_, _<_, min, max}
 use native.Mathlib.Decide.{ℕ-discrete}
 use native.Mathlib.Omega.{arith}
 use lib.Dec.{T, ltb, eqb, ltb→lt, eqb→eq, eqb-refl}
@@ -13,7 +13,7 @@ use Rattle.trellis.specs.Field.{xor}
 use Rattle.trellis.specs.Check.{Rule, Column, sentAt, extra}
 use Rattle.trellis.specs.Record.{above, group}
 use Rattle.trellis.specs.Rows.{entry}
-use Rattle.engine.specs.Keys.{bothBut, minimaBut, pairOf, leftOf, rightOf, leftAt, rightAt, bestOf, fiveOf, secondOf, groupFrom, groupOf}
+use Rattle.engine.specs.Keys.{bothBut, minimaBut, pairOf, keysOf, columnsAt, bestOf, fiveOf, secondOf, groupFrom, groupOf}
 use Rattle.trellis.proofs.Loops.{getD-tab}
 use Rattle.trellis.proofs.Sent.{Proper}
 use Rattle.trellis.proofs.Records.{size-xor}
@@ -51,10 +51,10 @@ module _ (R : Rule) (cs : List Column) (P : Proper R cs) (two : R .most ≡ 2) (
   row m = best m % 64
 
   abbrev lefts : ℕ → ℕ
-  lefts m = leftAt (R .join) (minima m) a (row m)
+  lefts m = columnsAt (R .join) (minima m) a (row m) / 256
 
   abbrev rights : ℕ → ℕ
-  rights m = rightAt (R .join) (minima m) a (row m)
+  rights m = columnsAt (R .join) (minima m) a (row m) % 256
 
   abbrev pairAt : ℕ → ℕ
   pairAt m = pairOf (R .join) (getD (minima m) (row m) 0) (getD (minima m) (xor a (row m)) 0)
@@ -73,34 +73,45 @@ module _ (R : Rule) (cs : List Column) (P : Proper R cs) (two : R .most ≡ 2) (
     pub i-not-m : i ≢ m
     pub cost : best m / 16384 ≡ R .join (entry R cs (row m) n) (entry R cs (xor a (row m)) i)
 
+  one-column : (m : ℕ) → row m ≡ 0 → (lefts m ≡ getD (minima m) a 0 / 65536 % 256) × (rights m ≡ getD (minima m) a 0 / 65536 % 256)
+  unfolding columnsAt
+  one-column m z = rw z (omega arith, omega arith)
+
+  abbrev keys : ℕ → ℕ
+  keys m = keysOf (R .join) (getD (minima m) (row m) 0) (getD (minima m) (xor a (row m)) 0)
+
+  two-columns : (m : ℕ) → row m ≢ 0 → (lefts m ≡ keys m / 65536 % 256) × (rights m ≡ keys m % 65536 % 256)
+  unfolding columnsAt
+  two-columns m z = go (eqb (row m) 0) refl
+    where
+      go : (b : Bool) → eqb (row m) 0 ≡ b
+          → (pick b (getD (minima m) a 0 / 65536 % 256 * 257) (keys m / 65536 % 256 * 256 + keys m % 256) / 256 ≡ keys m / 65536 % 256)
+          × (pick b (getD (minima m) a 0 / 65536 % 256 * 257) (keys m / 65536 % 256 * 256 + keys m % 256) % 256 ≡ keys m % 65536 % 256)
+      go true q = absurd (z (eqb-yes _ _ q))
+      go false q = (omega arith, omega arith)
+
   alone : (m : ℕ) → m ≤ length cs → row m ≡ 0 → best m / 16384 ≡ getD (minima m) a 0 / 65536 / 256 → (lefts m ≡ rights m) × Alone m (rights m)
-  unfolding leftAt rightAt
   alone m t z c =
       let C = row-minima m t a small .first in
-      rw z (refl, record { in-n = C .in-k; not-m = C .not-m; cost = c ∙ sym (C .at-k) })
+      let e = one-column m z in
+      (e .0 ∙ sym (e .1), rw (e .1) record { in-n = C .in-k; not-m = C .not-m; cost = c ∙ sym (C .at-k) })
 
   beside : (m : ℕ) → m ≤ length cs → row m ≢ 0 → row m < R .size → best m / 64 ≡ pairAt m → Beside m (lefts m) (rights m)
-  unfolding leftAt rightAt
-  beside m t z l e = go (eqb (row m) 0) refl
+  beside m t z l e =
+      let p = pair-is (R .join) (P .joins .mono) (length cs) m few (entry R cs (row m)) (entry R cs (xor a (row m))) _ _ (row-minima m t (row m) l) (row-minima m t (xor a (row m)) (closed (row m) l)) in
+      let h = two-columns m z in
+      rw (h .0, h .1) record {
+        in-row = l;
+        in-n = p .in-k;
+        in-i = p .in-l;
+        apart = p .apart;
+        n-not-m = p .k-not-m;
+        i-not-m = p .l-not-m;
+        cost = quarter (best m) ∙ ap (λ y. y / 256) e ∙ p .cost;
+      }
     where
       quarter : (e : ℕ) → e / 16384 ≡ e / 64 / 256
       quarter e = omega arith
-
-      go : (b : Bool) → eqb (row m) 0 ≡ b
-          → Beside m (pick b (getD (minima m) a 0 / 65536 % 256) (leftOf (R .join) (getD (minima m) (row m) 0) (getD (minima m) (xor a (row m)) 0) % 256))
-          (pick b (getD (minima m) a 0 / 65536 % 256) (rightOf (R .join) (getD (minima m) (row m) 0) (getD (minima m) (xor a (row m)) 0) % 256))
-      go true q = absurd (z (eqb-yes _ _ q))
-      go false q =
-          let p = pair-is (R .join) (P .joins .mono) (length cs) m few (entry R cs (row m)) (entry R cs (xor a (row m))) _ _ (row-minima m t (row m) l) (row-minima m t (xor a (row m)) (closed (row m) l)) in
-          record {
-            in-row = l;
-            in-n = p .in-k;
-            in-i = p .in-l;
-            apart = p .apart;
-            n-not-m = p .k-not-m;
-            i-not-m = p .l-not-m;
-            cost = quarter (best m) ∙ ap (λ y. y / 256) e ∙ p .cost;
-          }
 
   found : (m : ℕ) → m ≤ length cs → ((lefts m ≡ rights m) × Alone m (rights m)) ⊎ Beside m (lefts m) (rights m)
   found m t =

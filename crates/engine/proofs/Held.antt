@@ -151,6 +151,6 @@ module _ (g : ℕ → ℕ) (d x y z : ℕ) (H : Held (λ j. g j * 256 + j) d x y
         x-z = λ e. omega (arith, sym (fx .1) ∙ ap g e ∙ fz .1);
         y-z = λ e. omega (arith, sym (fy .1) ∙ ap g e ∙ fz .1);
         up = (omega arith, omega arith);
-        small = (omega (arith, full), omega (arith, full));
+        small = (omega (arith, full), (omega (arith, full), omega (arith, full)));
         rest = λ j l. ⊎-elim (λ e. inl (omega arith)) (⊎-elim (λ e. inr (inl (omega arith))) (⊎-elim (λ e. inr (inr (inl (omega arith)))) (λ e. inr (inr (inr (omega arith)))))) (H .rest j l);
       }

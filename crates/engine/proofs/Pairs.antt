@@ -11,7 +11,7 @@ use lib.Dec.{ltb, leb, eqb, ltb→lt, leb→le, nleb→lt}
 use lib.ListN.{getD}
 use Rattle.trellis.specs.Lists.{pick, upto}
 use Rattle.trellis.specs.Field.{xor}
-use Rattle.engine.specs.Keys.{joined, pairOf, leftOf, rightOf, singleAt, tryAt, bestOf}
+use Rattle.engine.specs.Keys.{joined, pairOf, keysOf, singleAt, tryAt, bestOf}
 use Rattle.trellis.proofs.Xor.{xor-cancel, xor-right}
 use Rattle.engine.proofs.Rows.{Cheapest, Minima, eqb-yes, eqb-no}
 
@@ -54,19 +54,24 @@ module _ (op : ℕ → ℕ → ℕ) (mono : (a b c d : ℕ) → a ≤ b → c �
     abbrev t : ℕ
     t = v % 65536
 
-    pub pair-is : Pair op g h d m (pairOf op u v) (leftOf op u v) (rightOf op u v)
-    unfolding pairOf leftOf rightOf
+    halves : (k l : ℕ) → l < 65536 → ((k * 65536 + l) / 65536 ≡ k) × ((k * 65536 + l) % 65536 ≡ l)
+    halves k l h = (omega arith, omega arith)
+
+    pub pair-is : Pair op g h d m (pairOf op u v) (keysOf op u v / 65536) (keysOf op u v % 65536)
+    unfolding pairOf keysOf
     pair-is = go (eqb (x % 256) (s % 256)) (leb (joined op x t) (joined op y s)) refl refl
       where
         go : (b c : Bool) → eqb (x % 256) (s % 256) ≡ b → leb (joined op x t) (joined op y s) ≡ c
-            → Pair op g h d m (pick b (min (joined op x t) (joined op y s)) (joined op x s)) (pick b (pick c x y) x) (pick b (pick c t s) s)
-        go false c p r = of-keys x s m m (U .first) (M .first) (eqb-no _ _ p)
+            → Pair op g h d m (pick b (min (joined op x t) (joined op y s)) (joined op x s)) (pick b (pick c (x * 65536 + t) (y * 65536 + s)) (x * 65536 + s) / 65536)
+            (pick b (pick c (x * 65536 + t) (y * 65536 + s)) (x * 65536 + s) % 65536)
+        go false c p r = rw (halves x s (M .small) .0, halves x s (M .small) .1) (of-keys x s m m (U .first) (M .first) (eqb-no _ _ p))
         go true true p r =
             let e : min (joined op x t) (joined op y s) ≡ joined op x t = omega (arith, leb→le (joined op x t) (joined op y s) (rw r tt)) in
-            rw e (of-keys x t m (s % 256) (U .first) (M .next) (λ k. M .next .not-n (sym k ∙ eqb-yes _ _ p)))
+            let i : t < 65536 = omega arith in
+            rw (e, halves x t i .0, halves x t i .1) (of-keys x t m (s % 256) (U .first) (M .next) (λ k. M .next .not-n (sym k ∙ eqb-yes _ _ p)))
         go true false p r =
             let e : min (joined op x t) (joined op y s) ≡ joined op y s = omega (arith, nleb→lt (joined op x t) (joined op y s) (rw r tt)) in
-            rw e (of-keys y s (x % 256) m (U .next) (M .first) (λ k. U .next .not-n (k ∙ sym (eqb-yes _ _ p))))
+            rw (e, halves y s (M .small) .0, halves y s (M .small) .1) (of-keys y s (x % 256) m (U .next) (M .first) (λ k. U .next .not-n (k ∙ sym (eqb-yes _ _ p))))
 
     pub pair-least : (n i : ℕ) → n < d → i < d → n ≢ i → n ≢ m → i ≢ m → pairOf op u v / 256 ≤ op (g n) (h i)
     unfolding pairOf

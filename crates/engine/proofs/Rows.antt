@@ -20,7 +20,7 @@ pub record Kept (g : ℕ → ℕ) (d x y z : ℕ) : Type 0 where
   pub x-z : x % 256 ≢ z % 256
   pub y-z : y % 256 ≢ z % 256
   pub up : (x / 256 ≤ y / 256) × (y / 256 ≤ z / 256)
-  pub small : (y < 65536) × (z < 65536)
+  pub small : (x < 65536) × ((y < 65536) × (z < 65536))
   pub rest : (j : ℕ) → j < d → (j ≡ x % 256) ⊎ ((j ≡ y % 256) ⊎ ((j ≡ z % 256) ⊎ (z / 256 ≤ g j)))
 
 -- k is the cheapest entry of a row in a column other than m and n
@@ -35,6 +35,7 @@ pub record Cheapest (g : ℕ → ℕ) (d m n k : ℕ) : Type 0 where
 pub record Minima (g : ℕ → ℕ) (d m w : ℕ) : Type 0 where
   pub first : Cheapest g d m m (w / 65536)
   pub next : Cheapest g d m (w / 65536 % 256) (w % 65536)
+  pub small : w / 65536 < 65536
 
 pub eqb-yes : (x y : ℕ) → eqb x y ≡ true → x ≡ y
 eqb-yes x y e = eqb→eq x y (rw e tt)
@@ -51,7 +52,7 @@ module _ (g : ℕ → ℕ) (d x y z : ℕ) (K : Kept g d x y z) (m : ℕ) where
   record Left (u v : ℕ) : Type 0 where
     pub first : Cheapest g d m m u
     pub next : Cheapest g d m (u % 256) v
-    pub small : v < 65536
+    pub small : (u < 65536) × (v < 65536)
 
   left-x : x % 256 ≡ m → Left y z
   left-x e = record {
@@ -87,7 +88,7 @@ module _ (g : ℕ → ℕ) (d x y z : ℕ) (K : Kept g d x y z) (m : ℕ) where
       not-n = λ h. K .x-z (sym h);
       least = λ j l h k. ⊎-elim (λ s. absurd (k s)) (⊎-elim (λ s. absurd (h (s ∙ e))) (⊎-elim (λ s. rw s (omega (arith, K .at-z))) (λ s. s))) (K .rest j l);
     };
-    small = K .small .1;
+    small = (K .small .0, K .small .1 .1);
   }
 
   left-none : x % 256 ≢ m → y % 256 ≢ m → Left x y
@@ -101,7 +102,7 @@ module _ (g : ℕ → ℕ) (d x y z : ℕ) (K : Kept g d x y z) (m : ℕ) where
       least = λ j l h k.
           ⊎-elim (λ s. absurd (k s)) (⊎-elim (λ s. rw s (omega (arith, K .at-y))) (⊎-elim (λ s. rw s (omega (arith, K .at-z, K .up))) (λ s. omega (arith, K .up)))) (K .rest j l);
     };
-    small = K .small .0;
+    small = (K .small .0, K .small .1 .0);
   }
 
   left : Left (firstBut x y m) (nextBut x y z m)
@@ -120,4 +121,4 @@ module _ (g : ℕ → ℕ) (d x y z : ℕ) (K : Kept g d x y z) (m : ℕ) where
       let v : ℕ = nextBut x y z m in
       let h : (u * 65536 + v) / 65536 ≡ u = omega (arith, left .small) in
       let k : (u * 65536 + v) % 65536 ≡ v = omega (arith, left .small) in
-      record { first = rw h (left .first); next = rw (h, k) (left .next) }
+      record { first = rw h (left .first); next = rw (h, k) (left .next); small = rw h (left .small .0) }

@@ -33,16 +33,12 @@ pairOf op u v =
     pick (eqb (u / 65536 % 256) (v / 65536 % 256)) (min (joined op (u / 65536) (v % 65536)) (joined op (u % 65536) (v / 65536)))
     (joined op (u / 65536) (v / 65536))
 
--- its keys
-unfoldable pub leftOf : (ℕ → ℕ → ℕ) → ℕ → ℕ → ℕ
-leftOf op u v =
-    pick (eqb (u / 65536 % 256) (v / 65536 % 256)) (pick (leb (joined op (u / 65536) (v % 65536)) (joined op (u % 65536) (v / 65536))) (u / 65536) (u % 65536))
-    (u / 65536)
-
-unfoldable pub rightOf : (ℕ → ℕ → ℕ) → ℕ → ℕ → ℕ
-rightOf op u v =
-    pick (eqb (u / 65536 % 256) (v / 65536 % 256)) (pick (leb (joined op (u / 65536) (v % 65536)) (joined op (u % 65536) (v / 65536))) (v % 65536) (v / 65536))
-    (v / 65536)
+-- its two keys, in one number as a row's minima are
+unfoldable pub keysOf : (ℕ → ℕ → ℕ) → ℕ → ℕ → ℕ
+keysOf op u v =
+    pick (eqb (u / 65536 % 256) (v / 65536 % 256))
+    (pick (leb (joined op (u / 65536) (v % 65536)) (joined op (u % 65536) (v / 65536))) (u / 65536 * 65536 + v % 65536) (u % 65536 * 65536 + v / 65536))
+    (u / 65536 * 65536 + v / 65536)
 
 -- the cheapest choice of one column, in row a; row 0 stands for no second column
 unfoldable pub singleAt : List ℕ → ℕ → ℕ
@@ -56,12 +52,11 @@ tryAt op W a b e = pick (ltb (xor a b) b) e (min e (pairOf op (getD W b 0) (getD
 unfoldable pub bestOf : (ℕ → ℕ → ℕ) → List ℕ → ℕ → ℕ → ℕ
 bestOf op W q a = upto (λ i e. tryAt op W a (suc i) e) (q - 1) (singleAt W a)
 
--- the two columns of a choice with rows b and a + b; one column twice where b is 0
-unfoldable pub leftAt : (ℕ → ℕ → ℕ) → List ℕ → ℕ → ℕ → ℕ
-leftAt op W a b = pick (eqb b 0) (getD W a 0 / 65536 % 256) (leftOf op (getD W b 0) (getD W (xor a b) 0) % 256)
-
-unfoldable pub rightAt : (ℕ → ℕ → ℕ) → List ℕ → ℕ → ℕ → ℕ
-rightAt op W a b = pick (eqb b 0) (getD W a 0 / 65536 % 256) (rightOf op (getD W b 0) (getD W (xor a b) 0) % 256)
+-- the two columns of a choice with rows b and a + b, the first times 256 plus the second; one column twice where b is 0
+unfoldable pub columnsAt : (ℕ → ℕ → ℕ) → List ℕ → ℕ → ℕ → ℕ
+columnsAt op W a b =
+    pick (eqb b 0) (getD W a 0 / 65536 % 256 * 257)
+    (keysOf op (getD W b 0) (getD W (xor a b) 0) / 65536 % 256 * 256 + keysOf op (getD W b 0) (getD W (xor a b) 0) % 256)
 
 -- E, the pairs above it, FF 00 for each pair that is not used; m < n, or n has no pair
 unfoldable pub fiveOf : ℕ → ℕ → ℕ → ℕ → ℕ → List ℕ
@@ -82,7 +77,7 @@ groupFrom op T q a e i j = fiveOf e (min i j) (sentOf op T q a (min i j)) (max i
 
 -- the same from a cheapest choice g; T d leaves no column out
 abbrev pub groupAt : (ℕ → ℕ → ℕ) → (ℕ → List ℕ) → ℕ → ℕ → ℕ → ℕ → List ℕ
-groupAt op T q d a g = groupFrom op T q a (g / 16384) (leftAt op (T d) a (g % 64)) (rightAt op (T d) a (g % 64))
+groupAt op T q d a g = groupFrom op T q a (g / 16384) (columnsAt op (T d) a (g % 64) / 256) (columnsAt op (T d) a (g % 64) % 256)
 
 abbrev pub groupOf : (ℕ → ℕ → ℕ) → (ℕ → List ℕ) → ℕ → ℕ → ℕ → List ℕ
 groupOf op T q d a = groupAt op T q d a (bestOf op (T d) q a)

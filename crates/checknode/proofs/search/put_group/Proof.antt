@@ -4,9 +4,9 @@ use Prim.Native.Nat.{_+_, _<_}
 use native.Mathlib.Omega.{arith}
 use borrow.Author.Needs.{needs}
 use lib.ListN.{length}
-use Rattle.engine.specs.Keys.{leftAt, rightAt}
+use Rattle.engine.specs.Keys.{columnsAt}
 use Rattle.checknode.specs.Asks.{minimaAt}
-use Rattle.checknode.proofs.Searching.{minima-long, rowed, found-best, found-row, found-left, found-right, group-law}
+use Rattle.checknode.proofs.Searching.{minima-long, rowed, found-best, found-row, found-columns, group-law}
 use Rattle.checknode.proofs.search.put_group.Statement.{statement}
 use Rattle.checknode.proofs.search.put_group.Tie as tie
 
@@ -33,16 +33,19 @@ row-of c =
     let g = found-row (start .args .q) (start .args .d) (start .args .t .now) (start .pre .0) (start .args .w .now) w (start .args .a) (start .pre .1 .1 .0) (at-best-of .best-of .ensures .0) in
     omega (arith, l, g, c .place .ensures)
 
-left-at-requires : tie.Need-left-at-requires
-left-at-requires c κs =
+columns-at-requires : tie.Need-columns-at-requires
+columns-at-requires c κs =
     let at-best-of = c .before .before in
     let start = at-best-of .before .before .before .before in
     let B = start .pre .0 in
     let l = minima-long (start .args .q) (start .args .d) (start .args .t .now) B (start .args .d) (omega arith) in
     rw (start .pre .1 .0) (rowed (start .args .q) (start .args .d) (start .args .t .now) B (start .args .d) (omega arith), (omega (arith, l, start .pre .1 .1), row-of c))
 
-right-at-requires : tie.Need-right-at-requires
-right-at-requires c κs = left-at-requires (c .before) κs
+byte-requires-2 : tie.Need-byte-requires-2
+byte-requires-2 c κs = search needs
+
+byte-requires-3 : tie.Need-byte-requires-3
+byte-requires-3 c κs = search needs
 
 lower-requires : tie.Need-lower-requires
 lower-requires c κs = search needs
@@ -51,27 +54,28 @@ upper-requires : tie.Need-upper-requires
 upper-requires c κs = search needs
 
 -- its columns are below d
-columns-of : (c : tie.After-right-at)
-    → let s = c .before .before .before .before .before .before .before .before in
-    (c .before .left-at .result < s .args .d) × (c .right-at .result < s .args .d)
+columns-of : (c : tie.After-byte3)
+    → let s = c .before .before .before .before .before .before .before .before .before in
+    (c .before .byte2 .result < s .args .d) × (c .byte3 .result < s .args .d)
 columns-of c =
-    let at-place = c .before .before in
+    let at-columns-at = c .before .before in
+    let at-place = at-columns-at .before in
     let start = at-place .before .before .before .before .before .before in
-    let e = start .pre .1 .0 in
     let l = minima-long (start .args .q) (start .args .d) (start .args .t .now) (start .pre .0) (start .args .d) (omega arith) in
     let b : at-place .place .result < start .args .q = omega (arith, l, row-of at-place) in
-    (found-left (start .args .q) (start .args .d) (start .args .t .now) (start .pre .0) (start .args .w .now) e (start .args .a) (start .pre .1 .1 .0) b (c .before .left-at .ensures), found-right (start .args .q) (start .args .d) (start .args .t .now) (start .pre .0) (start .args .w .now) e (start .args .a) (start .pre .1 .1 .0) b (c .right-at .ensures))
+    let h = found-columns (start .args .q) (start .args .d) (start .args .t .now) (start .pre .0) (start .args .w .now) (start .pre .1 .0) (start .args .a) (start .pre .1 .1 .0) b (at-columns-at .columns-at .ensures .0) in
+    (omega (arith, h, c .before .byte2 .ensures), omega (arith, h, c .byte3 .ensures))
 
 sent-of-requires : tie.Need-sent-of-requires
 sent-of-requires c κs =
     let b = columns-of (c .before .before) in
-    let start = c .before .before .before .before .before .before .before .before .before .before in
+    let start = c .before .before .before .before .before .before .before .before .before .before .before in
     (start .pre .0, (start .pre .1 .1 .0, omega (arith, b, c .before .lower .ensures)))
 
 second-of-requires : tie.Need-second-of-requires
 second-of-requires c κs =
     let b = columns-of (c .before .before .before) in
-    let start = c .before .before .before .before .before .before .before .before .before .before .before in
+    let start = c .before .before .before .before .before .before .before .before .before .before .before .before in
     (start .pre .0, (start .pre .1 .1 .0, omega (arith, b, c .before .upper .ensures)))
 
 put-five-requires : tie.Need-put-five-requires
@@ -86,15 +90,16 @@ returns c =
     let at-sent-of = at-second-of .before in
     let at-upper = at-sent-of .before in
     let at-lower = at-upper .before in
-    let at-right-at = at-lower .before in
-    let at-left-at = at-right-at .before in
-    let at-place = at-left-at .before in
+    let at-byte3 = at-lower .before in
+    let at-byte2 = at-byte3 .before in
+    let at-columns-at = at-byte2 .before in
+    let at-place = at-columns-at .before in
     let at-byte = at-place .before in
     let at-best-of = at-byte .before in
     let start = at-best-of .before .before .before .before in
     let e = start .pre .1 .0 in
     let T = minimaAt (start .args .t .now) (start .args .q) in
-    (c .before .before .put-five .ensures) ∙ group-law T (start .args .q) (start .args .d) (start .args .a) (found-best (start .args .q) (start .args .d) (start .args .t .now) (start .pre .0) (start .args .w .now) e (start .args .a) (start .pre .1 .1 .0) (at-best-of .best-of .ensures .0)) (at-byte .byte .ensures) (at-place .place .ensures) (at-left-at .left-at .ensures ∙ ap (λ w. leftAt _+_ w (start .args .a) (at-place .place .result)) e) (at-right-at .right-at .ensures ∙ ap (λ w. rightAt _+_ w (start .args .a) (at-place .place .result)) e) (at-lower .lower .ensures) (at-upper .upper .ensures) (at-sent-of .sent-of .ensures) (at-second-of .second-of .ensures)
+    (c .before .before .put-five .ensures) ∙ group-law T (start .args .q) (start .args .d) (start .args .a) (found-best (start .args .q) (start .args .d) (start .args .t .now) (start .pre .0) (start .args .w .now) e (start .args .a) (start .pre .1 .1 .0) (at-best-of .best-of .ensures .0)) (at-byte .byte .ensures) (at-place .place .ensures) (at-columns-at .columns-at .ensures .0 ∙ ap (λ w. columnsAt _+_ w (start .args .a) (at-place .place .result)) e) (at-byte2 .byte2 .ensures) (at-byte3 .byte3 .ensures) (at-lower .lower .ensures) (at-upper .upper .ensures) (at-sent-of .sent-of .ensures) (at-second-of .second-of .ensures)
 
 pub put-group-spec : {M : Type 1} → statement M
 put-group-spec =
@@ -103,8 +108,9 @@ put-group-spec =
     best-of-requires
     byte-requires
     place-requires
-    left-at-requires
-    right-at-requires
+    columns-at-requires
+    byte-requires-2
+    byte-requires-3
     lower-requires
     upper-requires
     sent-of-requires
