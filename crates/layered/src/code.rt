@@ -1,5 +1,6 @@
 // The code line, read front to back, each field once, into tables: the degrees, and all columns and weights end to end.
 use crate::Header;
+use crate::num;
 use crate::reader;
 ghost use mathlib.Core.Path.{_≡_};
 ghost use mathlib.Core.List.{[]};
@@ -34,13 +35,6 @@ enum Checks {
     Refused(u8),
 }
 
-// A byte, as a number to reckon with.
-fn wide(x: u8) -> usize
-    ensures { λ r. ⌜ (r ≡ x) × (r < 256) ⌝ }
-{
-    x as usize
-}
-
 // Whether x is not low to high.
 fn outside(x: usize, low: usize, high: usize) -> bool
     ensures { λ r. ⌜ r ≡ isOutside x low high ⌝ }
@@ -48,21 +42,13 @@ fn outside(x: usize, low: usize, high: usize) -> bool
     if x < low { true } else { high < x }
 }
 
-// 2 to the p.
-fn size(p: u8) -> usize
-    requires { ⌜ p ≤ 6 ⌝ }
-    ensures { λ r. ⌜ r ≡ 2 ^ p ⌝ }
-{
-    1 << p
-}
-
 // "for each edge the column (two bytes, high first, below N, rising within the check) and weight".
 fn edge_at(code: &[u8], at: usize, n: usize, q: usize, low: usize) -> Edge
     requires { ⌜ at + 3 ≤ length (now code) ⌝ }
     ensures { λ r. ⌜ edgeRead r ≡ readEdge (now (code .entry)) at n q low ⌝ }
 {
-    let c = wide(code[at]) * 256 + wide(code[at + 1]);
-    let w = wide(code[at + 2]);
+    let c = num::index(code[at]) * 256 + num::index(code[at + 1]);
+    let w = num::index(code[at + 2]);
     if n <= c {
         return Edge::Refused(10);
     }
@@ -129,7 +115,7 @@ fn check_at(
     if code.len() <= at {
         return Check::Refused(5);
     }
-    let d = wide(code[at]);
+    let d = num::index(code[at]);
     if d < 3 {
         return Check::Refused(9);
     }
@@ -192,23 +178,23 @@ fn head(code: &[u8]) -> Header
     if code.len() < 6 {
         return Header::Refused(5);
     }
-    let p = wide(code[0]);
+    let p = num::index(code[0]);
     if outside(p, 2, 6) {
         return Header::Refused(6);
     }
-    let n = wide(code[1]) * 256 + wide(code[2]);
+    let n = num::index(code[1]) * 256 + num::index(code[2]);
     if outside(n, 1, 256) {
         return Header::Refused(7);
     }
-    let m = wide(code[3]);
+    let m = num::index(code[3]);
     if outside(m, 1, 128) {
         return Header::Refused(7);
     }
-    let g = wide(code[4]);
+    let g = num::index(code[4]);
     if outside(g, 1, 16) {
         return Header::Refused(8);
     }
-    let limit = wide(code[5]);
+    let limit = num::index(code[5]);
     if limit < 1 {
         return Header::Refused(8);
     }
@@ -248,7 +234,7 @@ pub fn tables(code: &[u8], degrees: &mut [u8], columns: &mut [u16], weights: &mu
     else {
         return h;
     };
-    let q = size(p);
+    let q = num::size(p);
     match checks_at(code, m as usize, n as usize, q, degrees, columns, weights) {
         Checks::Refused(k) => Header::Refused(k),
         Checks::Total(_) => h,

@@ -17,11 +17,11 @@ returns c =
     let s = a .code .now in
     (simp (le-leb (length s) (a .at) (omega arith)), tt)
 
-shared-slice-read-wide : tie.Need-shared-slice-read-wide
-shared-slice-read-wide c = omega arith
+shared-slice-read-index : tie.Need-shared-slice-read-index
+shared-slice-read-index c = omega arith
 
-wide-requires : tie.Need-wide-requires
-wide-requires c κs = search needs
+index-requires : tie.Need-index-requires
+index-requires c κs = search needs
 
 returns-2 : tie.Need-returns-2
 unfolding checkInto
@@ -91,7 +91,7 @@ returns-6 c =
     let g = c .before .before .before .before .before .before .before in
     let w = g .before .before .before .before .before .before .before in
     let a = w .before .before .before .before .before .before .args in
-    let e = check-past (a .code .now) (a .at) (a .n) (a .q) (a .total) (w .wide .result) (take (a .total) (a .columns .now)) (take (a .total) (a .weights .now)) (omega arith) (w .wide .ensures .0) (omega arith) (omega arith) (omega arith) (omega arith) in
+    let e = check-past (a .code .now) (a .at) (a .n) (a .q) (a .total) (w .index .result) (take (a .total) (a .columns .now)) (take (a .total) (a .weights .now)) (omega arith) (w .index .ensures .0) (omega arith) (omega arith) (omega arith) (omega arith) in
     (rw e (rw (c .before .k .given .1) at (g .edges-at .ensures)), tt)
 
 same-length-3 : tie.Need-same-length-3
@@ -105,16 +105,16 @@ returns-7 c =
     let g = c .before .before .before .before .before .before in
     let w = g .before .before .before .before .before .before .before in
     let a = w .before .before .before .before .before .before .args in
-    let e = check-past (a .code .now) (a .at) (a .n) (a .q) (a .total) (w .wide .result) (take (a .total) (a .columns .now)) (take (a .total) (a .weights .now)) (omega arith) (w .wide .ensures .0) (omega arith) (omega arith) (omega arith) (omega arith) in
-    (rw e (rw (c .enum-told .given .1) at (g .edges-at .ensures)), (w .wide .ensures .0, (omega arith, (omega arith, omega arith))))
+    let e = check-past (a .code .now) (a .at) (a .n) (a .q) (a .total) (w .index .result) (take (a .total) (a .columns .now)) (take (a .total) (a .weights .now)) (omega arith) (w .index .ensures .0) (omega arith) (omega arith) (omega arith) (omega arith) in
+    (rw e (rw (c .enum-told .given .1) at (g .edges-at .ensures)), (w .index .ensures .0, (omega arith, (omega arith, omega arith))))
 
 pub check-at-spec : {M : Type 1} → statement M
 check-at-spec =
     tie.close
     (tie.spec
     returns
-    shared-slice-read-wide
-    wide-requires
+    shared-slice-read-index
+    index-requires
     returns-2
     returns-3
     sub-if4

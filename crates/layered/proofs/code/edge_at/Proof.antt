@@ -8,35 +8,35 @@ use Rattle.machine.specs.CodeLine.{readEdge, wordAt}
 use Rattle.layered.proofs.code.edge_at.Statement.{statement}
 use Rattle.layered.proofs.code.edge_at.Tie as tie
 
-shared-slice-read-wide : tie.Need-shared-slice-read-wide
-shared-slice-read-wide c = omega arith
+shared-slice-read-index : tie.Need-shared-slice-read-index
+shared-slice-read-index c = omega arith
 
-wide-requires : tie.Need-wide-requires
-wide-requires c κs = search needs
+index-requires : tie.Need-index-requires
+index-requires c κs = search needs
 
 mul-c : tie.Need-mul-c
 mul-c c = omega arith
 
-add-wide : tie.Need-add-wide
-add-wide c = omega arith
+add-index : tie.Need-add-index
+add-index c = omega arith
 
-shared-slice-read-wide-2 : tie.Need-shared-slice-read-wide-2
-shared-slice-read-wide-2 c = omega arith
+shared-slice-read-index-2 : tie.Need-shared-slice-read-index-2
+shared-slice-read-index-2 c = omega arith
 
-wide-requires-2 : tie.Need-wide-requires-2
-wide-requires-2 c κs = search needs
+index-requires-2 : tie.Need-index-requires-2
+index-requires-2 c κs = search needs
 
 add-c : tie.Need-add-c
 add-c c = omega arith
 
-add-wide-2 : tie.Need-add-wide-2
-add-wide-2 c = omega arith
+add-index-2 : tie.Need-add-index-2
+add-index-2 c = omega arith
 
-shared-slice-read-wide-3 : tie.Need-shared-slice-read-wide-3
-shared-slice-read-wide-3 c = omega arith
+shared-slice-read-index-3 : tie.Need-shared-slice-read-index-3
+shared-slice-read-index-3 c = omega arith
 
-wide-requires-3 : tie.Need-wide-requires-3
-wide-requires-3 c κs = search needs
+index-requires-3 : tie.Need-index-requires-3
+index-requires-3 c κs = search needs
 
 returns : tie.Need-returns
 unfolding readEdge
@@ -90,16 +90,16 @@ pub edge-at-spec : {M : Type 1} → statement M
 edge-at-spec =
     tie.close
     (tie.spec
-    shared-slice-read-wide
-    wide-requires
+    shared-slice-read-index
+    index-requires
     mul-c
-    add-wide
-    shared-slice-read-wide-2
-    wide-requires-2
+    add-index
+    shared-slice-read-index-2
+    index-requires-2
     add-c
-    add-wide-2
-    shared-slice-read-wide-3
-    wide-requires-3
+    add-index-2
+    shared-slice-read-index-3
+    index-requires-3
     returns
     returns-2
     returns-3

@@ -27,7 +27,7 @@ line2 c = line1 (c .before .before .before .before)
 past2 : (c : tie.Else2) → headOf (line2 c) ≡ fromColumns (line2 c)
 past2 c =
     let w = c .before .before in
-    past1 (w .before .before) ∙ tested _ (getD (line2 c) 0 0) 2 6 _ false _ _ (c .before .outside .ensures) (w .wide .ensures .0) (c .if2 .left)
+    past1 (w .before .before) ∙ tested _ (getD (line2 c) 0 0) 2 6 _ false _ _ (c .before .outside .ensures) (w .index .ensures .0) (c .if2 .left)
 
 abbrev line3 : tie.Else3 → List ℕ
 line3 c = line2 (c .before .before .before .before .before .before)
@@ -36,7 +36,7 @@ past3 : (c : tie.Else3) → headOf (line3 c) ≡ fromChecks (line3 c)
 past3 c =
     let w = c .before .before in
     let v = w .before .before in
-    past2 (v .before .before) ∙ tested _ (wordAt (line3 c) 1) 1 256 _ false _ _ (c .before .outside2 .ensures) (ap₂ (λ a b. a * 256 + b) (v .wide2 .ensures .0) (w .wide3 .ensures .0)) (c .if3 .left)
+    past2 (v .before .before) ∙ tested _ (wordAt (line3 c) 1) 1 256 _ false _ _ (c .before .outside2 .ensures) (ap₂ (λ a b. a * 256 + b) (v .index2 .ensures .0) (w .index3 .ensures .0)) (c .if3 .left)
 
 abbrev line4 : tie.Else4 → List ℕ
 line4 c = line3 (c .before .before .before .before)
@@ -44,7 +44,7 @@ line4 c = line3 (c .before .before .before .before)
 past4 : (c : tie.Else4) → headOf (line4 c) ≡ fromScale (line4 c)
 past4 c =
     let w = c .before .before in
-    past3 (w .before .before) ∙ tested _ (getD (line4 c) 3 0) 1 128 _ false _ _ (c .before .outside3 .ensures) (w .wide4 .ensures .0) (c .if4 .left)
+    past3 (w .before .before) ∙ tested _ (getD (line4 c) 3 0) 1 128 _ false _ _ (c .before .outside3 .ensures) (w .index4 .ensures .0) (c .if4 .left)
 
 abbrev line5 : tie.Else5 → List ℕ
 line5 c = line4 (c .before .before .before .before)
@@ -52,17 +52,17 @@ line5 c = line4 (c .before .before .before .before)
 past5 : (c : tie.Else5) → headOf (line5 c) ≡ fromLimit (line5 c)
 past5 c =
     let w = c .before .before in
-    past4 (w .before .before) ∙ tested _ (getD (line5 c) 4 0) 1 16 _ false _ _ (c .before .outside4 .ensures) (w .wide5 .ensures .0) (c .if5 .left)
+    past4 (w .before .before) ∙ tested _ (getD (line5 c) 4 0) 1 16 _ false _ _ (c .before .outside4 .ensures) (w .index5 .ensures .0) (c .if5 .left)
 
 returns : tie.Need-returns
 unfolding headOf
 returns c = (simp (lt-ltb (length (c .before .before .args .code .now)) 6 (c .if1 .taken)), tt)
 
-shared-slice-read-wide : tie.Need-shared-slice-read-wide
-shared-slice-read-wide c = omega arith
+shared-slice-read-index : tie.Need-shared-slice-read-index
+shared-slice-read-index c = omega arith
 
-wide-requires : tie.Need-wide-requires
-wide-requires c κs = search needs
+index-requires : tie.Need-index-requires
+index-requires c κs = search needs
 
 outside-requires : tie.Need-outside-requires
 outside-requires c κs = search needs
@@ -71,22 +71,22 @@ returns-2 : tie.Need-returns-2
 returns-2 c =
     let w = c .before .before in
     let e = w .before .before in
-    (sym (past1 e ∙ tested _ (getD (line1 e) 0 0) 2 6 _ true _ _ (c .before .outside .ensures) (w .wide .ensures .0) (c .if2 .taken)), tt)
+    (sym (past1 e ∙ tested _ (getD (line1 e) 0 0) 2 6 _ true _ _ (c .before .outside .ensures) (w .index .ensures .0) (c .if2 .taken)), tt)
 
-shared-slice-read-wide-2 : tie.Need-shared-slice-read-wide-2
-shared-slice-read-wide-2 c = omega arith
+shared-slice-read-index-2 : tie.Need-shared-slice-read-index-2
+shared-slice-read-index-2 c = omega arith
 
-wide-requires-2 : tie.Need-wide-requires-2
-wide-requires-2 c κs = search needs
+index-requires-2 : tie.Need-index-requires-2
+index-requires-2 c κs = search needs
 
 mul-n : tie.Need-mul-n
 mul-n c = omega arith
 
-shared-slice-read-wide-3 : tie.Need-shared-slice-read-wide-3
-shared-slice-read-wide-3 c = omega arith
+shared-slice-read-index-3 : tie.Need-shared-slice-read-index-3
+shared-slice-read-index-3 c = omega arith
 
-wide-requires-3 : tie.Need-wide-requires-3
-wide-requires-3 c κs = search needs
+index-requires-3 : tie.Need-index-requires-3
+index-requires-3 c κs = search needs
 
 add-n : tie.Need-add-n
 add-n c = omega arith
@@ -99,13 +99,13 @@ returns-3 c =
     let w = c .before .before in
     let v = w .before .before in
     let e = v .before .before in
-    (sym (past2 e ∙ tested _ (wordAt (line2 e) 1) 1 256 _ true _ _ (c .before .outside2 .ensures) (ap₂ (λ a b. a * 256 + b) (v .wide2 .ensures .0) (w .wide3 .ensures .0)) (c .if3 .taken)), tt)
+    (sym (past2 e ∙ tested _ (wordAt (line2 e) 1) 1 256 _ true _ _ (c .before .outside2 .ensures) (ap₂ (λ a b. a * 256 + b) (v .index2 .ensures .0) (w .index3 .ensures .0)) (c .if3 .taken)), tt)
 
-shared-slice-read-wide-4 : tie.Need-shared-slice-read-wide-4
-shared-slice-read-wide-4 c = omega arith
+shared-slice-read-index-4 : tie.Need-shared-slice-read-index-4
+shared-slice-read-index-4 c = omega arith
 
-wide-requires-4 : tie.Need-wide-requires-4
-wide-requires-4 c κs = search needs
+index-requires-4 : tie.Need-index-requires-4
+index-requires-4 c κs = search needs
 
 outside-requires-3 : tie.Need-outside-requires-3
 outside-requires-3 c κs = search needs
@@ -114,13 +114,13 @@ returns-4 : tie.Need-returns-4
 returns-4 c =
     let w = c .before .before in
     let e = w .before .before in
-    (sym (past3 e ∙ tested _ (getD (line3 e) 3 0) 1 128 _ true _ _ (c .before .outside3 .ensures) (w .wide4 .ensures .0) (c .if4 .taken)), tt)
+    (sym (past3 e ∙ tested _ (getD (line3 e) 3 0) 1 128 _ true _ _ (c .before .outside3 .ensures) (w .index4 .ensures .0) (c .if4 .taken)), tt)
 
-shared-slice-read-wide-5 : tie.Need-shared-slice-read-wide-5
-shared-slice-read-wide-5 c = omega arith
+shared-slice-read-index-5 : tie.Need-shared-slice-read-index-5
+shared-slice-read-index-5 c = omega arith
 
-wide-requires-5 : tie.Need-wide-requires-5
-wide-requires-5 c κs = search needs
+index-requires-5 : tie.Need-index-requires-5
+index-requires-5 c κs = search needs
 
 outside-requires-4 : tie.Need-outside-requires-4
 outside-requires-4 c κs = search needs
@@ -129,18 +129,18 @@ returns-5 : tie.Need-returns-5
 returns-5 c =
     let w = c .before .before in
     let e = w .before .before in
-    (sym (past4 e ∙ tested _ (getD (line4 e) 4 0) 1 16 _ true _ _ (c .before .outside4 .ensures) (w .wide5 .ensures .0) (c .if5 .taken)), tt)
+    (sym (past4 e ∙ tested _ (getD (line4 e) 4 0) 1 16 _ true _ _ (c .before .outside4 .ensures) (w .index5 .ensures .0) (c .if5 .taken)), tt)
 
-shared-slice-read-wide-6 : tie.Need-shared-slice-read-wide-6
-shared-slice-read-wide-6 c = omega arith
+shared-slice-read-index-6 : tie.Need-shared-slice-read-index-6
+shared-slice-read-index-6 c = omega arith
 
-wide-requires-6 : tie.Need-wide-requires-6
-wide-requires-6 c κs = search needs
+index-requires-6 : tie.Need-index-requires-6
+index-requires-6 c κs = search needs
 
 returns-6 : tie.Need-returns-6
 returns-6 c =
     let e = c .before .before .before in
-    (sym (past5 e ∙ simp (lt-ltb (getD (line5 e) 5 0) 1 (omega (arith, c .before .wide6 .ensures)))), tt)
+    (sym (past5 e ∙ simp (lt-ltb (getD (line5 e) 5 0) 1 (omega (arith, c .before .index6 .ensures)))), tt)
 
 cast-t10 : tie.Need-cast-t10
 cast-t10 c = omega arith
@@ -168,7 +168,7 @@ returns-7 c =
     let w2 = w3 .before .before in
     let e2 = w2 .before .before in
     let w1 = e2 .before .before in (
-      head-read (line5 e5) _ _ _ _ _ _ (w1 .wide .ensures .0) (w2 .wide2 .ensures .0) (w3 .wide3 .ensures .0) (w4 .wide4 .ensures .0) (w5 .wide5 .ensures .0) (w6 .wide6 .ensures .0) (c .if6 .left) ∙ sym (past5 e5),
+      head-read (line5 e5) _ _ _ _ _ _ (w1 .index .ensures .0) (w2 .index2 .ensures .0) (w3 .index3 .ensures .0) (w4 .index4 .ensures .0) (w5 .index5 .ensures .0) (w6 .index6 .ensures .0) (c .if6 .left) ∙ sym (past5 e5),
       (inside _ 2 6 (sym (e2 .before .outside .ensures) ∙ e2 .if2 .left), inside _ 1 128 (sym (e4 .before .outside3 .ensures) ∙ e4 .if4 .left)),
     )
 
@@ -177,28 +177,28 @@ head-spec =
     tie.close
     (tie.spec
     returns
-    shared-slice-read-wide
-    wide-requires
+    shared-slice-read-index
+    index-requires
     outside-requires
     returns-2
-    shared-slice-read-wide-2
-    wide-requires-2
+    shared-slice-read-index-2
+    index-requires-2
     mul-n
-    shared-slice-read-wide-3
-    wide-requires-3
+    shared-slice-read-index-3
+    index-requires-3
     add-n
     outside-requires-2
     returns-3
-    shared-slice-read-wide-4
-    wide-requires-4
+    shared-slice-read-index-4
+    index-requires-4
     outside-requires-3
     returns-4
-    shared-slice-read-wide-5
-    wide-requires-5
+    shared-slice-read-index-5
+    index-requires-5
     outside-requires-4
     returns-5
-    shared-slice-read-wide-6
-    wide-requires-6
+    shared-slice-read-index-6
+    index-requires-6
     returns-6
     cast-t10
     cast-t23

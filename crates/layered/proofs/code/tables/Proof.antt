@@ -61,7 +61,7 @@ returns-2 c =
     let b = h .before .before in
     let s = b .before .before .before .before .before .args .code .now in
     let e = sym (rw (h .h .given .1) at (b .first .ensures .numbers)) in
-    refused s _ _ _ _ (rest-bad s _ e (z .size .result) (z .size .ensures) _ (sym (rw (c .before .k .given .1) at (g .checks-at .ensures))))
+    refused s _ _ _ _ (rest-bad s _ e (z .size .result) (z .size .ensures .0) _ (sym (rw (c .before .k .given .1) at (g .checks-at .ensures))))
 
 same-length-4 : tie.Need-same-length-4
 same-length-4 c = omega arith
@@ -80,7 +80,7 @@ returns-3 c =
     let b = h .before .before in
     let s = b .before .before .before .before .before .args .code .now in
     let e = sym (rw (h .h .given .1) at (b .first .ensures .numbers)) in
-    tabled s _ e (z .size .result) (z .size .ensures) _ _ _ (c .enum-told2 .given .0 .0) (omega (arith, fits h)) (sym (rw (c .enum-told2 .given .1) at (g .checks-at .ensures)))
+    tabled s _ e (z .size .result) (z .size .ensures .0) _ _ _ (c .enum-told2 .given .0 .0) (omega (arith, fits h)) (sym (rw (c .enum-told2 .given .1) at (g .checks-at .ensures)))
 
 pub tables-spec : {M : Type 1} → statement M
 tables-spec =
