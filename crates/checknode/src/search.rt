@@ -3,9 +3,9 @@ use crate::num;
 ghost use mathlib.Core.Path.{_≡_};
 ghost use mathlib.Core.List.{[], _∷_};
 ghost use Prim.Native.Nat.{_+_, _-_, _*_, _/_, _%_, _≤_, _<_};
-ghost use lib.ListN.{length, getD};
+ghost use lib.ListN.{length};
 ghost use Rattle.trellis.specs.Lists.{blocks};
-ghost use Rattle.engine.specs.Keys.{pairOf, keysOf, columnsAt, singleAt, tryAt, bestOf, fiveOf, secondOf, groupOf};
+ghost use Rattle.engine.specs.Keys.{pairOf, keysOf, columnsAt, tryAt, bestOf, fiveOf, secondOf, groupOf};
 ghost use Rattle.checknode.specs.Asks.{Rowed, Tabled, minimaAt};
 
 // The cheapest pair of two columns, from the minima of two rows. Both sums are formed first, so that the choice between them takes no jump.

@@ -1,10 +1,8 @@
 -- The answers' meanings: document 01's number and values for each case.
-use Prim.Native.Nat.{ℕ}
 use Rattle.trellis.specs.Reply.{Reply, refusal, foundIn, notFoundIn}
 use Rattle.machine.specs.CodeLine.{Read, good, bad, Numbers}
 use Rattle.layered.specs.declared.Header.{Header}
 use Rattle.layered.specs.declared.Header.the-variants.{Read as HeaderRead, Refused as HeaderRefused}
-use Rattle.layered.specs.declared.Outcome.{Outcome}
 use Rattle.layered.specs.declared.Outcome.the-variants.{Found, NotFound}
 use Rattle.layered.specs.declared.Answer.{Answer}
 use Rattle.layered.specs.declared.Answer.the-variants.{Decoded, Refused}

@@ -4,7 +4,7 @@ use crate::num;
 use crate::reader;
 ghost use mathlib.Core.Path.{_≡_};
 ghost use mathlib.Core.List.{[]};
-ghost use Prim.Native.Nat.{_+_, _*_, _^_, _≤_, _<_};
+ghost use Prim.Native.Nat.{_+_, _*_, _≤_, _<_};
 ghost use lib.ListN.{length, take};
 ghost use Rattle.machine.specs.CodeLine.{Code, good, readEdge, parse, numbersOf};
 ghost use Rattle.machine.specs.Tables.{edgesInto, checkInto, checksInto, Tabled};

@@ -2,7 +2,7 @@
 use crate::num;
 ghost use mathlib.Core.Path.{_≡_};
 ghost use mathlib.Core.List.{map};
-ghost use Prim.Native.Nat.{ℕ, _+_, _-_, _≤_, _<_};
+ghost use Prim.Native.Nat.{_+_, _-_, _≤_, _<_};
 ghost use lib.ListN.{length};
 ghost use Rattle.machine.specs.Machine.{scaled, incoming, outgoing};
 ghost use Rattle.layered.specs.Columns.{Below, leastRaised, gathered, GatherRoom, leastSummed, scattered, ScatterRoom};

@@ -4,7 +4,7 @@ use crate::num;
 use crate::parity;
 use crate::update;
 ghost use mathlib.Core.Path.{_≡_};
-ghost use mathlib.Core.Bool.{true, false};
+ghost use mathlib.Core.Bool.{true};
 ghost use Prim.Native.Nat.{_^_, _≤_};
 ghost use lib.ListN.{length};
 ghost use Rattle.layered.specs.Parity.{decisionsOf};

@@ -2,8 +2,8 @@
 use crate::num;
 use checknode::Element;
 ghost use mathlib.Core.Path.{_≡_};
-ghost use Prim.Native.Nat.{ℕ, _*_, _^_, _≤_, _<_};
-ghost use lib.ListN.{length, getD};
+ghost use Prim.Native.Nat.{_*_, _^_, _≤_, _<_};
+ghost use lib.ListN.{length};
 ghost use Rattle.trellis.specs.Check.{firstZero};
 ghost use Rattle.trellis.specs.Field.{product};
 ghost use Rattle.layered.specs.Parity.{decisionsOf, term, EdgeRoom, ParityRoom, allHold, SettledRoom};

@@ -2,12 +2,11 @@
 use crate::column;
 use crate::num;
 ghost use mathlib.Core.Path.{_≡_};
-ghost use Prim.Native.Nat.{ℕ, _*_, _^_};
+ghost use Prim.Native.Nat.{_^_};
 ghost use lib.ListN.{length};
 ghost use Rattle.trellis.specs.Lists.{tab};
 ghost use Rattle.trellis.specs.Record.{recordOf, expansion};
 ghost use Rattle.trellis.specs.Rules.{ruleFor, columnsOf};
-ghost use Rattle.layered.specs.Columns.{gathered};
 ghost use Rattle.layered.specs.Turns.{oldCosts, RecallRoom, SendRoom, UpdateRoom, recordNow, costsNow};
 
 fn clear(out: &mut [u8])

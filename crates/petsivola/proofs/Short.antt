@@ -1,15 +1,14 @@
 -- A line that is accepted gives at most 16,384 bytes: it has at most 32,768 digits.
-use mathlib.Core.Path.{_≡_, refl}
 use mathlib.Core.Bool.{Bool, true, false}
 use mathlib.Core.List.{List}
-use Prim.Native.Nat.{ℕ, _/_, _≤_, _<_}
+use Prim.Native.Nat.{ℕ, _/_, _≤_}
 use native.Mathlib.Decide.{decLt}
 use native.Mathlib.Omega.{arith}
 use borrow.Author.Tests.{lt-ltb, le-ltb}
 use lib.Dec.{ltb}
 use lib.ListN.{length}
 use Rattle.trellis.specs.Lists.{pick}
-use Rattle.trellis.specs.Reply.{Reply, accepted, refusal}
+use Rattle.trellis.specs.Reply.{accepted, refusal}
 use Rattle.machine.specs.Line.{lineOk, lineReply}
 
 pub line-short : (t out : List ℕ) → lineReply t out .value ≤ 16384

@@ -1,6 +1,6 @@
 -- Document 01's bench table, the cases marked #: what is asked and what is expected.
 use mathlib.Core.List.{List, [], _∷_, map, _++_}
-use Prim.Native.Nat.{ℕ, _+_, _-_}
+use Prim.Native.Nat.{ℕ}
 use lib.ListN.{replicate}
 use Rattle.trellis.specs.Lists.{each, countFrom, upTo}
 use Rattle.trellis.specs.Field.{product}

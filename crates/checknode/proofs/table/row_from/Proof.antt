@@ -1,13 +1,12 @@
 -- After x turns the first x products stand, each read from the table.
 use mathlib.Core.Path.{_≡_, ap, _∙_}
 use mathlib.Core.List.{_++_}
-use Prim.Native.Nat.{_-_, _≤_, _<_}
+use Prim.Native.Nat.{_-_, _≤_}
 use native.Mathlib.Omega.{arith}
 use borrow.Author.Needs.{needs}
 use lib.ListN.{length, drop, length-set}
 use Rattle.trellis.specs.Lists.{tab}
 use Rattle.trellis.specs.Field.{product}
-use Rattle.checknode.specs.Table.{productTable}
 use Rattle.checknode.proofs.Filling.{products-end}
 use Rattle.checknode.proofs.Tables.{table-length, row-turn}
 use Rattle.checknode.proofs.table.row_from.Statement.{statement}

@@ -1,11 +1,11 @@
 -- The line from a place on is a part of the slice; past the end nothing is left, which is under six bytes.
-use mathlib.Core.Path.{_≡_, refl, ap, _∙_, sym}
+use mathlib.Core.Path.{_≡_, ap, _∙_}
 use Prim.Native.Nat.{_-_}
 use native.Mathlib.Omega.{arith}
 use borrow.Author.Needs.{needs}
 use lib.ListN.{length, take, drop, length-drop, drop-of-length-le}
 use lib.Seq.{take-all}
-use Rattle.layered.specs.Reading.{headOf, HeadAt}
+use Rattle.layered.specs.Reading.{headOf}
 use Rattle.layered.proofs.code.head_at.Statement.{statement}
 use Rattle.layered.proofs.code.head_at.Tie as tie
 

@@ -1,5 +1,4 @@
 -- A scaled cost is at most 255 (mul-small), so the difference is not below 0.
-use Prim.Native.Nat.{_-_}
 use native.Mathlib.Omega.{arith}
 use borrow.Author.Needs.{needs}
 use Rattle.layered.proofs.Columns.{mul-small}

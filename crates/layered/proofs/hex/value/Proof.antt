@@ -1,6 +1,5 @@
 -- Each way through the `match` is one of the byte's five ranges, and the answer there is a law of Digits.
 use native.Mathlib.Omega.{arith}
-use borrow.Author.Needs.{needs}
 use Rattle.layered.proofs.Digits.{at-digit, at-letter, at-below, at-between, at-above}
 use Rattle.layered.proofs.hex.value.Statement.{statement}
 use Rattle.layered.proofs.hex.value.Tie as tie
