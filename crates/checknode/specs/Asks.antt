@@ -54,9 +54,9 @@ pub record Times (p h : ℕ) : Type 0 where
   pub element : h < 2 ^ p
   pub closed : (x : ℕ) → x < 2 ^ p → product p h x < 2 ^ p
 
--- at p = 6 the product table is at hand
+-- a slice of 4,096 is the product table, and p is 6; any other slice stands for no table
 abbrev pub TableFor : ℕ → List ℕ → Type 0
-TableFor p t = p ≡ 6 → t ≡ productTable
+TableFor p t = length t ≡ 4096 → (p ≡ 6) × (t ≡ productTable)
 
 -- one column's costs in their rows
 abbrev pub lineFrom : ℕ → ℕ → List ℕ → ℕ → List ℕ → List ℕ

@@ -77,15 +77,15 @@ fn in_room(p: u8, w: usize, weights: &[u8], r: &[u8], table: &[u8], row: &mut [u
     columns(p, w, weights, r, table, &mut row[..w], out);
 }
 
-// The expansion, with the room that it takes. The table is copied once for all columns, and only at p = 6: away from it no product is read from
-// a table, so any slice stands in.
+// The expansion, with the room that it takes. To have the table at hand it is copied, once for all columns: that pays from 8 columns on, and
+// weights, at most 32, stand for no table.
 pub fn expand_in(p: u8, w: usize, weights: &[u8], r: &[u8], out: &mut [u8])
     requires { ⌜ Expandable p (now weights) (now r) ⌝ }
     requires { ⌜ (w ≤ 64) × ((w ≡ 2 ^ p) × (length (now out) ≡ length (now weights) * 2 ^ p)) ⌝ }
     ensures { λ _. ⌜ now (out .exit) ≡ expansion (ruleFor p) (now (weights .entry)) (now (r .entry)) ⌝ }
 {
     let mut row = [0u8; 64];
-    if p == 6 {
+    if table::pays(p, weights.len()) {
         let products = table::products();
         in_room(p, w, weights, r, &products, &mut row, out);
         return;

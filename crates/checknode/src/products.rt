@@ -39,14 +39,14 @@ fn by_doubling(p: u8, h: u8, row: &mut [u8])
     }
 }
 
-// From the table at p = 6, else by doubling.
+// From the table where it is at hand, else by doubling.
 pub fn fill(p: u8, h: u8, table: &[u8], row: &mut [u8])
     requires { ⌜ Times p h ⌝ }
     requires { ⌜ TableFor p (now table) ⌝ }
     requires { ⌜ length (now row) ≡ 2 ^ p ⌝ }
     ensures { λ _. ⌜ now (row .exit) ≡ tab (product p h) (2 ^ p) ⌝ }
 {
-    if p == 6 {
+    if table.len() == 4096 {
         table::row_from(table, h, row);
         return;
     }

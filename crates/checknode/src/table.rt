@@ -1,6 +1,7 @@
 // "For p = 6 the product also stands as a constant table of 4,096 numbers that agrees with the recurrence at each pair."
 use crate::num;
 ghost use mathlib.Core.Path.{_≡_};
+ghost use mathlib.Core.Bool.{true};
 ghost use Prim.Native.Nat.{_<_};
 ghost use lib.ListN.{length};
 ghost use Rattle.trellis.specs.Lists.{tab};
@@ -4176,6 +4177,16 @@ pub fn products() -> [u8; 4096]
     ensures { λ r. ⌜ r ≡ productTable ⌝ }
 {
     PRODUCTS
+}
+
+// Whether the table serves d columns better than doubling does: its copy takes as long as the doubling of seven or eight.
+pub fn pays(p: u8, d: usize) -> bool
+    ensures { λ r. ⌜ (r ≡ true → p ≡ 6) ⌝ }
+{
+    if p != 6 {
+        return false;
+    }
+    8 <= d
 }
 
 // Row h of the table: h times each symbol.

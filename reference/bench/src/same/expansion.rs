@@ -50,13 +50,14 @@ fn after_pair(column: u8, cost: u8, extra: u8, d: usize, low: usize) -> Option<u
 
 /// "Expansion writes d times q unscaled bytes, column by column, each column by x."
 fn put_expansion(p: u8, q: usize, weights: &[u8], record: &[u8], out: &mut [u8]) {
+    let table = field::table_for(p, weights.len());
     let mut row = [0; MOST];
     let row = &mut row[..q];
     let (shifts, groups) = record.split_at(weights.len());
     let (groups, _) = groups.as_chunks();
     let columns = weights.iter().zip(shifts).zip(out.chunks_exact_mut(q));
     for (n, ((&weight, &shift), out)) in (0..).zip(columns) {
-        field::fill(p, weight, row);
+        field::fill(p, weight, table, row);
         for (byte, &term) in out.iter_mut().zip(&*row) {
             *byte = match usize::from(term ^ shift) {
                 0 => 0,

@@ -7,9 +7,12 @@ use super::Refusal;
 pub const MOST: usize = 64;
 
 /// "a constant table of 4,096 numbers": a times b at p = 6 stands at 64 a + b.
-static PRODUCTS: [[u8; MOST]; MOST] = table();
+static PRODUCTS: Table = table();
 
-const fn table() -> [[u8; MOST]; MOST] {
+/// One row for each a.
+pub type Table = [[u8; MOST]; MOST];
+
+const fn table() -> Table {
     let mut table = [[0; MOST]; MOST];
     let mut a = 0;
     while a < MOST {
@@ -68,10 +71,16 @@ const fn times(p: u8, a: u8, b: u8) -> u8 {
     }
 }
 
-/// h times x for each symbol x: from the table at p = 6, else by doubling.
-pub fn fill(p: u8, h: u8, row: &mut [u8]) {
-    if p == 6 {
-        row.copy_from_slice(&PRODUCTS[usize::from(h)]);
+/// The table, where it serves the columns better than doubling does. The proved library has to copy it
+/// for that.
+pub fn table_for(p: u8, columns: usize) -> Option<&'static Table> {
+    (p == 6 && columns >= 8).then_some(&PRODUCTS)
+}
+
+/// h times x for each symbol x: from the table where it is at hand, else by doubling.
+pub fn fill(p: u8, h: u8, table: Option<&Table>, row: &mut [u8]) {
+    if let Some(table) = table {
+        row.copy_from_slice(&table[usize::from(h)]);
         return;
     }
     row[0] = 0;

@@ -37,10 +37,11 @@ impl Rows<'_> {
         line: &mut [u16],
         shifts: &mut [u8],
     ) {
+        let table = field::table_for(p, weights.len());
         let mut sum = 0;
         let columns = weights.iter().zip(costs.chunks_exact(line.len()));
         for ((n, (&weight, costs)), shift) in (0..).zip(columns).zip(shifts.iter_mut()) {
-            field::fill(p, weight, row);
+            field::fill(p, weight, table, row);
             *shift = row[first_zero(costs)];
             sum ^= *shift;
             scatter(costs, row, *shift, n, line);

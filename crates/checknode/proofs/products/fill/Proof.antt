@@ -1,4 +1,4 @@
--- At p = 6 from the table, else by doubling: both leave the products.
+-- From the table or by doubling: both leave the products.
 use mathlib.Core.Path.{_≡_, ap}
 use Prim.Native.Nat.{_^_}
 use native.Mathlib.Omega.{arith}
@@ -9,9 +9,9 @@ use Rattle.checknode.proofs.products.fill.Tie as tie
 row-from-requires : tie.Need-row-from-requires
 row-from-requires c κs =
     let s = c .before .before .before .before in
-    let e : s .args .p ≡ 6 = omega arith in
-    let q : 2 ^ s .args .p ≡ 64 = ap (λ p. 2 ^ p) e in
-    (s .pre .1 .0 e, (omega (arith, s .pre .0 .element), omega (arith, s .pre .1 .1)))
+    let t = s .pre .1 .0 (c .before .if1 .taken) in
+    let q : 2 ^ s .args .p ≡ 64 = ap (λ p. 2 ^ p) (t .0) in
+    (t .1, (omega (arith, s .pre .0 .element), omega (arith, s .pre .1 .1)))
 
 same-length : tie.Need-same-length
 same-length c = search needs
@@ -20,8 +20,7 @@ returns : tie.Need-returns
 returns c =
     let at-row-from = c .before .before in
     let start = at-row-from .before .before .before .before .before in
-    let e : start .args .p ≡ 6 = omega arith in
-    rw e (at-row-from .row-from .ensures)
+    rw (start .pre .1 .0 (at-row-from .before .before .if1 .taken) .0) (at-row-from .row-from .ensures)
 
 by-doubling-requires : tie.Need-by-doubling-requires
 by-doubling-requires c κs = search needs
