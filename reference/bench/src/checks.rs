@@ -104,6 +104,33 @@ pub fn measure(p: u8, degree: usize, costs: Costs, repetitions: usize) -> Row {
     }
 }
 
+/// How many times as long a check of degree 32 takes as one of degree 16 at p = 6, measured in turn.
+pub fn growth(costs: Costs, repetitions: usize) -> f64 {
+    let p = 6;
+    let [single, double] = [16, 32].map(|degree| inputs::checks(p, degree, costs, COUNT));
+    let inputs: Vec<_> = single.into_iter().zip(double).collect();
+    let lent = vec![0; 32 + 5 * 63];
+    let mut contenders = [
+        Contender::new(
+            &inputs,
+            lent.clone(),
+            |(input, _): &(CheckSample, _), out| {
+                petsivola::check(p, &input.weights, &input.costs, out).expect("an accepted check");
+            },
+        ),
+        Contender::new(&inputs, lent, |(_, input), out| {
+            petsivola::check(p, &input.weights, &input.costs, out).expect("an accepted check");
+        }),
+    ];
+    // The two work on different checks.
+    let rules = Rules {
+        agree: |_, _| true,
+        ..BYTES
+    };
+    let times = race(&mut contenders, repetitions, &rules);
+    times[1].ratio(&times[0])
+}
+
 /// The sweeps as a call, with their tables kept from call to call.
 fn sweeps_call(p: u8) -> impl FnMut(&CheckSample, &mut Vec<u8>) {
     let mut engine = sweeps::Engine::new(p);

@@ -62,6 +62,8 @@ fn run(repetitions: usize, out: Option<&Path>) -> io::Result<()> {
         rows.collect::<Vec<_>>()
     };
     let (channel, uniform) = (table(Costs::Channel), table(Costs::Uniform));
+    eprintln!("check, growth from d = 16 to d = 32 at p = 6");
+    let growth = [Costs::Channel, Costs::Uniform].map(|costs| checks::growth(costs, repetitions));
     let jobs = inputs::jobs();
     let codes: Vec<_> = jobs
         .iter()
@@ -75,7 +77,7 @@ fn run(repetitions: usize, out: Option<&Path>) -> io::Result<()> {
         channel: &channel,
         uniform: &uniform,
         codes: &codes,
-        targets: &targets(&all, &codes),
+        targets: &targets(&all, &growth, &codes),
         repetitions,
     };
     let text = report.markdown();

@@ -58,7 +58,7 @@ impl Report<'_> {
              repetitions, and a ratio the median of the ratios within each stretch. No lent buffer is \
              cleared first: before each stretch, and outside its time, all are filled with A5, and after \
              each repetition the results of all are compared byte for byte. A difference stops the \
-             run.\n\n",
+             run. The two degrees whose growth is asked for run in turn as well.\n\n",
             self.repetitions
         )
     }
