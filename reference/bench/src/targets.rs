@@ -1,4 +1,4 @@
-//! The targets of issues 3, 4 and 5, and whether a run meets them.
+//! What is asked of the figures, and whether a run meets it.
 
 use crate::{checks, decoding};
 
