@@ -1,4 +1,4 @@
-//! The benchmark of issue 5: "time per check by (p, d) and per iteration and coded bits per second by
+//! The benchmark: "time per check by (p, d) and per iteration and coded bits per second by
 //! code, beside (a) the same algorithm in Rust built with -O, (b) the textbook forward and backward
 //! sweeps in Rust, (c) expansion and record sizes against the d·q bytes of plain messages. All in one
 //! run, as ratios".

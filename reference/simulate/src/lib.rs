@@ -1,4 +1,4 @@
-//! The simulation of issue 5: frame error rates over BPSK and white noise, with the decoder called
+//! The simulation: frame error rates over BPSK and white noise, with the decoder called
 //! through the static library, beside the Trellis Min-Max rule of source document 003.
 
 #![forbid(unsafe_code)]
