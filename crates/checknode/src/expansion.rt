@@ -77,7 +77,7 @@ fn in_room(p: u8, w: usize, weights: &[u8], r: &[u8], table: &[u8], row: &mut [u
     columns(p, w, weights, r, table, &mut row[..w], out);
 }
 
-// The expansion, with the room that it takes. To have the table at hand it is copied, once for all columns: that pays from 8 columns on, and
+// The expansion, with the room that it takes. To have the table at hand it is copied, once for all columns, from 8 columns on;
 // weights, at most 32, stand for no table.
 pub fn expand_in(p: u8, w: usize, weights: &[u8], r: &[u8], out: &mut [u8])
     requires { ⌜ Expandable p (now weights) (now r) ⌝ }

@@ -71,8 +71,8 @@ const fn times(p: u8, a: u8, b: u8) -> u8 {
     }
 }
 
-/// The table, where it serves the columns better than doubling does. The proved library has to copy it
-/// for that.
+/// The table, where the proved library takes it. That library has to copy it; Rust reads it in place, and
+/// would be faster with it at fewer columns too.
 pub fn table_for(p: u8, columns: usize) -> Option<&'static Table> {
     (p == 6 && columns >= 8).then_some(&PRODUCTS)
 }
