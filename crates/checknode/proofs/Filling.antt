@@ -1,22 +1,22 @@
 -- Turns and ends of the loops that fill the rows: merging three keys, placing a column's keys, the first zero, a weight's products.
-use mathlib.Core.Path.{_≡_, refl, ap, sym}
+use mathlib.Core.Path.{_≡_, refl, ap}
+use mathlib.Core.Bool.{cond}
 use mathlib.Core.Logic.{_≢_}
 use mathlib.Core.List.{List, [], _∷_, _++_, append-nil}
-use Prim.Native.Nat.{ℕ, zero, suc, _+_, _^_, _≤_, _<_, min, max}
-use native.Mathlib.Numerals.{add-one}
+use Prim.Native.Nat.{ℕ, zero, suc, _+_, _/_, _%_, _^_, _≤_, _<_, min, max}
 use native.Mathlib.Omega.{arith}
 use lib.Bits.{bitXor, xor-lt}
+use lib.Dec.{eqb}
 use lib.ListN.{length, drop, getD, set}
 use lib.Seq.{drop-cons, drop-length}
-use lib.Pow.{pow-mono}
 use Rattle.trellis.specs.Lists.{tab}
-use Rattle.trellis.specs.Field.{doubled, product}
+use Rattle.trellis.specs.Field.{xor, doubled, product}
 use Rattle.trellis.specs.Check.{firstZero}
-use Rattle.engine.specs.Fill.{Rows, rowsOf, merged, firstIn, secondIn, thirdIn, scattered, powers, plusRow}
+use Rattle.engine.specs.Fill.{Rows, rowsOf, merged, firstIn, secondIn, thirdIn, scattered, bitsOf}
 use Rattle.checknode.specs.Asks.{Placed, Times, lineFrom}
+use Rattle.trellis.proofs.Xor.{xor-right}
 use Rattle.trellis.proofs.Loops.{tab-more, tab-seam, length-tab, getD-tab}
-use Rattle.trellis.proofs.Recurrence.{product-zero}
-use Rattle.engine.proofs.Products.{powers-more, product-next, plus-law}
+use Rattle.engine.proofs.Products.{bits-are}
 
 module _ (L X₀ Y₀ Z₀ : List ℕ) (a : ℕ) (hx : a < length X₀) (hy : a < length Y₀) (hz : a < length Z₀) where
   pub merge-turn : (X Y Z : List ℕ) → X ≡ tab (firstIn L X₀) a ++ drop a X₀ → Y ≡ tab (secondIn L X₀ Y₀) a ++ drop a Y₀ → Z ≡ tab (thirdIn L X₀ Y₀ Z₀) a ++ drop a Z₀
@@ -59,26 +59,25 @@ zero-later s i h e = rw (drop-cons s i 0 h) (suc-cons (getD s i 0) (drop (suc i)
 pub zero-none : (s : List ℕ) → firstZero (drop (length s) s) ≡ 0
 zero-none s = rw drop-length
 
-pub pow-room : (i p : ℕ) → i < p → 2 ^ i + 2 ^ i ≤ 2 ^ p
-pow-room i p h = omega (arith, pow-mono {i = suc i} {j = p} h)
-
-pub pow-twice : (i : ℕ) → 2 ^ i + 2 ^ i ≡ 2 ^ (i + 1)
-pow-twice i = rw (add-one i) (omega arith)
-
-pub products-start : (p h : ℕ) (l : List ℕ) → 0 < length l → set l 0 0 ≡ tab (product p h) 1 ++ drop 1 (set l 0 0)
-products-start p h [] k = absurd (omega arith)
-products-start p h (x ∷ l) k = ap {B = List ℕ} (λ y. y ∷ l) (sym (product-zero p p h))
-
 pub products-end : (f : ℕ → ℕ) (n m : ℕ) (l row : List ℕ) → n ≡ m → length l ≡ m → row ≡ tab f n ++ drop n l → row ≡ tab f m
 products-end f n m l row e h o = rw (o, e, ← h, drop-length) (append-nil (tab f (length l)))
 
-pub products-turn : (p h i n t : ℕ) (l row : List ℕ) → i < p → n ≡ 2 ^ i → t ≡ powers p h i → length l ≡ 2 ^ p → {r : List ℕ} → row ≡ tab (product p h) n ++ drop n l → r ≡ plusRow n t row
-    → r ≡ tab (product p h) (n + n) ++ drop (n + n) l
-products-turn p h i n t l row u en et el e o =
-    rw (o, e) (plus-law (product p h) n t (λ j k. rw (en, et) (product-next p h i j u (omega arith))) l (omega (arith, pow-room i p u)))
+-- the code divides by powers of two where the definition halves
+pub bits-six : (a b c d e f x : ℕ) {A B C D E F : ℕ} → A ≡ cond (eqb (x % 2) 1) a 0 → B ≡ cond (eqb (x / 2 % 2) 1) b 0 → C ≡ cond (eqb (x / 4 % 2) 1) c 0
+    → D ≡ cond (eqb (x / 8 % 2) 1) d 0 → E ≡ cond (eqb (x / 16 % 2) 1) e 0 → F ≡ cond (eqb (x / 32 % 2) 1) f 0
+    → bitXor A (bitXor B (bitXor C (bitXor D (bitXor E F)))) ≡ bitsOf (a ∷ b ∷ c ∷ d ∷ e ∷ f ∷ []) x
+unfolding xor
+bits-six a b c d e f x p q r s t u =
+    let c4 : x / 2 / 2 ≡ x / 4 = omega arith in
+    let c8 : x / 4 / 2 ≡ x / 8 = omega arith in
+    let c16 : x / 8 / 2 ≡ x / 16 = omega arith in
+    let c32 : x / 16 / 2 ≡ x / 32 = omega arith in
+    rw (p, q, r, s, t, u, c4, c8, c16, c32, xor-right (cond (eqb (x / 32 % 2) 1) f 0))
 
-pub powers-turn : (p h i t : ℕ) → t ≡ powers p h i → {r : ℕ} → r ≡ doubled p t → r ≡ powers p h (i + 1)
-powers-turn p h i t et o = rw (add-one i, powers-more p h i, o, et)
+-- one product more
+pub products-turn : (p h x : ℕ) (l row : List ℕ) → p ≤ 6 → x < 2 ^ p → length l ≡ 2 ^ p → {b c d e f r : ℕ} → b ≡ doubled p h → c ≡ doubled p b → d ≡ doubled p c → e ≡ doubled p d → f ≡ doubled p e
+    → row ≡ tab (product p h) x ++ drop x l → r ≡ bitsOf (h ∷ b ∷ c ∷ d ∷ e ∷ f ∷ []) x → set row x r ≡ tab (product p h) (x + 1) ++ drop (x + 1) l
+products-turn p h x l row i k n eb ec ed ee ef e o = rw (e, o, bits-are p h x i k eb ec ed ee ef) (tab-more (product p h) l x (omega arith))
 
 pub column-placed : (p h : ℕ) (costs line : List ℕ) {row : List ℕ} {z : ℕ} → Times p h → row ≡ tab (product p h) (2 ^ p) → z ≡ firstZero costs → firstZero costs < 2 ^ p → length costs ≡ 2 ^ p → length line ≡ 2 ^ p
     → Placed costs row (getD row z 0) line

@@ -3,6 +3,7 @@ pub mod Arithmetic
 pub mod Tables
 pub mod Filling
 pub mod Turns
+pub mod Steps
 pub mod Searching
 pub mod Recording
 pub mod Refusals

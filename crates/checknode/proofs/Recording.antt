@@ -14,7 +14,7 @@ use Rattle.trellis.specs.Rules.{ruleFor, columnsOf}
 use Rattle.engine.specs.Keys.{bothBut, minimaBut, groupOf}
 use Rattle.engine.specs.Fill.{Rows, rowsOf, merged, started, filled}
 use Rattle.engine.specs.Ready.{Ready, termOf, sumTo, keysOf}
-use Rattle.checknode.specs.Asks.{shiftsOf, Inside, Tabled, minimaAt}
+use Rattle.checknode.specs.Asks.{shiftsOf, Inside, MinimaTable, minimaAt}
 use Rattle.trellis.proofs.Loops.{length-tab, getD-tab, tab-ext, blocks-front, length-even}
 use Rattle.engine.proofs.Rows.{minima-is}
 use Rattle.engine.proofs.Record.{length-columns, kept, record-is}
@@ -71,7 +71,7 @@ module _ (p : ℕ) (ws cs : List ℕ) (D : Ready p ws cs) (bytes : (i : ℕ) →
       let g = getD-tab (λ b. bothBut (getD X b 0) (getD Y b 0) (getD Z b 0) (length ws)) q b l in
       rw (minima-are (length ws) (omega arith), g) (w .small, (omega (arith, w .first .in-k), omega (arith, w .next .in-k)))
 
-  pub tabled : Tabled q (length ws) t
+  pub tabled : MinimaTable q (length ws) t
   tabled = record {
     p = p;
     power = k;

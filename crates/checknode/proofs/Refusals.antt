@@ -1,11 +1,11 @@
 -- The tests behind the refusals, as the definitions of a check's and an expansion's cases have them.
 use mathlib.Core.Path.{_≡_, refl, ap, _∙_, sym}
-use mathlib.Core.Bool.{Bool, true, false}
+use mathlib.Core.Bool.{Bool, true, false, _||_}
 use mathlib.Core.Logic.{_≢_}
 use mathlib.Core.List.{List}
-use Prim.Native.Nat.{ℕ, _+_, _*_, _^_, _≤_, _<_, _-_}
+use Prim.Native.Nat.{ℕ, suc, _+_, _*_, _^_, _≤_, _<_, _-_}
 use native.Mathlib.Nat.{suc-mul, mul-le-mul-right, add-sub-cancel-left}
-use native.Mathlib.Decide.{decLe}
+use native.Mathlib.Decide.{decLe, decLt, ℕ-discrete}
 use native.Mathlib.Omega.{arith}
 use borrow.Author.Tests.{eq-eqb, ne-eqb, lt-ltb, le-ltb}
 use lib.Dec.{T, ltb, eqb, ltb→lt}
@@ -18,6 +18,7 @@ use Rattle.trellis.proofs.Tests.{of-true, all-at}
 use Rattle.engine.specs.Ready.{Ready}
 use Rattle.checknode.specs.Answers.{weightOk, weightsOk, weightCases, zeroOk, checkCases, expandCases}
 use Rattle.checknode.specs.Asks.{weightsFault}
+use Rattle.checknode.proofs.Filling.{zero-here, zero-later, zero-none}
 
 pub part-room : (n d w : ℕ) → n < d → n * w + w ≤ d * w
 part-room n d w h = rw suc-mul at (mul-le-mul-right w h)
@@ -132,3 +133,35 @@ module _ (p : ℕ) (ws : List ℕ) (W : Weighed p ws) where
 
         pub expand-case : length ws * 2 ^ p ≤ room → good ≡ expandCases p ws r room bad good
         expand-case k = sym (rest-case bad _ ∙ simp (o, le-ltb _ _ k))
+
+-- whether there is a zero from place x on
+abbrev pub zeroFrom : List ℕ → ℕ → Bool
+zeroFrom s x = ltb (firstZero (drop x s)) (length s - x)
+
+zero-next : (s : List ℕ) (x : ℕ) → x < length s → getD s x 0 ≢ 0 → zeroFrom s x ≡ zeroFrom s (suc x)
+zero-next s x h e =
+    let z : ℕ = firstZero (drop (suc x) s) in
+    rw (zero-later s x h e) (elim (decLt z (length s - suc x)) [
+      | yes l ↦ lt-ltb (suc z) (length s - x) (omega arith) ∙ sym (lt-ltb z (length s - suc x) l)
+      | no l ↦ le-ltb (suc z) (length s - x) (omega arith) ∙ sym (le-ltb z (length s - suc x) (omega arith))
+    ])
+
+-- one cost more
+pub zero-more : (s : List ℕ) (x : ℕ) (found : Bool) {r : Bool} → x < length s → r ≡ found || eqb (getD s x 0) 0 → found || zeroFrom s x ≡ r || zeroFrom s (suc x)
+zero-more s x found h o =
+    elim (ℕ-discrete (getD s x 0) 0) [
+      | yes e ↦ rw (o, eq-eqb _ _ e, zero-here s x h e, lt-ltb 0 (length s - x) (omega arith)) (seen found (zeroFrom s (suc x)))
+      | no e ↦ rw (o, ne-eqb _ _ e, zero-next s x h e) (unseen found (zeroFrom s (suc x)))
+    ]
+  where
+    seen : (b c : Bool) → b || true ≡ (b || true) || c
+    seen true c = refl
+    seen false c = refl
+
+    unseen : (b c : Bool) → b || c ≡ (b || false) || c
+    unseen true c = refl
+    unseen false c = refl
+
+pub zero-end : (s : List ℕ) (found : Bool) → found || zeroFrom s (length s) ≡ found
+zero-end s true = refl
+zero-end s false = rw (zero-none s) (le-ltb 0 (length s - length s) (omega arith))

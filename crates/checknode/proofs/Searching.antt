@@ -3,21 +3,26 @@ use mathlib.Core.Path.{_≡_, refl, ap, _∙_}
 use mathlib.Core.Bool.{Bool, true, false}
 use mathlib.Core.Logic.{_≢_, inl, inr}
 use mathlib.Core.List.{List, [], _∷_}
-use Prim.Native.Nat.{ℕ, zero, suc, _+_, _*_, _-_, _/_, _%_, _≤_, _<_, min, max}
+use Prim.Native.Nat.{ℕ, suc, _+_, _*_, _-_, _/_, _%_, _^_, _≤_, _<_, min, max}
 use native.Mathlib.Nat.{suc-mul, mul-le-mul-right, add-sub-cancel-left}
 use native.Mathlib.Omega.{arith}
 use borrow.Author.Tests.{le-ltb, le-leb, lt-leb, eq-eqb, ne-eqb}
 use lib.Bits.{bitXor, xor-lt}
 use lib.ListN.{length, getD, set, take, drop, length-take, length-drop}
 use lib.Dec.{ltb, leb, eqb}
-use Rattle.trellis.specs.Lists.{pick, upto}
+use Rattle.trellis.specs.Lists.{pick}
 use Rattle.trellis.specs.Field.{xor}
-use Rattle.engine.specs.Keys.{joined, pairOf, keysOf, columnsAt, singleAt, tryAt, bestOf, secondOf, fiveOf, groupFrom, groupOf}
-use Rattle.checknode.specs.Asks.{Rowed, Inside, Tabled, minimaAt}
+use Rattle.engine.specs.Keys.{joined, pairOf, keysOf, columnsAt, tryAt, bestOf, secondOf, fiveOf, groupFrom, groupOf}
+use Rattle.checknode.specs.Asks.{Rowed, Inside, MinimaTable, minimaAt}
+use Rattle.engine.proofs.Rows.{halves}
 use Rattle.engine.proofs.Pairs.{Reach, best-reach}
 
+-- the sum of two of q = 2 ^ p rows is a row
+sum-below : (p q a b : ℕ) → q ≡ 2 ^ p → a < q → b < q → bitXor a b < q
+sum-below p q a b e h k = rw e (xor-lt p a b (rw e at h) (rw e at k))
+
 pub row-below : (W : List ℕ) → Rowed W → (a b : ℕ) → a < length W → b < length W → bitXor a b < length W
-row-below W S a b h k = rw (S .power) (xor-lt (S .p) a b (rw (S .power) at h) (rw (S .power) at k))
+row-below W S a b = sum-below (S .p) (length W) a b (S .power)
 
 joined-sum : (u v : ℕ) → joined _+_ u v ≡ u + v
 unfolding joined
@@ -61,20 +66,11 @@ module _ (W : List ℕ) (a : ℕ) where
   unfolding tryAt xor
   try-both b e h q o = rw (o, q) (simp (le-ltb _ _ h))
 
-  -- one row more
-  pub best-more : (b : ℕ) {e r : ℕ} → 1 ≤ b → e ≡ upto (λ i e. tryAt _+_ W a (suc i) e) (b - 1) (singleAt W a) → r ≡ tryAt _+_ W a b e
-      → r ≡ upto (λ i e. tryAt _+_ W a (suc i) e) (b + 1 - 1) (singleAt W a)
-  best-more zero l e o = absurd (omega arith)
-  best-more (suc b) l e o =
-      let h : suc b - 1 ≡ b = omega arith in
-      let k : suc b + 1 - 1 ≡ suc b = omega arith in
-      rw (o, e, h, k)
-
 -- the columns of two keys, and of those that the tests choose
 two-columns : (d k l : ℕ) → l < 65536 → k % 256 < d → l % 256 < d
     → (((k * 65536 + l) / 65536 % 256 * 256 + (k * 65536 + l) % 256) / 256 < d) × (((k * 65536 + l) / 65536 % 256 * 256 + (k * 65536 + l) % 256) % 256 < d)
 two-columns d k l h i j =
-    let a : (k * 65536 + l) / 65536 ≡ k = omega arith in
+    let a : (k * 65536 + l) / 65536 ≡ k = halves k l h .0 in
     let b : (k * 65536 + l) % 256 ≡ l % 256 = omega arith in
     rw (a, b) (omega arith, omega arith)
 
@@ -88,7 +84,7 @@ columns-inside d w u v i j k false true false = two-columns d (u % 65536) (v / 6
 columns-inside d w u v i j k false false c = two-columns d (u / 65536) (v / 65536) (k .0) (j .1 .0) (k .1 .0)
 
 -- a table of minima
-module _ (q d : ℕ) (t : List ℕ) (B : Tabled q d t) where
+module _ (q d : ℕ) (t : List ℕ) (B : MinimaTable q d t) where
   pub room : (m : ℕ) → m ≤ d → (m * q + q ≤ length t) × (m * q + q ≤ 2112)
   room m l =
       let a : suc m * q ≤ (d + 1) * q = mul-le-mul-right q (omega arith) in
@@ -116,21 +112,17 @@ module _ (q d : ℕ) (t : List ℕ) (B : Tabled q d t) where
       go (inl h) = omega (arith, h .0)
       go (inr h) = h .1 .0
 
-  other : (a b : ℕ) → a < q → b < q → xor a b < q
-  unfolding xor
-  other a b h k = rw (B .power) (xor-lt (B .p) a b (rw (B .power) at h) (rw (B .power) at k))
-
   -- its columns are below d
   pub columns-in : (a b : ℕ) → a < q → b < q → (columnsAt _+_ W a b / 256 < d) × (columnsAt _+_ W a b % 256 < d)
-  unfolding columnsAt keysOf
+  unfolding columnsAt keysOf xor
   columns-in a b h k =
       let u : ℕ = getD W b 0 in
       let v : ℕ = getD W (xor a b) 0 in
-      columns-inside d (getD W a 0) u v (B .inside a h) (B .inside b k) (B .inside (xor a b) (other a b h k)) (eqb b 0) (eqb (u / 65536 % 256) (v / 65536 % 256))
+      columns-inside d (getD W a 0) u v (B .inside a h) (B .inside b k) (B .inside (xor a b) (sum-below (B .p) q a b (B .power) h k)) (eqb b 0) (eqb (u / 65536 % 256) (v / 65536 % 256))
       (leb (joined _+_ (u / 65536) (v % 65536)) (joined _+_ (u % 65536) (v / 65536)))
 
 -- what a group's search has found in the minima w that leave no column out
-module _ (q d : ℕ) (t : List ℕ) (B : Tabled q d t) (w : List ℕ) (e : w ≡ minimaAt t q d) (a : ℕ) (l : a < q) where
+module _ (q d : ℕ) (t : List ℕ) (B : MinimaTable q d t) (w : List ℕ) (e : w ≡ minimaAt t q d) (a : ℕ) (l : a < q) where
   pub found-best : {g : ℕ} → g ≡ bestOf _+_ w (length w) a → g ≡ bestOf _+_ (minimaAt t q d) q a
   found-best o = (rw e at o) ∙ ap (λ n. bestOf _+_ (minimaAt t q d) n a) (minima-long q d t B d (omega arith))
 

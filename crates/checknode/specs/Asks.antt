@@ -4,6 +4,7 @@ use mathlib.Core.Bool.{Bool, false}
 use mathlib.Core.Logic.{_≢_}
 use mathlib.Core.List.{List, map}
 use Prim.Native.Nat.{ℕ, _+_, _-_, _*_, _/_, _%_, _^_, _≤_, _<_}
+use lib.Bits.{bitAnd}
 use lib.Dec.{eqb, ltb, leb}
 use lib.ListN.{length, getD, take, drop}
 use Rattle.trellis.specs.Lists.{upTo, tab, part, pick, allTo}
@@ -22,6 +23,17 @@ pub record Rowed (W : List ℕ) : Type 0 where
   pub power : length W ≡ 2 ^ p
   pub limit : length W ≤ 64
 
+-- t is the highest bit of a
+pub record Highest (a t : ℕ) : Type 0 where
+  pub k : ℕ
+  pub power : t ≡ 2 ^ k
+  pub low : t ≤ a
+  pub high : a < t + t
+
+-- the row after b that has the bit t clear, where b has it clear
+abbrev pub nextClear : ℕ → ℕ → ℕ
+nextClear t b = b + 1 + bitAnd (b + 1) t
+
 -- the minima of q rows without column m
 abbrev pub minimaAt : List ℕ → ℕ → ℕ → List ℕ
 minimaAt t q m = part t (m * q) q
@@ -31,7 +43,7 @@ abbrev pub Inside : ℕ → ℕ → Type 0
 Inside d u = (u / 65536 < 65536) × ((u / 65536 % 256 < d) × (u % 65536 % 256 < d))
 
 -- a table of minima without each of d columns and without none, whose keys stand in these columns
-pub record Tabled (q d : ℕ) (t : List ℕ) : Type 0 where
+pub record MinimaTable (q d : ℕ) (t : List ℕ) : Type 0 where
   pub p : ℕ
   pub power : q ≡ 2 ^ p
   pub limit : q ≤ 64

@@ -85,7 +85,7 @@ pub fn expand_in(p: u8, w: usize, weights: &[u8], r: &[u8], out: &mut [u8])
     ensures { λ _. ⌜ now (out .exit) ≡ expansion (ruleFor p) (now (weights .entry)) (now (r .entry)) ⌝ }
 {
     let mut row = [0u8; 64];
-    if table::pays(p, weights.len()) {
+    if table::taken(p, weights.len()) {
         let products = table::products();
         in_room(p, w, weights, r, &products, &mut row, out);
         return;

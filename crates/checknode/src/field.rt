@@ -31,7 +31,8 @@ pub fn double(p: u8, a: u8) -> u8
     ensures { λ r. ⌜ (r ≡ doubled p a) × (r < 2 ^ p) ⌝ }
 {
     let s = a << 1;
-    if (s >> p) % 2 == 1 { s ^ reducer(p) } else { s }
+    let r = reducer(p);
+    if (s >> p) % 2 == 1 { s ^ r } else { s }
 }
 
 // "The product follows its own recurrence, halving the second factor each time": it calls itself on half of b, which falls to 0.

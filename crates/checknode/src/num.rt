@@ -1,6 +1,6 @@
 // Numbers of one width as numbers of another, and the lesser and the greater of two.
 ghost use mathlib.Core.Path.{_≡_};
-ghost use mathlib.Core.Bool.{_&&_};
+ghost use mathlib.Core.Bool.{_&&_, _||_};
 ghost use Prim.Native.Nat.{_<_, min, max};
 
 pub fn index(x: u8) -> usize
@@ -62,6 +62,13 @@ pub fn upper(x: u8, y: u8) -> u8
     ensures { λ r. ⌜ r ≡ max x y ⌝ }
 {
     if x < y { y } else { x }
+}
+
+// One of two tests, or both.
+pub fn either(a: bool, b: bool) -> bool
+    ensures { λ r. ⌜ r ≡ a || b ⌝ }
+{
+    if a { true } else { b }
 }
 
 // Both of two tests.

@@ -2,44 +2,50 @@
 use crate::field;
 use crate::table;
 ghost use mathlib.Core.Path.{_≡_};
-ghost use Prim.Native.Nat.{_+_, _^_, _≤_, _<_};
+ghost use mathlib.Core.Bool.{cond};
+ghost use mathlib.Core.List.{[], _∷_};
+ghost use Prim.Native.Nat.{_%_, _^_};
+ghost use lib.Dec.{eqb};
 ghost use lib.ListN.{length};
 ghost use Rattle.trellis.specs.Lists.{tab};
 ghost use Rattle.trellis.specs.Field.{product};
-ghost use Rattle.engine.specs.Fill.{plusRow};
+ghost use Rattle.engine.specs.Fill.{bitsOf};
 ghost use Rattle.checknode.specs.Asks.{Times, TableFor};
 
-// The next n products: the first n, each plus t.
-fn plus(row: &mut [u8], n: usize, t: u8)
-    requires { ⌜ n + n ≤ length (now row) ⌝ }
-    ensures { λ _. ⌜ now (row .exit) ≡ plusRow n t (now (row .entry)) ⌝ }
+// "it is added where the dropped bit was one".
+fn added(a: u8, x: u8) -> u8
+    ensures { λ r. ⌜ r ≡ cond (eqb (x % 2) 1) a 0 ⌝ }
 {
-    let mut j = 0;
-    while j < n {
-        row[n + j] = row[j] ^ t;
-        j += 1;
-    }
+    if x % 2 == 1 { a } else { 0 }
 }
 
-// By doubling: the products with 2 ^ i and more are those below it, each plus h times 2 ^ i.
-fn by_doubling(p: u8, h: u8, row: &mut [u8])
+// The terms of the six bits of x, lowest first, added.
+fn of_bits(a: u8, b: u8, c: u8, d: u8, e: u8, f: u8, x: u8) -> u8
+    ensures { λ r. ⌜ r ≡ bitsOf (a ∷ b ∷ c ∷ d ∷ e ∷ f ∷ []) x ⌝ }
+{
+    let high = added(d, x / 8) ^ (added(e, x / 16) ^ added(f, x / 32));
+    added(a, x) ^ (added(b, x / 2) ^ (added(c, x / 4) ^ high))
+}
+
+// Each product from the bits of its symbol. No product is read to make another, so the loop has nothing to wait for.
+fn by_bits(p: u8, h: u8, row: &mut [u8])
     requires { ⌜ Times p h ⌝ }
     requires { ⌜ length (now row) ≡ 2 ^ p ⌝ }
     ensures { λ _. ⌜ now (row .exit) ≡ tab (product p h) (2 ^ p) ⌝ }
 {
-    row[0] = 0;
-    let mut t = h;
-    let mut n = 1;
-    let mut i = 0;
-    while i < p {
-        plus(row, n, t);
-        t = field::double(p, t);
-        n = n + n;
-        i += 1;
+    let b = field::double(p, h);
+    let c = field::double(p, b);
+    let d = field::double(p, c);
+    let e = field::double(p, d);
+    let f = field::double(p, e);
+    let mut x = 0;
+    while x < row.len() {
+        row[x] = of_bits(h, b, c, d, e, f, x as u8);
+        x += 1;
     }
 }
 
-// From the table where it is at hand, else by doubling.
+// From the table where it is at hand, else from the bits.
 pub fn fill(p: u8, h: u8, table: &[u8], row: &mut [u8])
     requires { ⌜ Times p h ⌝ }
     requires { ⌜ TableFor p (now table) ⌝ }
@@ -50,5 +56,5 @@ pub fn fill(p: u8, h: u8, table: &[u8], row: &mut [u8])
         table::row_from(table, h, row);
         return;
     }
-    by_doubling(p, h, row);
+    by_bits(p, h, row);
 }

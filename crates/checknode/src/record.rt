@@ -155,14 +155,14 @@ fn with_room(p: u8, w: usize, weights: &[u8], costs: &[u8], table: &[u8], out: &
     );
 }
 
-// The record. The table is copied once for all columns, where that pays; weights, at most 32, stand for no table.
+// The record. The table is copied once for all columns, where it is taken; weights, at most 32, stand for no table.
 pub fn record_in(p: u8, w: usize, weights: &[u8], costs: &[u8], out: &mut [u8])
     requires { ⌜ Ready p (now weights) (now costs) ⌝ }
     requires { ⌜ w ≤ 64 ⌝ }
     requires { ⌜ (w ≡ 2 ^ p) × (length (now out) ≡ recordLength (ruleFor p) (length (now weights))) ⌝ }
     ensures { λ _. ⌜ now (out .exit) ≡ recordOf (ruleFor p) (columnsOf (2 ^ p) (now (weights .entry)) (now (costs .entry))) ⌝ }
 {
-    if table::pays(p, weights.len()) {
+    if table::taken(p, weights.len()) {
         let products = table::products();
         with_room(p, w, weights, costs, &products, out);
         return;

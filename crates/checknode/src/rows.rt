@@ -54,7 +54,7 @@ fn scatter(costs: &[u8], row: &[u8], s: u8, n: u16, line: &mut [u16])
 }
 
 // The smallest symbol of cost 0, or the number of costs where there is none.
-pub fn first_zero(costs: &[u8]) -> usize
+fn first_zero(costs: &[u8]) -> usize
     ensures { λ r. ⌜ (r ≡ firstZero (now (costs .entry))) × (r ≤ length (now (costs .entry))) ⌝ }
 {
     let mut i = 0;

@@ -3,10 +3,11 @@ use crate::num;
 ghost use mathlib.Core.Path.{_≡_};
 ghost use mathlib.Core.List.{[], _∷_};
 ghost use Prim.Native.Nat.{_+_, _-_, _*_, _/_, _%_, _≤_, _<_};
+ghost use lib.Bits.{bitXor};
 ghost use lib.ListN.{length};
 ghost use Rattle.trellis.specs.Lists.{blocks};
 ghost use Rattle.engine.specs.Keys.{pairOf, keysOf, columnsAt, tryAt, bestOf, fiveOf, secondOf, groupOf};
-ghost use Rattle.checknode.specs.Asks.{Rowed, Tabled, minimaAt};
+ghost use Rattle.checknode.specs.Asks.{Rowed, Highest, nextClear, MinimaTable, minimaAt};
 
 // The cheapest pair of two columns, from the minima of two rows. Both sums are formed first, so that the choice between them takes no jump.
 fn pair_of(u: u32, v: u32) -> u32
@@ -51,17 +52,22 @@ fn columns_at(w: &[u32], a: usize, b: usize) -> u32
     keys / 65536 % 256 * 256 + keys % 256
 }
 
-// The cheaper of e and the cheapest pair of rows b and a + b.
+// The cheaper of e and the cheapest pair of rows b and a + b, the lower of them first.
 fn try_at(w: &[u32], a: usize, b: usize, e: u32) -> u32
     requires { ⌜ Rowed (now w) ⌝ }
-    requires { ⌜ (a < length (now w)) × (b < length (now w)) ⌝ }
+    requires { ⌜ (a < length (now w)) × ((b < length (now w)) × (b ≤ bitXor a b)) ⌝ }
     ensures { λ r. ⌜ (r ≡ tryAt _+_ (now (w .entry)) a b e) × (r ≤ e) ⌝ }
 {
-    let c = a ^ b;
-    if c < b {
-        return e;
-    }
-    num::least(e, pair_of(w[b], w[c]) * 64 + b as u32)
+    num::least(e, pair_of(w[b], w[a ^ b]) * 64 + b as u32)
+}
+
+// The row after b that has the bit top clear, where b has it clear.
+fn next_clear(top: usize, b: usize) -> usize
+    requires { ⌜ (top ≤ 64) × (b < 64) ⌝ }
+    ensures { λ r. ⌜ r ≡ nextClear top b ⌝ }
+{
+    let c = b + 1;
+    c + (c & top)
 }
 
 // The cheapest choice of one column, from the minima of its row.
@@ -71,51 +77,56 @@ fn single_of(u: u32) -> u32
     u / 65536 / 256 * 16384
 }
 
-// The cheapest choice of one or two columns for a.
-fn best_of(w: &[u32], a: usize) -> u32
+// The cheapest choice of one or two columns for a. Of rows b and a + b the lower one has the highest bit of a clear: a step from one such row to
+// the next takes no jump, where a test of each row would.
+fn best_of(w: &[u32], a: usize, top: usize) -> u32
     requires { ⌜ Rowed (now w) ⌝ }
+    requires { ⌜ Highest a top ⌝ }
     requires { ⌜ a < length (now w) ⌝ }
     ensures { λ r. ⌜ (r ≡ bestOf _+_ (now (w .entry)) (length (now (w .entry))) a) × (r < 4194304) ⌝ }
 {
     let mut e = single_of(w[a]);
-    let mut b = 1;
+    let mut b = next_clear(top, 0);
     while b < w.len() {
         e = try_at(w, a, b, e);
-        b += 1;
+        b = next_clear(top, b);
     }
     e
 }
 
 // The same without column m, from the table of minima.
-fn best_without(t: &[u32], q: usize, d: usize, a: usize, m: usize) -> u32
-    requires { ⌜ Tabled q d (now t) ⌝ }
+fn best_without(t: &[u32], q: usize, d: usize, a: usize, top: usize, m: usize) -> u32
+    requires { ⌜ MinimaTable q d (now t) ⌝ }
+    requires { ⌜ Highest a top ⌝ }
     requires { ⌜ (a < q) × (m ≤ d) ⌝ }
     ensures { λ r. ⌜ (r ≡ bestOf _+_ (minimaAt (now (t .entry)) q m) q a) × (r < 4194304) ⌝ }
 {
     let s = m * q;
     let e = s + q;
-    best_of(&t[s..e], a)
+    best_of(&t[s..e], a, top)
 }
 
 // S of column m.
-fn sent_of(t: &[u32], q: usize, d: usize, a: usize, m: u8) -> u8
-    requires { ⌜ Tabled q d (now t) ⌝ }
+fn sent_of(t: &[u32], q: usize, d: usize, a: usize, top: usize, m: u8) -> u8
+    requires { ⌜ MinimaTable q d (now t) ⌝ }
+    requires { ⌜ Highest a top ⌝ }
     requires { ⌜ (a < q) × (m ≤ d) ⌝ }
     ensures { λ r. ⌜ r ≡ bestOf _+_ (minimaAt (now (t .entry)) q m) q a / 16384 ⌝ }
 {
-    num::byte(best_without(t, q, d, a, num::index(m)) / 16384)
+    num::byte(best_without(t, q, d, a, top, num::index(m)) / 16384)
 }
 
 // S of the choice's second column, or E where it has only one.
-fn second_of(t: &[u32], q: usize, d: usize, a: usize, m: u8, n: u8, e: u8) -> u8
-    requires { ⌜ Tabled q d (now t) ⌝ }
+fn second_of(t: &[u32], q: usize, d: usize, a: usize, top: usize, m: u8, n: u8, e: u8) -> u8
+    requires { ⌜ MinimaTable q d (now t) ⌝ }
+    requires { ⌜ Highest a top ⌝ }
     requires { ⌜ (a < q) × (n ≤ d) ⌝ }
     ensures { λ r. ⌜ r ≡ secondOf _+_ (minimaAt (now (t .entry)) q) q a m n e ⌝ }
 {
     if m == n {
         return e;
     }
-    sent_of(t, q, d, a, n)
+    sent_of(t, q, d, a, top, n)
 }
 
 // Five bytes.
@@ -151,13 +162,14 @@ fn put_five(out: &mut [u8], e: u8, m: u8, s: u8, n: u8, t: u8)
 }
 
 // The bytes of a: only the columns of a cheapest choice can have S above E. The minima w leave no column out.
-fn put_group(w: &[u32], t: &[u32], q: usize, d: usize, a: usize, out: &mut [u8])
-    requires { ⌜ Tabled q d (now t) ⌝ }
+fn put_group(w: &[u32], t: &[u32], q: usize, d: usize, a: usize, top: usize, out: &mut [u8])
+    requires { ⌜ MinimaTable q d (now t) ⌝ }
+    requires { ⌜ Highest a top ⌝ }
     requires { ⌜ now w ≡ minimaAt (now t) q d ⌝ }
     requires { ⌜ (a < q) × (length (now out) ≡ 5) ⌝ }
     ensures { λ _. ⌜ now (out .exit) ≡ groupOf _+_ (minimaAt (now (t .entry)) q) q d a ⌝ }
 {
-    let g = best_of(w, a);
+    let g = best_of(w, a, top);
     let e = num::byte(g / 16384);
     let b = num::place(g % 64);
     let columns = columns_at(w, a, b);
@@ -165,24 +177,35 @@ fn put_group(w: &[u32], t: &[u32], q: usize, d: usize, a: usize, out: &mut [u8])
     let j = num::byte(columns % 256);
     let m = num::lower(i, j);
     let n = num::upper(i, j);
-    let s = sent_of(t, q, d, a, m);
-    let u = second_of(t, q, d, a, m, n, e);
+    let s = sent_of(t, q, d, a, top, m);
+    let u = second_of(t, q, d, a, top, m, n, e);
     put_five(out, e, m, s, n, u);
+}
+
+// The highest bit of a + 1, from that of a.
+fn highest(a: usize, top: usize) -> usize
+    requires { ⌜ Highest a top ⌝ }
+    requires { ⌜ a ≤ 64 ⌝ }
+    ensures { λ r. ⌜ Highest (a + 1) r ⌝ }
+{
+    if a + 1 == top + top { top + top } else { top }
 }
 
 // The bytes of each a from 1 on.
 pub fn put_groups(t: &[u32], q: usize, d: usize, out: &mut [u8])
-    requires { ⌜ Tabled q d (now t) ⌝ }
+    requires { ⌜ MinimaTable q d (now t) ⌝ }
     requires { ⌜ length (now out) + 5 ≡ q * 5 ⌝ }
     ensures { λ _. ⌜ now (out .exit) ≡ blocks (λ i. groupOf _+_ (minimaAt (now (t .entry)) q) q d (i + 1)) (q - 1) ⌝ }
 {
     let s = d * q;
     let f = s + q;
     let mut i = 0;
+    let mut top = 1;
     while i + 1 < q {
         let w = i * 5;
         let v = w + 5;
-        put_group(&t[s..f], t, q, d, i + 1, &mut out[w..v]);
+        put_group(&t[s..f], t, q, d, i + 1, top, &mut out[w..v]);
+        top = highest(i + 1, top);
         i += 1;
     }
 }

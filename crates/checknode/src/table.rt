@@ -4180,7 +4180,7 @@ pub fn products() -> [u8; 4096]
 }
 
 // Whether the table is taken for d columns: to be read it is copied, and with few columns no gain over doubling was seen.
-pub fn pays(p: u8, d: usize) -> bool
+pub fn taken(p: u8, d: usize) -> bool
     ensures { λ r. ⌜ (r ≡ true → p ≡ 6) ⌝ }
 {
     if p != 6 {
@@ -4197,7 +4197,7 @@ pub fn row_from(table: &[u8], h: u8, out: &mut [u8])
 {
     let base = num::index(h) * 64;
     let mut x = 0;
-    while x < 64 {
+    while x < out.len() {
         out[x] = table[base + x];
         x += 1;
     }

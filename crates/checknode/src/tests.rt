@@ -1,7 +1,6 @@
 // The tests behind the refusals of a check and of an expansion.
 use crate::field;
 use crate::num;
-use crate::rows;
 ghost use mathlib.Core.Path.{_≡_};
 ghost use Prim.Native.Nat.{_*_};
 ghost use lib.Dec.{ltb};
@@ -55,11 +54,17 @@ pub fn weights_fault(p: u8, weights: &[u8]) -> u8
     11
 }
 
-// Whether a column has a cost of 0.
+// Whether a column has a cost of 0. All costs are tested: a jump at the first zero could not be foretold.
 fn has_zero(costs: &[u8]) -> bool
     ensures { λ r. ⌜ r ≡ ltb (firstZero (now (costs .entry))) (length (now (costs .entry))) ⌝ }
 {
-    rows::first_zero(costs) < costs.len()
+    let mut found = false;
+    let mut x = 0;
+    while x < costs.len() {
+        found = num::either(found, costs[x] == 0);
+        x += 1;
+    }
+    found
 }
 
 // Whether each of d columns has one.

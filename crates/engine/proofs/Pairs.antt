@@ -13,7 +13,7 @@ use Rattle.trellis.specs.Lists.{pick, upto}
 use Rattle.trellis.specs.Field.{xor}
 use Rattle.engine.specs.Keys.{joined, pairOf, keysOf, singleAt, tryAt, bestOf}
 use Rattle.trellis.proofs.Xor.{xor-cancel, xor-right}
-use Rattle.engine.proofs.Rows.{Cheapest, Minima, eqb-yes, eqb-no}
+use Rattle.engine.proofs.Rows.{Cheapest, Minima, eqb-yes, eqb-no, halves}
 
 -- e is a pair of keys k and l in two columns other than m, of rows with entries g and h
 pub record Pair (op : ℕ → ℕ → ℕ) (g h : ℕ → ℕ) (d m e k l : ℕ) : Type 0 where
@@ -53,9 +53,6 @@ module _ (op : ℕ → ℕ → ℕ) (mono : (a b c d : ℕ) → a ≤ b → c �
 
     abbrev t : ℕ
     t = v % 65536
-
-    halves : (k l : ℕ) → l < 65536 → ((k * 65536 + l) / 65536 ≡ k) × ((k * 65536 + l) % 65536 ≡ l)
-    halves k l h = (omega arith, omega arith)
 
     pub pair-is : Pair op g h d m (pairOf op u v) (keysOf op u v / 65536) (keysOf op u v % 65536)
     unfolding pairOf keysOf

@@ -47,6 +47,10 @@ eqb-no x y e h = go (eqb x y) e (rw h (eqb-refl y))
     go true e t = let z : _≡_ {A = ℕ} 0 1 = cc in omega arith
     go false e t = t
 
+-- two keys in one number
+pub halves : (k l : ℕ) → l < 65536 → ((k * 65536 + l) / 65536 ≡ k) × ((k * 65536 + l) % 65536 ≡ l)
+halves k l h = (omega arith, omega arith)
+
 module _ (g : ℕ → ℕ) (d x y z : ℕ) (K : Kept g d x y z) (m : ℕ) where
   -- the two keys that are left
   record Left (u v : ℕ) : Type 0 where
@@ -117,8 +121,5 @@ module _ (g : ℕ → ℕ) (d x y z : ℕ) (K : Kept g d x y z) (m : ℕ) where
   pub minima-is : Minima g d m (bothBut x y z m)
   unfolding bothBut
   minima-is =
-      let u : ℕ = firstBut x y m in
-      let v : ℕ = nextBut x y z m in
-      let h : (u * 65536 + v) / 65536 ≡ u = omega (arith, left .small) in
-      let k : (u * 65536 + v) % 65536 ≡ v = omega (arith, left .small) in
-      record { first = rw h (left .first); next = rw (h, k) (left .next); small = rw h (left .small .0) }
+      let h = halves (firstBut x y m) (nextBut x y z m) (left .small .1) in
+      record { first = rw (h .0) (left .first); next = rw (h .0, h .1) (left .next); small = rw (h .0) (left .small .0) }

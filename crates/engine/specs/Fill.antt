@@ -1,9 +1,11 @@
 -- The rows' three least keys, filled column by column.
-use mathlib.Core.List.{List}
-use Prim.Native.Nat.{ℕ, zero, suc, _+_, _*_, min, max}
+use mathlib.Core.Bool.{cond}
+use mathlib.Core.List.{List, [], _∷_}
+use Prim.Native.Nat.{ℕ, _+_, _*_, _/_, _%_, min, max}
+use lib.Dec.{eqb}
 use lib.ListN.{length, getD, set}
 use Rattle.trellis.specs.Lists.{upto, tab}
-use Rattle.trellis.specs.Field.{xor, doubled}
+use Rattle.trellis.specs.Field.{xor}
 
 -- the least, the second and the third key of each row
 pub record Rows : Type 0 where
@@ -39,11 +41,7 @@ filled f q n = upto (λ j r. merged (tab (λ a. f a j) q) r) n (started q)
 unfoldable pub scattered : List ℕ → List ℕ → ℕ → ℕ → ℕ → List ℕ → List ℕ
 scattered costs row s n q l = upto (λ x l. set l (xor (getD row x 0) s) (getD costs x 0 * 256 + n)) q l
 
--- h doubled i times
-abbrev pub powers : ℕ → ℕ → ℕ → ℕ
-powers p h zero = h
-powers p h (suc i) = powers p (doubled p h) i
-
--- the next n products: the first n, each plus t
-unfoldable pub plusRow : ℕ → ℕ → List ℕ → List ℕ
-plusRow n t l = upto (λ j l. set l (n + j) (xor (getD l j 0) t)) n l
+-- the terms of the bits that x has, lowest first, added
+abbrev pub bitsOf : List ℕ → ℕ → ℕ
+bitsOf [] x = 0
+bitsOf (t ∷ l) x = xor (cond (eqb (x % 2) 1) t 0) (bitsOf l (x / 2))

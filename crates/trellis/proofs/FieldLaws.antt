@@ -24,7 +24,7 @@ xor-odd : (x y : ℕ) → xor x y % 2 ≡ xor (x % 2) (y % 2)
 unfolding xor
 xor-odd x y = Bits.xor-mod x y 1
 
-pub xor-top : (k r : ℕ) → r < 2 ^ k → xor (2 ^ k) r ≡ 2 ^ k + r
+xor-top : (k r : ℕ) → r < 2 ^ k → xor (2 ^ k) r ≡ 2 ^ k + r
 unfolding xor
 xor-top k r h = rw one-mul at (Bits.xor-shifted 1 k r h)
 
@@ -45,7 +45,7 @@ added-xor (suc (suc u)) v a h k = absurd (omega arith)
 swap4 : (a b c d : ℕ) → xor (xor a b) (xor c d) ≡ xor (xor a c) (xor b d)
 swap4 a b c d = rw (xor-assoc a b, xor-turn b c d, ← xor-assoc a c)
 
-pub linear-in : (n p a x y : ℕ) → productIn n p a (xor x y) ≡ xor (productIn n p a x) (productIn n p a y)
+linear-in : (n p a x y : ℕ) → productIn n p a (xor x y) ≡ xor (productIn n p a x) (productIn n p a y)
 linear-in zero p a x y = sym (xor-zero 0)
 linear-in (suc n) p a x y =
     rw (xor-odd x y, xor-half x y, added-xor (x % 2) (y % 2) a (mod-lt x (omega arith)) (mod-lt y (omega arith)), linear-in n p (doubled p a) (x / 2) (y / 2)) (swap4 _ _ _ _)

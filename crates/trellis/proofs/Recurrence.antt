@@ -1,7 +1,8 @@
 -- The product's recurrence as the code runs it: an element has p bits, so one halving more or less than p changes nothing.
-use mathlib.Core.Path.{_≡_, refl, sym, ap}
+use mathlib.Core.Path.{_≡_, refl, sym, ap, _∙_}
 use mathlib.Core.Bool.{Bool, cond, _&&_}
-use Prim.Native.Nat.{ℕ, zero, suc, _/_, _%_, _^_, _≤_, _<_}
+use Prim.Native.Nat.{ℕ, zero, suc, _+_, _/_, _%_, _^_, _≤_, _<_}
+use native.Mathlib.Nat.{zero-add, suc-add}
 use native.Mathlib.Omega.{arith}
 use lib.Dec.{T, eqb, ltb, ltb→lt}
 use lib.Pow.{pow-mono}
@@ -20,6 +21,11 @@ product-zero (suc n) p a = rw (product-zero n p (doubled p a)) (xor-zero 0)
 halving-more : (n p a b : ℕ) → b < 2 ^ n → productIn (suc n) p a b ≡ productIn n p a b
 halving-more zero p a b h = let e : b ≡ 0 = omega arith in rw e (xor-zero 0)
 halving-more (suc n) p a b h = ap (xor (cond (eqb (b % 2) 1) a 0)) (halving-more n p (doubled p a) (b / 2) (omega arith))
+
+-- more than p halvings
+pub product-in : (k p a b : ℕ) → b < 2 ^ p → productIn (k + p) p a b ≡ product p a b
+product-in zero p a b h = rw (zero-add p)
+product-in (suc k) p a b h = rw (suc-add k p) (halving-more (k + p) p a b (omega (arith, pow-mono {i = p} {j = k + p} (omega arith))) ∙ product-in k p a b h)
 
 pub product-step : (p a b : ℕ) → b < 2 ^ p → product p a b ≡ xor (cond (eqb (b % 2) 1) a 0) (product p (doubled p a) (b / 2))
 product-step p a b h = sym (halving-more p p a b h)

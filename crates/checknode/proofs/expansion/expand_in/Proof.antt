@@ -4,8 +4,8 @@ use borrow.Author.Needs.{needs}
 use Rattle.checknode.proofs.expansion.expand_in.Statement.{statement}
 use Rattle.checknode.proofs.expansion.expand_in.Tie as tie
 
-pays-requires : tie.Need-pays-requires
-pays-requires c κs = search needs
+taken-requires : tie.Need-taken-requires
+taken-requires c κs = search needs
 
 products-requires : tie.Need-products-requires
 products-requires c κs = search needs
@@ -19,7 +19,7 @@ slice-aggregate-in-room-2 c = search needs
 in-room-requires : tie.Need-in-room-requires
 in-room-requires c κs =
     let s = c .before .before .before .before .before .before .before .before .before in
-    (s .pre .0, (λ l. (c .before .before .before .before .before .pays .ensures (c .before .before .before .before .if1 .taken), c .before .before .before .products .ensures), (omega arith, s .pre .1 .1)))
+    (s .pre .0, (λ l. (c .before .before .before .before .before .taken .ensures (c .before .before .before .before .if1 .taken), c .before .before .before .products .ensures), (omega arith, s .pre .1 .1)))
 
 same-length : tie.Need-same-length
 same-length c = search needs
@@ -45,7 +45,7 @@ pub expand-in-spec : {M : Type 1} → statement M
 expand-in-spec =
     tie.close
     (tie.spec
-    pays-requires
+    taken-requires
     products-requires
     slice-aggregate-in-room
     slice-aggregate-in-room-2

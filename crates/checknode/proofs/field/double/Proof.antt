@@ -5,23 +5,23 @@ use Rattle.checknode.proofs.Arithmetic.{doubled-set, doubled-clear}
 use Rattle.checknode.proofs.field.double.Statement.{statement}
 use Rattle.checknode.proofs.field.double.Tie as tie
 
-shr-if1 : tie.Need-shr-if1
-shr-if1 c = search needs
-
 reducer-requires : tie.Need-reducer-requires
 reducer-requires c κs = search needs
+
+shr-if1 : tie.Need-shr-if1
+shr-if1 c = search needs
 
 returns : tie.Need-returns
 returns c =
     let s = c .before .before in
-    let e = doubled-set (s .args .p) (s .args .a) (s .pre .1 .0) (s .pre .1 .1) (c .before .if1 .taken) (c .reducer .ensures) in
+    let e = doubled-set (s .args .p) (s .args .a) (s .pre .1 .0) (s .pre .1 .1) (c .if1 .taken) (c .before .reducer .ensures) in
     (e, rw e (doubled-small (s .args .p) (s .args .a) (s .pre .0) (s .pre .1 .0) (s .pre .1 .1)))
 
 returns-2 : tie.Need-returns-2
 returns-2 c =
-    let s = c .before in
+    let s = c .before .before in
     let e = doubled-clear (s .args .p) (s .args .a) (s .pre .1 .0) (s .pre .1 .1) (c .if1 .left) in
     (e, rw e (doubled-small (s .args .p) (s .args .a) (s .pre .0) (s .pre .1 .0) (s .pre .1 .1)))
 
 pub double-spec : {M : Type 1} → statement M
-double-spec = tie.close (tie.spec shr-if1 reducer-requires returns returns-2)
+double-spec = tie.close (tie.spec reducer-requires shr-if1 returns returns-2)

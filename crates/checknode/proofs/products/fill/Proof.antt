@@ -1,4 +1,4 @@
--- From the table or by doubling: both leave the products.
+-- From the table or from the bits: both leave the products.
 use mathlib.Core.Path.{_≡_, ap}
 use Prim.Native.Nat.{_^_}
 use native.Mathlib.Omega.{arith}
@@ -22,8 +22,8 @@ returns c =
     let start = at-row-from .before .before .before .before .before in
     rw (start .pre .1 .0 (at-row-from .before .before .if1 .taken) .0) (at-row-from .row-from .ensures)
 
-by-doubling-requires : tie.Need-by-doubling-requires
-by-doubling-requires c κs = search needs
+by-bits-requires : tie.Need-by-bits-requires
+by-bits-requires c κs = search needs
 
 same-length-2 : tie.Need-same-length-2
 same-length-2 c = search needs
@@ -32,4 +32,4 @@ returns-2 : tie.Need-returns-2
 returns-2 c = search needs
 
 pub fill-spec : {M : Type 1} → statement M
-fill-spec = tie.close (tie.spec row-from-requires same-length returns by-doubling-requires same-length-2 returns-2)
+fill-spec = tie.close (tie.spec row-from-requires same-length returns by-bits-requires same-length-2 returns-2)

@@ -4,8 +4,8 @@ use borrow.Author.Needs.{needs}
 use Rattle.checknode.proofs.record.record_in.Statement.{statement}
 use Rattle.checknode.proofs.record.record_in.Tie as tie
 
-pays-requires : tie.Need-pays-requires
-pays-requires c κs = search needs
+taken-requires : tie.Need-taken-requires
+taken-requires c κs = search needs
 
 products-requires : tie.Need-products-requires
 products-requires c κs = search needs
@@ -16,7 +16,7 @@ slice-aggregate-with-room c = search needs
 with-room-requires : tie.Need-with-room-requires
 with-room-requires c κs =
     let s = c .before .before .before .before .before .before .before .before in
-    (s .pre .0, (λ l. (c .before .before .before .before .pays .ensures (c .before .before .before .if1 .taken), c .before .before .products .ensures), s .pre .1))
+    (s .pre .0, (λ l. (c .before .before .before .before .taken .ensures (c .before .before .before .if1 .taken), c .before .before .products .ensures), s .pre .1))
 
 same-length : tie.Need-same-length
 same-length c = search needs
@@ -39,7 +39,7 @@ pub record-in-spec : {M : Type 1} → statement M
 record-in-spec =
     tie.close
     (tie.spec
-    pays-requires
+    taken-requires
     products-requires
     slice-aggregate-with-room
     with-room-requires

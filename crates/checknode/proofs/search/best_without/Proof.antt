@@ -11,17 +11,17 @@ use Rattle.checknode.proofs.search.best_without.Tie as tie
 mul-s : tie.Need-mul-s
 mul-s c =
     let start = c .before in
-    omega (arith, room (start .args .q) (start .args .d) (start .args .t .now) (start .pre .0) (start .args .m) (start .pre .1 .1))
+    omega (arith, room (start .args .q) (start .args .d) (start .args .t .now) (start .pre .0) (start .args .m) (start .pre .1 .1 .1))
 
 add-e : tie.Need-add-e
 add-e c =
     let start = c .before in
-    omega (arith, room (start .args .q) (start .args .d) (start .args .t .now) (start .pre .0) (start .args .m) (start .pre .1 .1))
+    omega (arith, room (start .args .q) (start .args .d) (start .args .t .now) (start .pre .0) (start .args .m) (start .pre .1 .1 .1))
 
 mul-best-of : tie.Need-mul-best-of
 mul-best-of c =
     let start = c .before in
-    omega (arith, room (start .args .q) (start .args .d) (start .args .t .now) (start .pre .0) (start .args .m) (start .pre .1 .1))
+    omega (arith, room (start .args .q) (start .args .d) (start .args .t .now) (start .pre .0) (start .args .m) (start .pre .1 .1 .1))
 
 sub-best-of : tie.Need-sub-best-of
 sub-best-of c = search needs
@@ -32,18 +32,18 @@ part-best-of-start c = search needs
 part-best-of-end : tie.Need-part-best-of-end
 part-best-of-end c =
     let start = c .before in
-    omega (arith, room (start .args .q) (start .args .d) (start .args .t .now) (start .pre .0) (start .args .m) (start .pre .1 .1))
+    omega (arith, room (start .args .q) (start .args .d) (start .args .t .now) (start .pre .0) (start .args .m) (start .pre .1 .1 .1))
 
 best-of-requires : tie.Need-best-of-requires
 best-of-requires c κs =
     let start = c .before .before in
-    let l = minima-long (start .args .q) (start .args .d) (start .args .t .now) (start .pre .0) (start .args .m) (start .pre .1 .1) in
-    rw (add-sub-cancel-left (start .args .m * start .args .q) (start .args .q)) (rowed (start .args .q) (start .args .d) (start .args .t .now) (start .pre .0) (start .args .m) (start .pre .1 .1), omega (arith, l, start .pre .1 .0))
+    let l = minima-long (start .args .q) (start .args .d) (start .args .t .now) (start .pre .0) (start .args .m) (start .pre .1 .1 .1) in
+    rw (add-sub-cancel-left (start .args .m * start .args .q) (start .args .q)) (rowed (start .args .q) (start .args .d) (start .args .t .now) (start .pre .0) (start .args .m) (start .pre .1 .1 .1), (start .pre .1 .0, omega (arith, l, start .pre .1 .1 .0)))
 
 returns : tie.Need-returns
 returns c =
     let start = c .before .before .before in
-    (without-law (start .args .q) (start .args .d) (start .args .t .now) (start .pre .0) (start .args .m) (start .args .a) (start .pre .1 .1) (c .best-of .ensures .0), c .best-of .ensures .1)
+    (without-law (start .args .q) (start .args .d) (start .args .t .now) (start .pre .0) (start .args .m) (start .args .a) (start .pre .1 .1 .1) (c .best-of .ensures .0), c .best-of .ensures .1)
 
 pub best-without-spec : {M : Type 1} → statement M
 best-without-spec =

@@ -8,17 +8,17 @@ use borrow.Author.Needs.{needs}
 use lib.ListN.{length, drop, length-take, length-drop}
 use Rattle.trellis.specs.Lists.{blocks}
 use Rattle.engine.specs.Keys.{groupOf}
-use Rattle.checknode.specs.Asks.{minimaAt}
+use Rattle.checknode.specs.Asks.{minimaAt, Highest}
 use Rattle.trellis.proofs.Loops.{block-more, block-end}
 use Rattle.checknode.proofs.Searching.{group-length}
 use Rattle.checknode.proofs.search.put_groups.Statement.{statement}
 use Rattle.checknode.proofs.search.put_groups.Tie as tie
 
 abbrev Inv-loop : tie.InvT-loop
-Inv-loop t q d out₀ s f i₀ out i = (i + 1 ≤ q) × ((length out ≡ length out₀) × (out ≡ blocks (λ j. groupOf _+_ (minimaAt t q) q d (j + 1)) i ++ drop (i * 5) out₀))
+Inv-loop t q d out₀ s f i₀ top₀ out i top = ((i + 1 ≤ q) × (Highest (i + 1) top)) × ((length out ≡ length out₀) × (out ≡ blocks (λ j. groupOf _+_ (minimaAt t q) q d (j + 1)) i ++ drop (i * 5) out₀))
 
 abbrev μ-loop : tie.MeasureT-loop
-μ-loop t q d out₀ s f i₀ out i = q - i
+μ-loop t q d out₀ s f i₀ top₀ out i top = q - i
 
 mul-s : tie.Need-mul-s Inv-loop μ-loop
 mul-s c = search needs
@@ -27,7 +27,8 @@ add-f : tie.Need-add-f Inv-loop μ-loop
 add-f c = search needs
 
 loop-holds : tie.Need-loop-holds Inv-loop μ-loop
-loop-holds c = search needs
+loop-holds c =
+    ((omega arith, record { k = 0; power = refl; low = omega arith; high = omega arith }), (refl, refl))
 
 add-loop : tie.Need-add-loop Inv-loop μ-loop
 add-loop c = search needs
@@ -67,7 +68,15 @@ put-group-requires c κs =
     let start = c .before .before .before .before .before .before in
     let q = start .args .q in
     let d = start .args .d in
-    (start .pre .0, (rw (add-sub-cancel-left (d * q) q) refl, (omega arith, simp (length-take, length-drop) (omega arith))))
+    (start .pre .0, (c .before .before .before .loop .inv .0 .1, (rw (add-sub-cancel-left (d * q) q) refl, (omega arith, simp (length-take, length-drop) (omega arith)))))
+
+add-highest : tie.Need-add-highest Inv-loop μ-loop
+add-highest c = search needs
+
+highest-requires : tie.Need-highest-requires Inv-loop μ-loop
+highest-requires c κs =
+    let l = c .before .before .before .before .before .before in
+    (l .loop .inv .0 .1, omega (arith, l .loop .inv .0 .0, l .before .before .before .pre .0 .limit))
 
 add-i : tie.Need-add-i Inv-loop μ-loop
 add-i c = search needs
@@ -77,10 +86,10 @@ loop-less c = search needs
 
 loop-again : tie.Need-loop-again Inv-loop μ-loop
 loop-again c =
-    let at-loop = c .before .before .before .before .before .before in
+    let at-loop = c .before .before .before .before .before .before .before in
     let start = at-loop .before .before .before in
     let T = minimaAt (start .args .t .now) (start .args .q) in
-    (omega arith, (omega arith, block-more (λ j. groupOf _+_ T (start .args .q) (start .args .d) (j + 1)) 5 (λ j. group-length T _ _ _ _ _) (start .args .out .now) (at-loop .loop .out) (at-loop .loop .i) (at-loop .loop .inv .1 .1) (c .before .before .put-group .ensures)))
+    ((omega arith, c .highest .ensures), (omega arith, block-more (λ j. groupOf _+_ T (start .args .q) (start .args .d) (j + 1)) 5 (λ j. group-length T _ _ _ _ _) (start .args .out .now) (at-loop .loop .out) (at-loop .loop .i) (at-loop .loop .inv .1 .1) (c .before .before .before .put-group .ensures)))
 
 same-length : tie.Need-same-length Inv-loop μ-loop
 same-length c = search needs
@@ -114,6 +123,8 @@ put-groups-spec =
     part-put-group-start-2
     part-put-group-end-2
     put-group-requires
+    add-highest
+    highest-requires
     add-i
     loop-less
     loop-again

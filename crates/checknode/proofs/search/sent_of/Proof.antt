@@ -1,4 +1,5 @@
 -- The cost of the cheapest choice without column m.
+use native.Mathlib.Omega.{arith}
 use borrow.Author.Needs.{needs}
 use Rattle.checknode.proofs.search.sent_of.Statement.{statement}
 use Rattle.checknode.proofs.search.sent_of.Tie as tie
@@ -7,7 +8,9 @@ index-requires : tie.Need-index-requires
 index-requires c κs = search needs
 
 best-without-requires : tie.Need-best-without-requires
-best-without-requires c κs = search needs
+best-without-requires c κs =
+    let s = c .before .before in
+    (s .pre .0, (s .pre .1 .0, (s .pre .1 .1 .0, omega (arith, s .pre .1 .1 .1, c .index .ensures))))
 
 byte-requires : tie.Need-byte-requires
 byte-requires c κs = search needs

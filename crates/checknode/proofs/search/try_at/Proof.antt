@@ -1,16 +1,9 @@
--- Of the two orders of a pair of rows one is skipped, as the definition skips it.
+-- The definition tries row b where it comes first.
 use native.Mathlib.Omega.{arith}
-use borrow.Author.Tests.{lt-ltb}
 use borrow.Author.Needs.{needs}
-use Rattle.trellis.specs.Field.{xor}
-use Rattle.engine.specs.Keys.{tryAt}
 use Rattle.checknode.proofs.Searching.{row-below, try-both}
 use Rattle.checknode.proofs.search.try_at.Statement.{statement}
 use Rattle.checknode.proofs.search.try_at.Tie as tie
-
-returns : tie.Need-returns
-unfolding tryAt xor
-returns c = (simp (lt-ltb _ _ (c .if1 .taken)), omega arith)
 
 mul-pair-of : tie.Need-mul-pair-of
 mul-pair-of c = search needs
@@ -20,13 +13,13 @@ shared-slice-read-pair-of c = search needs
 
 mul-pair-of-2 : tie.Need-mul-pair-of-2
 mul-pair-of-2 c =
-    let start = c .before .before .before in
-    omega (arith, row-below (start .args .w .now) (start .pre .0) (start .args .a) (start .args .b) (start .pre .1 .0) (start .pre .1 .1), start .pre .0 .limit)
+    let start = c .before .before in
+    omega (arith, row-below (start .args .w .now) (start .pre .0) (start .args .a) (start .args .b) (start .pre .1 .0) (start .pre .1 .1 .0), start .pre .0 .limit)
 
 shared-slice-read-pair-of-2 : tie.Need-shared-slice-read-pair-of-2
 shared-slice-read-pair-of-2 c =
-    let start = c .before .before .before .before in
-    row-below (start .args .w .now) (start .pre .0) (start .args .a) (start .args .b) (start .pre .1 .0) (start .pre .1 .1)
+    let start = c .before .before .before in
+    row-below (start .args .w .now) (start .pre .0) (start .args .a) (start .args .b) (start .pre .1 .0) (start .pre .1 .1 .0)
 
 pair-of-requires : tie.Need-pair-of-requires
 pair-of-requires c κs = search needs
@@ -43,17 +36,15 @@ add-least c = search needs
 least-requires : tie.Need-least-requires
 least-requires c κs = search needs
 
-returns-2 : tie.Need-returns-2
-returns-2 c =
-    let at-if1 = c .before .before .before .before in
-    let start = at-if1 .before .before in
-    (try-both (start .args .w .now) (start .args .a) (start .args .b) (start .args .e) (at-if1 .if1 .left) (c .before .pair-of .ensures .0) (c .least .ensures), omega arith)
+returns : tie.Need-returns
+returns c =
+    let start = c .before .before .before .before .before in
+    (try-both (start .args .w .now) (start .args .a) (start .args .b) (start .args .e) (start .pre .1 .1 .1) (c .before .pair-of .ensures .0) (c .least .ensures), omega arith)
 
 pub try-at-spec : {M : Type 1} → statement M
 try-at-spec =
     tie.close
     (tie.spec
-    returns
     mul-pair-of
     shared-slice-read-pair-of
     mul-pair-of-2
@@ -63,4 +54,4 @@ try-at-spec =
     cast-least
     add-least
     least-requires
-    returns-2)
+    returns)

@@ -3,8 +3,8 @@ use mathlib.Core.Path.{_≡_}
 use Prim.Native.Nat.{ℕ}
 use native.Mathlib.Omega.{arith}
 use borrow.Author.Needs.{needs}
-use Rattle.checknode.proofs.table.pays.Statement.{statement}
-use Rattle.checknode.proofs.table.pays.Tie as tie
+use Rattle.checknode.proofs.table.taken.Statement.{statement}
+use Rattle.checknode.proofs.table.taken.Tie as tie
 
 returns : tie.Need-returns
 returns c = λ e. absurd (let z : _≡_ {A = ℕ} 0 1 = cc in omega arith)
@@ -12,5 +12,5 @@ returns c = λ e. absurd (let z : _≡_ {A = ℕ} 0 1 = cc in omega arith)
 returns-2 : tie.Need-returns-2
 returns-2 c = search needs
 
-pub pays-spec : {M : Type 1} → statement M
-pays-spec = tie.close (tie.spec returns returns-2)
+pub taken-spec : {M : Type 1} → statement M
+taken-spec = tie.close (tie.spec returns returns-2)
