@@ -77,8 +77,8 @@ impl Row<'_> {
     }
 }
 
-/// Measures one code.
-pub fn measure(job: &Job, repetitions: usize) -> Row<'_> {
+/// Measures one code, with all its frames in each round.
+pub fn measure(job: &Job, rounds: usize) -> Row<'_> {
     let code = &job.code;
     let line = code.line(SCALE, LIMIT);
     let lent = Decoded::lent(code, code.store_length());
@@ -108,7 +108,12 @@ pub fn measure(job: &Job, repetitions: usize) -> Row<'_> {
             out.costs.copy_from_slice(layered.costs());
         }),
     ];
-    let times = race(&mut contenders, repetitions, &RULES);
+    let mut times = vec![Times::default(); contenders.len()];
+    for round in 0..rounds {
+        let further = race(&mut contenders, round, &RULES);
+        let pairs = times.iter_mut().zip(further);
+        pairs.for_each(|(times, further)| times.append(further));
+    }
     let decoded = contenders[0].outputs();
     let iterations: usize = decoded.iter().map(RULES.units).sum();
     let mean_iterations = iterations as f64 / decoded.len() as f64;

@@ -21,9 +21,10 @@ pub enum Costs {
     Uniform,
 }
 
-/// Checks of one size.
-pub fn checks(p: u8, degree: usize, costs: Costs, count: usize) -> Vec<CheckSample> {
-    let mut generator = Generator::new(u64::from(p) * 64 + degree as u64);
+/// The checks of one size in one round.
+pub fn checks(p: u8, degree: usize, costs: Costs, round: usize, count: usize) -> Vec<CheckSample> {
+    let size = u64::from(p) * 64 + degree as u64;
+    let mut generator = Generator::new(round as u64 * 512 + size);
     let channel = Channel::new(2.5, 0.5);
     let mut check = |_| {
         let mut check = sample::check(&mut generator, p..=p, degree..=degree, Style::Uniform);

@@ -1,12 +1,12 @@
 //! `bench [--quick] [--out DIR]`: measures, prints the tables and writes them with two charts to
-//! `docs/bench`. With `--quick` there are few repetitions, and nothing is written unless a directory
-//! is given.
+//! `docs/bench`. With `--quick` there are few rounds, and nothing is written unless a directory is
+//! given.
 
 use std::path::{Path, PathBuf};
 use std::process::ExitCode;
 use std::{env, fs, io};
 
-use bench::checks::{self, DEGREES, PS};
+use bench::checks;
 use bench::inputs::{self, Costs};
 use bench::report::Report;
 use bench::targets::targets;
@@ -17,7 +17,7 @@ const DOCUMENTS: &str = concat!(env!("CARGO_MANIFEST_DIR"), "/../../docs/bench")
 
 /// What the arguments ask for.
 struct Options {
-    repetitions: usize,
+    rounds: usize,
     out: Option<PathBuf>,
 }
 
@@ -26,7 +26,7 @@ fn main() -> ExitCode {
         eprintln!("usage: bench [--quick] [--out DIR]");
         return ExitCode::from(2);
     };
-    match run(options.repetitions, options.out.as_deref()) {
+    match run(options.rounds, options.out.as_deref()) {
         Ok(()) => ExitCode::SUCCESS,
         Err(error) => {
             eprintln!("bench: {error}");
@@ -38,12 +38,12 @@ fn main() -> ExitCode {
 /// The options, or none where an argument is not understood.
 fn options(mut arguments: impl Iterator<Item = String>) -> Option<Options> {
     let mut options = Options {
-        repetitions: 25,
+        rounds: 20,
         out: Some(PathBuf::from(DOCUMENTS)),
     };
     while let Some(argument) = arguments.next() {
         match argument.as_str() {
-            "--quick" => (options.repetitions, options.out) = (3, None),
+            "--quick" => (options.rounds, options.out) = (2, None),
             "--out" => options.out = Some(PathBuf::from(arguments.next()?)),
             _ => return None,
         }
@@ -52,24 +52,17 @@ fn options(mut arguments: impl Iterator<Item = String>) -> Option<Options> {
 }
 
 /// Measures, prints and writes.
-fn run(repetitions: usize, out: Option<&Path>) -> io::Result<()> {
-    let table = |costs| {
-        let sizes = PS.iter().flat_map(|&p| DEGREES.map(|degree| (p, degree)));
-        let rows = sizes.map(|(p, degree)| {
-            eprintln!("check, {costs:?} costs, p = {p}, d = {degree}");
-            checks::measure(p, degree, costs, repetitions)
-        });
-        rows.collect::<Vec<_>>()
-    };
-    let (channel, uniform) = (table(Costs::Channel), table(Costs::Uniform));
+fn run(rounds: usize, out: Option<&Path>) -> io::Result<()> {
+    let kinds = [Costs::Channel, Costs::Uniform];
+    let [channel, uniform] = kinds.map(|costs| checks::table(costs, rounds));
     eprintln!("check, growth from d = 16 to d = 32 at p = 6");
-    let growth = [Costs::Channel, Costs::Uniform].map(|costs| checks::growth(costs, repetitions));
+    let growth = kinds.map(|costs| checks::growth(costs, rounds));
     let jobs = inputs::jobs();
     let codes: Vec<_> = jobs
         .iter()
         .map(|job| {
             eprintln!("decoding, {}", job.name);
-            decoding::measure(job, repetitions)
+            decoding::measure(job, rounds)
         })
         .collect();
     let all: Vec<_> = channel.iter().chain(&uniform).collect();
@@ -78,7 +71,7 @@ fn run(repetitions: usize, out: Option<&Path>) -> io::Result<()> {
         uniform: &uniform,
         codes: &codes,
         targets: &targets(&all, &growth, &codes),
-        repetitions,
+        rounds,
     };
     let text = report.markdown();
     print!("{text}");

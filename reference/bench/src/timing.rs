@@ -1,7 +1,9 @@
 //! Interleaved timing. The inputs are taken in short stretches; in each of them all contenders run in
-//! turn, again and again, so that whatever else the machine does meets all of them alike. A time is
-//! the median over all stretches and repetitions, and a ratio the median of the ratios within each
-//! stretch.
+//! turn, so that whatever else the machine does meets all of them alike. A time is the median over all
+//! stretches, and a ratio the median of the ratios within each stretch.
+//!
+//! No contender gets an input twice in a race: a processor that has seen some inputs often enough
+//! foretells every jump on them, and how well it does changes from run to run.
 
 use std::hint::black_box;
 use std::ops::Range;
@@ -39,14 +41,12 @@ impl<'a, I, O: Clone> Contender<'a, I, O> {
         &self.outputs
     }
 
-    /// The seconds that so many passes over some of the inputs take.
-    fn timed(&mut self, part: Range<usize>, passes: usize) -> f64 {
+    /// The seconds that some of the inputs take.
+    fn timed(&mut self, part: Range<usize>) -> f64 {
         let start = Instant::now();
-        for _ in 0..passes {
-            let inputs = self.inputs[part.clone()].iter();
-            for (input, output) in inputs.zip(&mut self.outputs[part.clone()]) {
-                (self.call)(black_box(input), black_box(output));
-            }
+        let inputs = self.inputs[part.clone()].iter();
+        for (input, output) in inputs.zip(&mut self.outputs[part]) {
+            (self.call)(black_box(input), black_box(output));
         }
         start.elapsed().as_secs_f64()
     }
@@ -62,11 +62,16 @@ pub struct Rules<O> {
     pub units: fn(&O) -> usize,
 }
 
-/// The seconds for each unit, in every stretch of every repetition.
-#[derive(Clone, Debug, PartialEq)]
+/// The seconds for each unit, in every stretch.
+#[derive(Clone, Debug, Default, PartialEq)]
 pub struct Times(Vec<f64>);
 
 impl Times {
+    /// The times of a further race.
+    pub fn append(&mut self, mut times: Times) {
+        self.0.append(&mut times.0);
+    }
+
     /// The median.
     pub fn median(&self) -> f64 {
         median(self.0.clone())
@@ -79,8 +84,37 @@ impl Times {
     }
 }
 
-/// Runs the contenders in turn, and compares their results after each repetition. All have the same
-/// inputs.
+/// The proved library's times beside those of another program, from races of these two alone: how far a
+/// third one between them slows them down is another question, and the answer differs between the two.
+#[derive(Clone, Debug, Default)]
+pub struct Pair {
+    /// The proved library.
+    pub proved: Times,
+    /// The other program.
+    pub other: Times,
+}
+
+impl Pair {
+    /// The times of a further race, the proved library's first.
+    pub fn append(&mut self, times: Vec<Times>) {
+        let [proved, other] = times.try_into().expect("two contenders");
+        self.proved.append(proved);
+        self.other.append(other);
+    }
+
+    /// The proved library's time by the other's.
+    pub fn ratio(&self) -> f64 {
+        self.proved.ratio(&self.other)
+    }
+
+    /// How many times as fast the proved library is.
+    pub fn gain(&self) -> f64 {
+        self.other.ratio(&self.proved)
+    }
+}
+
+/// Runs the contenders in turn and compares their results. All have the same inputs; who starts changes
+/// from stretch to stretch, and from round to round.
 ///
 /// # Panics
 ///
@@ -88,46 +122,44 @@ impl Times {
 /// worth nothing.
 pub fn race<I, O: Clone>(
     contenders: &mut [Contender<I, O>],
-    repetitions: usize,
+    round: usize,
     rules: &Rules<O>,
 ) -> Vec<Times> {
     let count = contenders[0].inputs.len();
+    // The first input is taken beforehand: the caches then hold the code, and a call's time is known.
     for contender in contenders.iter_mut() {
-        contender.timed(0..count, 1);
+        contender.timed(0..1);
+    }
+    let part = stretch(contenders[0].timed(0..1), count);
+    let parts: Vec<Range<usize>> = (0..count)
+        .step_by(part)
+        .map(|start| start..(start + part).min(count))
+        .collect();
+    let mut seconds = vec![vec![0.0; parts.len()]; contenders.len()];
+    for (place, part) in parts.iter().enumerate() {
+        for turn in 0..contenders.len() {
+            let index = (turn + place + round) % contenders.len();
+            let contender = &mut contenders[index];
+            let outputs = &mut contender.outputs[part.clone()];
+            outputs.iter_mut().for_each(rules.spoil);
+            seconds[index][place] = contender.timed(part.clone());
+        }
     }
     compare(contenders, rules);
-    let units: Vec<usize> = contenders[0].outputs.iter().map(rules.units).collect();
-    let (part, passes) = stretch(contenders[0].timed(0..count, 1), count);
-    let starts: Vec<usize> = (0..count).step_by(part).collect();
-    let mut times = vec![Vec::new(); contenders.len()];
-    for repetition in 0..repetitions {
-        for &start in &starts {
-            let part = start..(start + part).min(count);
-            let units: usize = units[part.clone()].iter().sum();
-            for turn in 0..contenders.len() {
-                // Who starts changes from one repetition to the next.
-                let index = (turn + repetition) % contenders.len();
-                let contender = &mut contenders[index];
-                let outputs = &mut contender.outputs[part.clone()];
-                outputs.iter_mut().for_each(rules.spoil);
-                let seconds = contender.timed(part.clone(), passes);
-                times[index].push(seconds / (passes * units) as f64);
-            }
-        }
-        compare(contenders, rules);
-    }
-    times.into_iter().map(Times).collect()
+    let outputs = &contenders[0].outputs;
+    let units = |part: &Range<usize>| outputs[part.clone()].iter().map(rules.units).sum::<usize>();
+    let units: Vec<usize> = parts.iter().map(units).collect();
+    let each = |seconds: Vec<f64>| {
+        let each = seconds.iter().zip(&units);
+        Times(each.map(|(time, &units)| time / units as f64).collect())
+    };
+    seconds.into_iter().map(each).collect()
 }
 
-/// How many inputs a stretch takes, and how often it takes them, when one pass over all `count`
-/// inputs lasts so many seconds.
-fn stretch(seconds: f64, count: usize) -> (usize, usize) {
-    if seconds < STRETCH {
-        (count, (STRETCH / seconds).ceil() as usize)
-    } else {
-        let part = (STRETCH / seconds * count as f64).ceil() as usize;
-        (part.clamp(1, count), 1)
-    }
+/// How many of `count` inputs a stretch takes, when a call lasts so many seconds.
+fn stretch(seconds: f64, count: usize) -> usize {
+    let part = (STRETCH / seconds).ceil() as usize;
+    part.clamp(1, count)
 }
 
 /// Holds every contender's results against those of the first.
@@ -170,9 +202,26 @@ mod tests {
 
     #[test]
     fn stretches_last_long_enough() {
-        assert_eq!(stretch(STRETCH / 8.0, 32), (32, 8));
-        assert_eq!(stretch(STRETCH * 8.0, 32), (4, 1));
-        assert_eq!(stretch(STRETCH * 800.0, 32), (1, 1));
+        assert_eq!(stretch(STRETCH / 64.0, 32), 32);
+        assert_eq!(stretch(STRETCH / 8.0, 32), 8);
+        assert_eq!(stretch(STRETCH * 8.0, 32), 1);
+    }
+
+    #[test]
+    fn every_input_is_taken_once_after_the_first() {
+        let inputs: Vec<usize> = (0..1_000).collect();
+        let mut seen = vec![0; inputs.len()];
+        let count = |&input: &usize, output: &mut usize| {
+            seen[input] += 1;
+            *output = input;
+        };
+        let rules = Rules {
+            spoil: |output| *output = usize::MAX,
+            agree: |a, b| a == b,
+            units: |_| 1,
+        };
+        race(&mut [Contender::new(&inputs, 0, count)], 0, &rules);
+        assert!(seen[1..].iter().all(|&times| times == 1));
     }
 
     #[test]
@@ -186,6 +235,6 @@ mod tests {
             agree: |a, b| a == b,
             units: |_| 1,
         };
-        race(&mut [right, wrong], 3, &rules);
+        race(&mut [right, wrong], 0, &rules);
     }
 }

@@ -40,8 +40,9 @@ const fn reducer(p: u8) -> u8 {
 /// "doubled by a shift and reduced by the polynomial"
 const fn double(p: u8, a: u8) -> u8 {
     let shifted = a << 1;
+    let reducer = reducer(p);
     if (shifted >> p) & 1 == 1 {
-        shifted ^ reducer(p)
+        shifted ^ reducer
     } else {
         shifted
     }
@@ -77,19 +78,25 @@ pub fn table_for(p: u8, columns: usize) -> Option<&'static Table> {
     (p == 6 && columns >= 8).then_some(&PRODUCTS)
 }
 
-/// h times x for each symbol x: from the table where it is at hand, else by doubling.
+/// h times x for each symbol x: from the table where it is at hand, else from the bits of x.
 pub fn fill(p: u8, h: u8, table: Option<&Table>, row: &mut [u8]) {
     if let Some(table) = table {
         row.copy_from_slice(&table[usize::from(h)]);
         return;
     }
-    row[0] = 0;
-    let mut term = h;
-    for i in 0..p {
-        let (low, high) = row.split_at_mut(1 << i);
-        for (next, known) in high.iter_mut().zip(low) {
-            *next = *known ^ term;
-        }
-        term = double(p, term);
+    let mut terms = [h; 6];
+    for i in 1..terms.len() {
+        terms[i] = double(p, terms[i - 1]);
     }
+    for (x, product) in (0..).zip(row) {
+        *product = of_bits(&terms, x);
+    }
+}
+
+/// The terms of the bits of x, lowest first, added.
+fn of_bits(terms: &[u8; 6], x: u8) -> u8 {
+    let bits = terms.iter().enumerate();
+    bits.fold(0, |sum, (i, &term)| {
+        sum ^ if (x >> i) % 2 == 1 { term } else { 0 }
+    })
 }

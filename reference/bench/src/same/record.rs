@@ -1,7 +1,7 @@
 //! The record of one check. Crate `checknode`, modules `record` and `tests`.
 
 use super::field::MOST;
-use super::rows::{first_zero, Rows};
+use super::rows::Rows;
 use super::search::{put_groups, GROUP};
 use super::Refusal;
 
@@ -13,7 +13,7 @@ pub fn check(p: u8, weights: &[u8], costs: &[u8], out: &mut [u8]) -> Result<usiz
     if costs.len() != d * q {
         return Err(12);
     }
-    if costs.chunks_exact(q).any(|column| first_zero(column) == q) {
+    if !costs.chunks_exact(q).all(has_zero) {
         return Err(13);
     }
     let length = record_length(d, q);
@@ -22,6 +22,12 @@ pub fn check(p: u8, weights: &[u8], costs: &[u8], out: &mut [u8]) -> Result<usiz
     }
     put_record(p, q, weights, costs, &mut out[..length]);
     Ok(length)
+}
+
+/// Whether a column has a cost of 0. All costs are tested: a jump at the first zero could not be foretold.
+fn has_zero(column: &[u8]) -> bool {
+    let costs = column.iter();
+    costs.fold(false, |found, &cost| found | (cost == 0))
 }
 
 /// 6, 9 or 11, in this order.

@@ -10,18 +10,22 @@ pub const GROUP: usize = 5;
 /// The bytes of each a from 1 on.
 pub fn put_groups(minima: &Minima, out: &mut [u8]) {
     let (groups, _) = out.as_chunks_mut();
+    let mut top = 1;
     for (a, group) in (1..).zip(groups) {
-        *group = group_of(minima, a);
+        if a == 2 * top {
+            top = a;
+        }
+        *group = group_of(minima, a, top);
     }
 }
 
 /// The bytes of a: only the columns of a cheapest choice can have S above E.
-fn group_of(minima: &Minima, a: usize) -> [u8; GROUP] {
-    let choice = best(minima.all(), a);
+fn group_of(minima: &Minima, a: usize, top: usize) -> [u8; GROUP] {
+    let choice = best(minima.all(), a, top);
     let extra = cost(choice);
     let (i, j) = columns(minima.all(), a, (choice % 64) as usize);
     let (m, n) = (i.min(j), i.max(j));
-    let sent = |column: u8| cost(best(minima.without(usize::from(column)), a));
+    let sent = |column: u8| cost(best(minima.without(usize::from(column)), a, top));
     let s = sent(m);
     let t = if m == n { extra } else { sent(n) };
     match (extra < s, extra < t) {
@@ -32,16 +36,22 @@ fn group_of(minima: &Minima, a: usize) -> [u8; GROUP] {
     }
 }
 
-/// The cheapest choice of one or two columns for a.
-fn best(minima: &[u32], a: usize) -> u32 {
+/// The cheapest choice of one or two columns for a. Of rows b and a + b the lower one has the highest bit
+/// of a clear: only these are taken as b.
+fn best(minima: &[u32], a: usize, top: usize) -> u32 {
     let mut best = minima[a] / 65_536 / 256 * 16_384;
-    for b in 1..minima.len() {
-        let c = a ^ b;
-        if b <= c {
-            best = best.min(pair(minima[b], minima[c]) * 64 + b as u32);
-        }
+    let mut b = next_clear(top, 0);
+    while b < minima.len() {
+        best = best.min(pair(minima[b], minima[a ^ b]) * 64 + b as u32);
+        b = next_clear(top, b);
     }
     best
+}
+
+/// The row after b that has the bit top clear, where b has it clear.
+fn next_clear(top: usize, b: usize) -> usize {
+    let c = b + 1;
+    c + (c & top)
 }
 
 /// The cheapest pair of two columns, from the minima of two rows. Both sums are formed first, so that the
