@@ -2,14 +2,14 @@
 //! turn, so that whatever else the machine does meets all of them alike. A time is the median over all
 //! stretches, and a ratio the median of the ratios within each stretch.
 //!
-//! No contender gets an input twice in a race: a processor that has seen some inputs often enough
-//! foretells every jump on them, and how well it does changes from run to run.
+//! No contender gets an input twice in a race, but for the first: a processor that has seen some inputs
+//! often enough foretells every jump on them, and how well it does changes from run to run.
 
 use std::hint::black_box;
 use std::ops::Range;
 use std::time::Instant;
 
-/// A stretch lasts at least this many seconds for the first contender.
+/// A stretch lasts about this many seconds for the first contender.
 const STRETCH: f64 = 0.000_1;
 
 /// A call on one input, with the buffers lent to it.
