@@ -4179,7 +4179,7 @@ pub fn products() -> [u8; 4096]
     PRODUCTS
 }
 
-// Whether the table is taken for d columns: to be read it is copied, and with few columns no gain over doubling was seen.
+// Whether the table is taken for d columns: to be read it is copied, once a call.
 pub fn taken(p: u8, d: usize) -> bool
     ensures { λ r. ⌜ (r ≡ true → p ≡ 6) ⌝ }
 {
