@@ -56,7 +56,8 @@ impl Report<'_> {
              and the textbook forward and backward sweeps in Rust, both built with -O. Each of the two \
              runs in turn with the proved library, in one process and in short stretches; a time is the \
              median over all stretches of {} rounds, and a ratio the median of the ratios within each \
-             stretch. Each round has checks of its own, and none is taken twice in a race: a processor \
+             stretch. What a third program between the two does to them is in `docs/DECISIONS.md`, under \
+             Measurements. Each round has checks of its own, and none is taken twice in a race: a processor \
              that sees the same checks again learns to foretell their jumps. No lent buffer is cleared \
              first: before each stretch, and outside its time, all are filled with A5, and after each \
              round the results are compared byte for byte. A difference stops the run. The two degrees \
