@@ -1,15 +1,17 @@
 -- Turns and ends of the loops that fill the rows: merging three keys, placing a column's keys, the first zero, a weight's products.
-use mathlib.Core.Path.{_≡_, refl, ap}
+use mathlib.Core.Path.{_≡_, refl, ap, _∙_}
 use mathlib.Core.Bool.{cond}
 use mathlib.Core.Logic.{_≢_}
 use mathlib.Core.List.{List, [], _∷_, _++_, append-nil}
-use Prim.Native.Nat.{ℕ, zero, suc, _+_, _/_, _%_, _^_, _≤_, _<_, min, max}
+use Prim.Native.Nat.{ℕ, zero, suc, _+_, _-_, _*_, _/_, _%_, _^_, _≤_, _<_, min, max}
+use native.Mathlib.Nat.{add-zero, add-suc, add-sub-cancel-left}
+use native.Mathlib.Numerals.{unary-clauses}
 use native.Mathlib.Omega.{arith}
 use lib.Bits.{bitXor, xor-lt}
 use lib.Dec.{eqb}
-use lib.ListN.{length, drop, getD, set}
-use lib.Seq.{drop-cons, drop-length}
-use Rattle.trellis.specs.Lists.{tab}
+use lib.ListN.{length, drop, getD, set, length-take, length-drop}
+use lib.Seq.{drop-cons, drop-length, getD-take, getD-drop}
+use Rattle.trellis.specs.Lists.{tab, part}
 use Rattle.trellis.specs.Field.{xor, doubled, product}
 use Rattle.trellis.specs.Check.{firstZero}
 use Rattle.engine.specs.Fill.{Rows, rowsOf, merged, firstIn, secondIn, thirdIn, scattered, bitsOf}
@@ -39,8 +41,34 @@ merge-end L X Y Z X₀ Y₀ Z₀ a e lx ly lz ex ey ez = rw (ex, ey, ez, e, ende
     ended : (l : List ℕ) → length l ≡ length L → drop (length L) l ≡ []
     ended l h = rw (← h, drop-length)
 
-pub place-below : (costs row line : List ℕ) (s x : ℕ) → Placed costs row s line → x < length costs → bitXor (getD row x 0) s < length line
+pub place-below : (costs row line : List ℕ) (s x : ℕ) → Placed costs row s line → x < length costs → xor (getD row x 0) s < length line
+unfolding xor
 place-below costs row line s x P h = rw (P .size) (xor-lt (P .p) _ _ (P .below x h) (P .s-below))
+
+-- some symbols of a column by themselves, from x on
+pub placed-part : (costs row line l : List ℕ) (s x m : ℕ) → Placed costs row s line → x + m ≤ length costs → length l ≡ length line → Placed (part costs x m) (part row x m) s l
+placed-part costs row line l s x m P h e =
+    let c : length (part costs x m) ≡ m = simp (length-take, length-drop) (omega arith) in
+    let r : length (part row x m) ≡ m = simp (length-take, length-drop) (omega (arith, P .full)) in
+    record { p = P .p; size = e ∙ P .size; full = omega arith; below = λ i k. let j : i < m = omega arith in rw (getD-take, getD-drop) (P .below (x + i) (omega arith)); s-below = P .s-below }
+
+-- the first k of them placed after those before x
+pub scatter-more : (costs row : List ℕ) (s n x m : ℕ) (l : List ℕ) (k : ℕ) → k ≤ m → scattered (part costs x m) (part row x m) s n k (scattered costs row s n x l) ≡ scattered costs row s n (x + k) l
+unfolding scattered
+scatter-more costs row s n x m l zero h = rw (add-zero x) refl
+scatter-more costs row s n x m l (suc k) h =
+    rw (add-suc x k, getD-take m (drop x costs) k 0 h, getD-take m (drop x row) k 0 h, getD-drop x costs k 0, getD-drop x row k 0)
+    (ap (λ o. set o (xor (getD row (x + k) 0) s) (getD costs (x + k) 0 * 256 + n)) (scatter-more costs row s n x m l k (omega arith)))
+
+pub scatter-turn : (costs row l line : List ℕ) (s n x : ℕ) {o : List ℕ} → line ≡ scattered costs row s n x l → o ≡ scattered (part costs x (x + 4 - x)) (part row x (x + 4 - x)) s n 4 line
+    → o ≡ scattered costs row s n (x + 4) l
+scatter-turn costs row l line s n x e h = rw (h, e, add-sub-cancel-left x 4) (scatter-more costs row s n x 4 l 4 (omega arith))
+
+-- a column has a multiple of four symbols
+pub four-divides : (p : ℕ) → 2 ≤ p → 2 ^ p % 4 ≡ 0
+four-divides zero h = absurd (omega arith)
+four-divides (suc zero) h = absurd (omega arith)
+four-divides (suc (suc p)) h = simp unary-clauses (omega arith)
 
 zero-cons : (x : ℕ) (l : List ℕ) → x ≡ 0 → firstZero (x ∷ l) ≡ 0
 zero-cons zero l h = refl

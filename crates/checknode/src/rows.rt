@@ -2,7 +2,7 @@
 use crate::num;
 use crate::products;
 ghost use mathlib.Core.Path.{_≡_};
-ghost use Prim.Native.Nat.{_+_, _*_, _^_, _≤_, _<_};
+ghost use Prim.Native.Nat.{_+_, _*_, _%_, _^_, _≤_, _<_};
 ghost use lib.ListN.{length, getD};
 ghost use Rattle.trellis.specs.Lists.{tab};
 ghost use Rattle.trellis.specs.Field.{xor, product};
@@ -39,17 +39,53 @@ fn merge(line: &[u16], k0: &mut [u16], k1: &mut [u16], k2: &mut [u16])
     }
 }
 
+// The row of a symbol, from its product.
+fn row_of(product: u8, s: u8) -> usize
+    ensures { λ r. ⌜ (r ≡ xor product s) × (r < 256) ⌝ }
+{
+    num::index(product ^ s)
+}
+
+// The key of a cost in column n.
+fn key_of(cost: u8, n: u16) -> u16
+    requires { ⌜ n < 256 ⌝ }
+    ensures { λ r. ⌜ r ≡ cost * 256 + n ⌝ }
+{
+    num::wide(cost) * 256 + n
+}
+
+// The keys of four symbols, put into their rows. All are read before the first is written: a read behind a write may have to wait until the
+// row of that write is known.
+fn put_four(costs: &[u8], row: &[u8], s: u8, n: u16, line: &mut [u16])
+    requires { ⌜ Placed (now costs) (now row) s (now line) ⌝ }
+    requires { ⌜ (n < 256) × (length (now costs) ≡ 4) ⌝ }
+    ensures { λ _. ⌜ now (line .exit) ≡ scattered (now (costs .entry)) (now (row .entry)) s n 4 (now (line .entry)) ⌝ }
+{
+    let a = row_of(row[0], s);
+    let b = row_of(row[1], s);
+    let c = row_of(row[2], s);
+    let d = row_of(row[3], s);
+    let t = key_of(costs[0], n);
+    let u = key_of(costs[1], n);
+    let v = key_of(costs[2], n);
+    let w = key_of(costs[3], n);
+    line[a] = t;
+    line[b] = u;
+    line[c] = v;
+    line[d] = w;
+}
+
 // One column's keys, put into their rows.
 fn scatter(costs: &[u8], row: &[u8], s: u8, n: u16, line: &mut [u16])
     requires { ⌜ Placed (now costs) (now row) s (now line) ⌝ }
-    requires { ⌜ n < 256 ⌝ }
+    requires { ⌜ (n < 256) × (length (now costs) % 4 ≡ 0) ⌝ }
     ensures { λ _. ⌜ now (line .exit) ≡ scattered (now (costs .entry)) (now (row .entry)) s n (length (now (costs .entry))) (now (line .entry)) ⌝ }
 {
     let mut x = 0;
     while x < costs.len() {
-        let a = (row[x] ^ s) as usize;
-        line[a] = num::wide(costs[x]) * 256 + n;
-        x += 1;
+        let e = x + 4;
+        put_four(&costs[x..e], &row[x..e], s, n, line);
+        x = e;
     }
 }
 

@@ -1,7 +1,7 @@
 -- Products, decision, placing and merging: each callee's equation in turn.
 use native.Mathlib.Omega.{arith}
 use borrow.Author.Needs.{needs}
-use Rattle.checknode.proofs.Filling.{column-placed, column-term, column-done}
+use Rattle.checknode.proofs.Filling.{column-placed, column-term, column-done, four-divides}
 use Rattle.checknode.proofs.rows.column.Statement.{statement}
 use Rattle.checknode.proofs.rows.column.Tie as tie
 
@@ -18,7 +18,7 @@ scatter-requires : tie.Need-scatter-requires
 scatter-requires c κs =
     let at-fill = c .before .before .before .before .before .before in
     let start = at-fill .before .before .before .before .before .before .before .before .before in
-    (column-placed (start .args .p) (start .args .h) (start .args .costs .now) (start .args .line .now) (start .pre .0) (at-fill .fill .ensures) (c .before .before .before .first-zero .ensures .0) (start .pre .1 .1 .1 .1 .1) (start .pre .1 .1 .1 .1 .0) (omega arith), omega arith)
+    (column-placed (start .args .p) (start .args .h) (start .args .costs .now) (start .args .line .now) (start .pre .0) (at-fill .fill .ensures) (c .before .before .before .first-zero .ensures .0) (start .pre .1 .1 .1 .1 .1) (start .pre .1 .1 .1 .1 .0) (omega arith), (omega arith, rw (start .pre .1 .1 .1 .1 .0) (four-divides (start .args .p) (start .pre .0 .low))))
 
 merge-requires : tie.Need-merge-requires
 merge-requires c κs = search needs

@@ -1,69 +1,64 @@
--- After x turns the first x symbols stand in their rows.
+-- After some turns the symbols before x stand in their rows; x is a multiple of four, and so is the number of symbols.
 use mathlib.Core.Path.{_≡_, refl}
-use Prim.Native.Nat.{_≤_, _-_}
-use native.Mathlib.Numerals.{add-one}
+use Prim.Native.Nat.{_%_, _≤_, _-_}
+use native.Mathlib.Nat.{add-sub-cancel-left}
 use native.Mathlib.Omega.{arith}
 use borrow.Author.Needs.{needs}
-use lib.ListN.{length, length-set}
-use Rattle.trellis.specs.Field.{xor}
+use lib.ListN.{length, length-take, length-drop}
 use Rattle.engine.specs.Fill.{scattered}
-use Rattle.checknode.proofs.Filling.{place-below}
+use Rattle.checknode.proofs.Filling.{placed-part, scatter-turn}
 use Rattle.checknode.proofs.rows.scatter.Statement.{statement}
 use Rattle.checknode.proofs.rows.scatter.Tie as tie
 
 abbrev Inv-loop : tie.InvT-loop
-Inv-loop costs row s n line₀ x₀ line x = (x ≤ length costs) × ((length line ≡ length line₀) × (line ≡ scattered costs row s n x line₀))
+Inv-loop costs row s n line₀ x₀ line x = ((x ≤ length costs) × (x % 4 ≡ 0)) × ((length line ≡ length line₀) × (line ≡ scattered costs row s n x line₀))
 
 abbrev μ-loop : tie.MeasureT-loop
 μ-loop costs row s n line₀ x₀ line x = length costs - x
 
 loop-holds : tie.Need-loop-holds Inv-loop μ-loop
 unfolding scattered
-loop-holds c = (omega arith, (refl, refl))
+loop-holds c = ((omega arith, refl), (refl, refl))
 
-shared-slice-read-a : tie.Need-shared-slice-read-a Inv-loop μ-loop
-shared-slice-read-a c = search needs
+add-e : tie.Need-add-e Inv-loop μ-loop
+add-e c = search needs
 
-cast-a : tie.Need-cast-a Inv-loop μ-loop
-cast-a c =
-    let start = c .before .before .before .before .before .before in
-    omega (arith, place-below (start .args .costs .now) (start .args .row .now) (start .args .line .now) (start .args .s) (c .before .before .loop .x) (start .pre .0) (omega arith))
+sub-put-four : tie.Need-sub-put-four Inv-loop μ-loop
+sub-put-four c = search needs
 
-shared-slice-read-wide : tie.Need-shared-slice-read-wide Inv-loop μ-loop
-shared-slice-read-wide c = search needs
+part-put-four-start : tie.Need-part-put-four-start Inv-loop μ-loop
+part-put-four-start c = search needs
 
-wide-requires : tie.Need-wide-requires Inv-loop μ-loop
-wide-requires c κs = search needs
+part-put-four-end : tie.Need-part-put-four-end Inv-loop μ-loop
+part-put-four-end c = search needs
 
-mul-line : tie.Need-mul-line Inv-loop μ-loop
-mul-line c = search needs
+sub-put-four-2 : tie.Need-sub-put-four-2 Inv-loop μ-loop
+sub-put-four-2 c = search needs
 
-add-line : tie.Need-add-line Inv-loop μ-loop
-add-line c = search needs
+part-put-four-start-2 : tie.Need-part-put-four-start-2 Inv-loop μ-loop
+part-put-four-start-2 c = search needs
 
-mul-line-2 : tie.Need-mul-line-2 Inv-loop μ-loop
-mul-line-2 c =
+part-put-four-end-2 : tie.Need-part-put-four-end-2 Inv-loop μ-loop
+part-put-four-end-2 c = search needs
+
+put-four-requires : tie.Need-put-four-requires Inv-loop μ-loop
+put-four-requires c κs =
     let at-loop = c .before .before .before .before in
     let start = at-loop .before .before .before .before in
-    omega (arith, place-below (start .args .costs .now) (start .args .row .now) (start .args .line .now) (start .args .s) (at-loop .loop .x) (start .pre .0) (omega arith))
-
-slice-write-line : tie.Need-slice-write-line Inv-loop μ-loop
-slice-write-line c =
-    let at-loop = c .before .before .before .before in
-    let start = at-loop .before .before .before .before in
-    omega (arith, place-below (start .args .costs .now) (start .args .row .now) (start .args .line .now) (start .args .s) (at-loop .loop .x) (start .pre .0) (omega arith))
-
-add-x : tie.Need-add-x Inv-loop μ-loop
-add-x c = search needs
+    let x = at-loop .loop .x in
+    rw (add-sub-cancel-left x 4)
+    (placed-part (start .args .costs .now) (start .args .row .now) (start .args .line .now) (at-loop .loop .line) (start .args .s) x 4 (start .pre .0) (omega arith) (at-loop .loop .inv .1 .0), (omega arith, simp (length-take, length-drop) (omega arith)))
 
 loop-less : tie.Need-loop-less Inv-loop μ-loop
 loop-less c = search needs
 
 loop-again : tie.Need-loop-again Inv-loop μ-loop
-unfolding scattered xor
 loop-again c =
-    let at-loop = c .before .before .before .before in
-    (omega arith, (simp length-set (omega arith), rw (add-one (at-loop .loop .x)) (cc)))
+    let at-call = c .before .before in
+    let at-loop = at-call .before .before .before .before .before in
+    let start = at-loop .before .before .before .before in
+    let x = at-loop .loop .x in
+    ((omega arith, omega arith), (omega (arith, at-call .put-four .kept, at-loop .loop .inv .1 .0), scatter-turn (start .args .costs .now) (start .args .row .now) (start .args .line .now) (at-loop .loop .line) (start .args .s) (start .args .n) x (at-loop .loop .inv .1 .1) (at-call .put-four .ensures)))
 
 same-length : tie.Need-same-length Inv-loop μ-loop
 same-length c = search needs
@@ -80,15 +75,14 @@ scatter-spec =
     Inv-loop
     μ-loop
     loop-holds
-    shared-slice-read-a
-    cast-a
-    shared-slice-read-wide
-    wide-requires
-    mul-line
-    add-line
-    mul-line-2
-    slice-write-line
-    add-x
+    add-e
+    sub-put-four
+    part-put-four-start
+    part-put-four-end
+    sub-put-four-2
+    part-put-four-start-2
+    part-put-four-end-2
+    put-four-requires
     loop-less
     loop-again
     same-length

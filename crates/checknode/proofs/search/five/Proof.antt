@@ -3,7 +3,6 @@ use native.Mathlib.Omega.{arith}
 use borrow.Author.Needs.{needs}
 use lib.ListN.{length-set}
 use Rattle.checknode.proofs.Searching.{five-sets}
-use Rattle.checknode.proofs.Searching.{five-sets}
 use Rattle.checknode.proofs.search.five.Statement.{statement}
 use Rattle.checknode.proofs.search.five.Tie as tie
 
