@@ -10,17 +10,13 @@ type Number = fn(&Row) -> f64;
 /// Time per check against d, for every p and every implementation.
 pub fn time_per_check(rows: &[Row]) -> Chart {
     let times = rows.iter().flat_map(|row| {
-        let times = [&row.rust.proved, &row.rust.other, &row.sweeps.other];
+        let times = [&row.check, &row.same_check, &row.sweeps];
         times.map(|times| times.median() * 1e6)
     });
     let kinds: [(&str, Stroke, Number); 3] = [
-        ("proved", Stroke::Solid, |row| {
-            row.rust.proved.median() * 1e6
-        }),
-        ("Rust", Stroke::Dotted, |row| row.rust.other.median() * 1e6),
-        ("sweeps", Stroke::Dashed, |row| {
-            row.sweeps.other.median() * 1e6
-        }),
+        ("proved", Stroke::Solid, |row| row.check.median() * 1e6),
+        ("Rust", Stroke::Dotted, |row| row.same_check.median() * 1e6),
+        ("sweeps", Stroke::Dashed, |row| row.sweeps.median() * 1e6),
     ];
     let series = kinds.iter().flat_map(|&(kind, stroke, time)| {
         let of_p =
@@ -38,7 +34,7 @@ pub fn time_per_check(rows: &[Row]) -> Chart {
 
 /// The proved library's time per check by that of the same algorithm in Rust.
 pub fn ratio_to_rust(rows: &[Row]) -> Chart {
-    let ratio: Number = |row| row.rust.ratio();
+    let ratio: Number = |row| row.check.ratio(&row.same_check);
     let high = rows.iter().map(ratio).fold(1.5, f64::max);
     let step = if high <= 2.0 {
         0.25

@@ -5,7 +5,7 @@ use reference_decoder::sample::CheckSample;
 use crate::inputs::{self, Costs};
 use crate::same;
 use crate::sweeps;
-use crate::timing::{race, Contender, Pair, Rules, Times};
+use crate::timing::{append, race, Contender, Rules, Times};
 
 /// Every p.
 pub const PS: [u8; 5] = [2, 3, 4, 5, 6];
@@ -35,12 +35,16 @@ pub struct Row {
     pub p: u8,
     /// d.
     pub degree: usize,
-    /// A check beside the same algorithm in Rust.
-    pub rust: Pair,
-    /// A check beside the textbook sweeps in Rust.
-    pub sweeps: Pair,
-    /// An expansion beside the same algorithm in Rust.
-    pub expansion: Pair,
+    /// The proved library's check.
+    pub check: Times,
+    /// The same algorithm in Rust.
+    pub same_check: Times,
+    /// The textbook sweeps in Rust.
+    pub sweeps: Times,
+    /// The proved library's expansion.
+    pub expand: Times,
+    /// The same algorithm in Rust.
+    pub same_expand: Times,
 }
 
 impl Row {
@@ -57,17 +61,15 @@ impl Row {
     /// One round of checks. Answers their records.
     fn race_checks(&mut self, inputs: &[CheckSample], round: usize) -> Vec<Vec<u8>> {
         let lent = || vec![0; self.record_length()];
-        let mut beside_rust = [
+        let mut contenders = [
             Contender::new(inputs, lent(), proved(self.p)),
             Contender::new(inputs, lent(), same(self.p)),
-        ];
-        let mut beside_sweeps = [
-            Contender::new(inputs, lent(), proved(self.p)),
             Contender::new(inputs, lent(), sweeps(self.p)),
         ];
-        self.rust.append(race(&mut beside_rust, round, &BYTES));
-        self.sweeps.append(race(&mut beside_sweeps, round, &BYTES));
-        beside_rust[0].outputs().to_vec()
+        let further = race(&mut contenders, round, &BYTES);
+        let times = [&mut self.check, &mut self.same_check, &mut self.sweeps];
+        append(times, further);
+        contenders[0].outputs().to_vec()
     }
 
     /// One round of expansions.
@@ -84,7 +86,8 @@ impl Row {
                     .expect("an accepted record");
             }),
         ];
-        self.expansion.append(race(&mut contenders, round, &BYTES));
+        let further = race(&mut contenders, round, &BYTES);
+        append([&mut self.expand, &mut self.same_expand], further);
     }
 }
 
@@ -116,10 +119,7 @@ pub fn table(costs: Costs, rounds: usize) -> Vec<Row> {
 pub fn growth(costs: Costs, rounds: usize) -> f64 {
     let [mut single, mut double] = [Times::default(), Times::default()];
     for round in 0..rounds {
-        let times = race_growth(costs, round);
-        let [one, other] = times.try_into().expect("two contenders");
-        single.append(one);
-        double.append(other);
+        append([&mut single, &mut double], race_growth(costs, round));
     }
     double.ratio(&single)
 }

@@ -7,7 +7,7 @@ use simulate::layered::Layered;
 use crate::inputs::Job;
 use crate::same;
 use crate::sweeps::Sweeps;
-use crate::timing::{race, Contender, Rules, Times};
+use crate::timing::{append, race, Contender, Rules, Times};
 
 /// g of every decoding.
 pub const SCALE: u8 = 8;
@@ -108,16 +108,14 @@ pub fn measure(job: &Job, rounds: usize) -> Row<'_> {
             out.costs.copy_from_slice(layered.costs());
         }),
     ];
-    let mut times = vec![Times::default(); contenders.len()];
+    let [mut decode, mut same, mut sweeps] = <[Times; 3]>::default();
     for round in 0..rounds {
         let further = race(&mut contenders, round, &RULES);
-        let pairs = times.iter_mut().zip(further);
-        pairs.for_each(|(times, further)| times.append(further));
+        append([&mut decode, &mut same, &mut sweeps], further);
     }
     let decoded = contenders[0].outputs();
     let iterations: usize = decoded.iter().map(RULES.units).sum();
     let mean_iterations = iterations as f64 / decoded.len() as f64;
-    let [decode, same, sweeps] = times.try_into().expect("three contenders");
     Row {
         job,
         mean_iterations,

@@ -53,15 +53,13 @@ impl Report<'_> {
         format!(
             "# Benchmark\n\nWritten by `make bench`; every run rewrites it.\n\n\
              The proved library, called through the static library, beside the same algorithm in Rust \
-             and the textbook forward and backward sweeps in Rust, both built with -O. Each of the two \
-             runs in turn with the proved library, in one process and in short stretches; a time is the \
-             median over all stretches of {} rounds, and a ratio the median of the ratios within each \
-             stretch. What a third program between the two does to them is in `docs/DECISIONS.md`, under \
-             Measurements. Each round has checks of its own, and none is taken twice in a race: a processor \
-             that sees the same checks again learns to foretell their jumps. No lent buffer is cleared \
-             first: before each stretch, and outside its time, all are filled with A5, and after each \
-             round the results are compared byte for byte. A difference stops the run. The two degrees \
-             whose growth is asked for run in turn as well, and so do all three decoders.\n\n",
+             and the textbook forward and backward sweeps in Rust, both built with -O. They run in turn, \
+             in one process and in short stretches; a time is the median over all stretches of {} rounds, \
+             and a ratio the median of the ratios within each stretch. Each round has checks of its own, \
+             and none is taken twice in a race: a processor that sees the same checks again learns to \
+             foretell their jumps. No lent buffer is cleared first: before each stretch, and outside its \
+             time, all are filled with A5, and after each round the results are compared byte for byte. \
+             A difference stops the run. The two degrees whose growth is asked for run in turn as well.\n\n",
             self.rounds
         )
     }
@@ -94,11 +92,11 @@ fn check_table(rows: &[Row]) -> String {
             "| {} | {} | {} | {} | {} | {:.2} | {:.1} |\n",
             row.p,
             row.degree,
-            micros(row.rust.proved.median()),
-            micros(row.rust.other.median()),
-            micros(row.sweeps.other.median()),
-            row.rust.ratio(),
-            row.sweeps.gain(),
+            micros(row.check.median()),
+            micros(row.same_check.median()),
+            micros(row.sweeps.median()),
+            row.check.ratio(&row.same_check),
+            row.sweeps.ratio(&row.check),
         );
     }
     table + "\n"
@@ -116,9 +114,9 @@ fn expansion_table(rows: &[Row]) -> String {
             "| {} | {} | {} | {} | {:.2} | {record} | {plain} | {:.2} |\n",
             row.p,
             row.degree,
-            micros(row.expansion.proved.median()),
-            micros(row.expansion.other.median()),
-            row.expansion.ratio(),
+            micros(row.expand.median()),
+            micros(row.same_expand.median()),
+            row.expand.ratio(&row.same_expand),
             record as f64 / plain as f64,
         );
     }

@@ -25,7 +25,7 @@ pub fn targets(checks: &[&checks::Row], growth: &[f64], codes: &[decoding::Row])
     let from_4: Vec<(f64, String)> = checks
         .iter()
         .filter(|row| row.p >= 4)
-        .map(|row| (row.sweeps.gain(), size(row)))
+        .map(|row| (row.sweeps.ratio(&row.check), size(row)))
         .collect();
     let decoding = codes
         .iter()
@@ -35,12 +35,12 @@ pub fn targets(checks: &[&checks::Row], growth: &[f64], codes: &[decoding::Row])
         at_most(
             "check: at most 1.1 times the same algorithm in Rust",
             1.1,
-            ratios(|row| row.rust.ratio()),
+            ratios(|row| row.check.ratio(&row.same_check)),
         ),
         at_most(
             "expansion: at most 1.1 times the same algorithm in Rust",
             1.1,
-            ratios(|row| row.expansion.ratio()),
+            ratios(|row| row.expand.ratio(&row.same_expand)),
         ),
         at_least(
             "check: at least 5 times as fast as the sweeps, from p = 4 up",

@@ -67,11 +67,6 @@ pub struct Rules<O> {
 pub struct Times(Vec<f64>);
 
 impl Times {
-    /// The times of a further race.
-    pub fn append(&mut self, mut times: Times) {
-        self.0.append(&mut times.0);
-    }
-
     /// The median.
     pub fn median(&self) -> f64 {
         median(self.0.clone())
@@ -84,32 +79,15 @@ impl Times {
     }
 }
 
-/// The proved library's times beside those of another program, from races of these two alone: how far a
-/// third one between them slows them down is another question, and the answer differs between the two.
-#[derive(Clone, Debug, Default)]
-pub struct Pair {
-    /// The proved library.
-    pub proved: Times,
-    /// The other program.
-    pub other: Times,
-}
-
-impl Pair {
-    /// The times of a further race, the proved library's first.
-    pub fn append(&mut self, times: Vec<Times>) {
-        let [proved, other] = times.try_into().expect("two contenders");
-        self.proved.append(proved);
-        self.other.append(other);
-    }
-
-    /// The proved library's time by the other's.
-    pub fn ratio(&self) -> f64 {
-        self.proved.ratio(&self.other)
-    }
-
-    /// How many times as fast the proved library is.
-    pub fn gain(&self) -> f64 {
-        self.other.ratio(&self.proved)
+/// Adds the times of a further race, contender by contender.
+///
+/// # Panics
+///
+/// When the race had another number of contenders.
+pub fn append<const N: usize>(times: [&mut Times; N], further: Vec<Times>) {
+    assert_eq!(further.len(), N, "a race of the same contenders");
+    for (times, mut further) in times.into_iter().zip(further) {
+        times.0.append(&mut further.0);
     }
 }
 

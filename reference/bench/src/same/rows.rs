@@ -66,10 +66,16 @@ impl Rows<'_> {
     }
 }
 
-/// One column's keys, put into their rows.
+/// One column's keys, put into their rows, four at a time: all four are read before the first is written.
 fn scatter(costs: &[u8], row: &[u8], hard_term: u8, n: u16, line: &mut [u16]) {
-    for (&cost, &term) in costs.iter().zip(row) {
-        line[usize::from(term ^ hard_term)] = u16::from(cost) * 256 + n;
+    let (costs, _) = costs.as_chunks::<4>();
+    let (row, _) = row.as_chunks::<4>();
+    for (costs, terms) in costs.iter().zip(row) {
+        let rows = terms.map(|term| usize::from(term ^ hard_term));
+        let keys = costs.map(|cost| u16::from(cost) * 256 + n);
+        for (row, key) in rows.into_iter().zip(keys) {
+            line[row] = key;
+        }
     }
 }
 
