@@ -1,11 +1,14 @@
 // Decoding over lent tables and lists to work in: the code is read, then its refusals, or the run.
 use crate::Answer;
+use crate::Counted;
 use crate::Header;
 use crate::code;
 use crate::frame;
 use crate::iterate;
 use crate::num;
-ghost use Rattle.machine.specs.CodeLine.{Code, good};
+ghost use mathlib.Core.Path.{_≡_};
+ghost use Prim.Native.Nat.{_≤_};
+ghost use Rattle.machine.specs.CodeLine.{Code, good, parse, numbersOf, columnsRead};
 ghost use Rattle.machine.specs.Decoding.{underCode, Decodes};
 ghost use Rattle.layered.specs.Answers.{answerReply};
 ghost use Rattle.layered.specs.Frames.{Coded, CodeRoom, Leaves, WorkRoom};
@@ -52,6 +55,7 @@ fn under_code(
     Answer::Decoded(o)
 }
 
+// Over the tables and lists of decode_counted.
 pub fn decode_in(
     code: &[u8],
     frame: &[u8],
@@ -63,12 +67,16 @@ pub fn decode_in(
     weights: &mut [u8],
     arrived: &mut [u8],
     sent: &mut [u8],
-) -> Answer
+) -> Counted
     requires { ⌜ WorkRoom (now degrees) (now columns) (now weights) (now arrived) (now sent) ⌝ }
-    ensures { λ r. ⌜ Decodes (now (code .entry)) (now (frame .entry)) (now (symbols .entry)) (now (costs .entry)) (now (store .entry)) (answerReply r) (now (symbols .exit)) (now (costs .exit)) (now (store .exit)) ⌝ }
+    ensures { λ r. ⌜ Decodes (now (code .entry)) (now (frame .entry)) (now (symbols .entry)) (now (costs .entry)) (now (store .entry)) (answerReply (r .answer)) (now (symbols .exit)) (now (costs .exit)) (now (store .exit)) ⌝ }
+    ensures { λ r. ⌜ (r .columns ≡ columnsRead (numbersOf (parse (now (code .entry))))) × (r .columns ≤ 256) ⌝ }
 {
     match code::tables(code, degrees, columns, weights) {
-        Header::Refused(k) => Answer::Refused(k),
+        Header::Refused(k) => Counted {
+            answer: Answer::Refused(k),
+            columns: 0,
+        },
         Header::Read {
             p,
             columns: n,
@@ -79,7 +87,7 @@ pub fn decode_in(
             let n = num::long(n);
             let m = num::index(m);
             let g = num::wide(g);
-            under_code(
+            let answer = under_code(
                 p,
                 n,
                 m,
@@ -94,7 +102,8 @@ pub fn decode_in(
                 store,
                 arrived,
                 sent,
-            )
+            );
+            Counted { answer, columns: n }
         }
     }
 }

@@ -1,25 +1,18 @@
-// Above the check layer: a line of text, the code line, the layered decoder.
+// Above the check layer: the code line and the layered decoder.
 mod code;
 mod column;
 mod decoding;
 mod frame;
-mod hex;
 mod iterate;
 mod num;
 mod parity;
-mod print;
 mod reader;
 mod update;
 
-use checknode::Written;
 ghost use mathlib.Core.Path.{_≡_};
-ghost use mathlib.Core.List.{_++_};
-ghost use lib.ListN.{length, drop};
-ghost use Rattle.checknode.specs.Answers.{writtenReply};
-ghost use Rattle.machine.specs.Line.{lineReply, lineLeaves};
-ghost use Rattle.machine.specs.CodeLine.{parse, numbersOf};
+ghost use Prim.Native.Nat.{_≤_};
+ghost use Rattle.machine.specs.CodeLine.{parse, numbersOf, columnsRead};
 ghost use Rattle.machine.specs.Decoding.{Decodes};
-ghost use Rattle.machine.specs.Printing.{frameSaid, frameLine};
 ghost use Rattle.layered.specs.Answers.{headerNumbers, answerReply};
 
 // The numbers of a code line, or the number of the refusal.
@@ -46,28 +39,6 @@ pub enum Answer {
     Refused(u8),
 }
 
-// The bytes of a line of text. "Line: 15, 14, 2."; nothing is written before the last of these is tested.
-pub fn line(text: &[u8], out: &mut [u8]) -> Written
-    ensures { λ r. ⌜ writtenReply r ≡ lineReply (now (text .entry)) (now (out .entry)) ⌝ }
-    ensures { λ _. ⌜ now (out .exit) ≡ lineLeaves (now (text .entry)) (now (out .entry)) ⌝ }
-{
-    if 32768 < text.len() {
-        return Written::Refused(15);
-    }
-    if text.len() % 2 != 0 {
-        return Written::Refused(14);
-    }
-    if !hex::all_digits(text) {
-        return Written::Refused(14);
-    }
-    let n = text.len() / 2;
-    if out.len() < n {
-        return Written::Refused(2);
-    }
-    hex::fill(text, out);
-    Written::Bytes(n)
-}
-
 // The numbers of a code line, whose checks are read too.
 pub fn code_line(code: &[u8]) -> Header
     ensures { λ r. ⌜ headerNumbers r ≡ numbersOf (parse (now (code .entry))) ⌝ }
@@ -90,6 +61,26 @@ pub fn decode(
 ) -> Answer
     ensures { λ r. ⌜ Decodes (now (code .entry)) (now (frame .entry)) (now (symbols .entry)) (now (costs .entry)) (now (store .entry)) (answerReply r) (now (symbols .exit)) (now (costs .exit)) (now (store .exit)) ⌝ }
 {
+    decode_counted(code, frame, symbols, costs, store).answer
+}
+
+// A decoding's answer, with N of a code line that is accepted: the line is read once for both.
+pub struct Counted {
+    pub answer: Answer,
+    pub columns: usize,
+}
+
+// The same call for whoever goes on with the N symbols.
+pub fn decode_counted(
+    code: &[u8],
+    frame: &[u8],
+    symbols: &mut [u8],
+    costs: &mut [u16],
+    store: &mut [u8],
+) -> Counted
+    ensures { λ r. ⌜ Decodes (now (code .entry)) (now (frame .entry)) (now (symbols .entry)) (now (costs .entry)) (now (store .entry)) (answerReply (r .answer)) (now (symbols .exit)) (now (costs .exit)) (now (store .exit)) ⌝ }
+    ensures { λ r. ⌜ (r .columns ≡ columnsRead (numbersOf (parse (now (code .entry))))) × (r .columns ≤ 256) ⌝ }
+{
     let mut degrees = [0u8; 128];
     let mut columns = [0u16; 1024];
     let mut weights = [0u8; 1024];
@@ -106,25 +97,5 @@ pub fn decode(
         &mut weights,
         &mut arrived,
         &mut sent,
-    )
-}
-
-// The line that the program prints for a frame's line of text, with its end. The longest has 517 bytes: 256 symbols, and 2 + 2 + 1.
-pub fn frame_line(code: &[u8], text: &[u8], out: &mut [u8; 517]) -> Answer
-    ensures { λ r. ⌜ answerReply r ≡ frameSaid (now (code .entry)) (now (text .entry)) .reply ⌝ }
-    ensures { λ _. ⌜ now (out .exit) ≡ frameLine (now (code .entry)) (now (text .entry)) ++ drop (length (frameLine (now (code .entry)) (now (text .entry)))) (now (out .entry)) ⌝ }
-{
-    let mut bytes = [0u8; 16384];
-    let mut symbols = [0u8; 256];
-    let mut costs = [0u16; 16384];
-    let mut store = [0u8; 41344];
-    print::text_in(
-        code,
-        text,
-        &mut bytes,
-        &mut symbols,
-        &mut costs,
-        &mut store,
-        out,
     )
 }

@@ -10,7 +10,7 @@ use lib.Dec.{eqb, ltb, leb}
 use lib.ListN.{length, getD}
 use borrow.Author.Tests.{ltb-false, leb-false, eqb-false}
 use Rattle.trellis.specs.Lists.{pick}
-use Rattle.machine.specs.CodeLine.{Read, good, bad, then, Edge, Code, edge, wordAt, readEdge, edges, checkAt, checks, parse, size, check, edgeAt}
+use Rattle.machine.specs.CodeLine.{Read, good, bad, then, Edge, Code, edge, wordAt, readEdge, edges, checkAt, checks, parse, size, check, edgeAt, Numbers, numbersOf}
 
 -- tests that refuse, in their order
 abbrev guard : {A : Type 0} → List (Bool × ℕ) → Read A → Read A
@@ -191,3 +191,11 @@ parse-good s C h =
       each-check = r .each-check;
       edges-high = omega (arith, r .few-edges);
     }
+
+-- N is at most 256
+pub columns-small : (s : List ℕ) (h : Numbers) → good h ≡ numbersOf (parse s) → h .columns ≤ 256
+columns-small s h e = go (parse s) refl e
+  where
+    go : (r : Read Code) → parse s ≡ r → good h ≡ numbersOf r → h .columns ≤ 256
+    go (good C) p k = let n : h .columns ≡ C .columns = cc in omega (arith, n, parse-good s C p .columns-high)
+    go (bad j) p k = let z : _≡_ {A = ℕ} 0 1 = cc in absurd (omega arith)

@@ -130,3 +130,8 @@ pub record Numbers : Type 0 where
 abbrev pub numbersOf : Read Code → Read Numbers
 numbersOf (good C) = good (record { p = C .p; columns = C .columns; checks = length (C .checks); scale = C .scale; limit = C .limit })
 numbersOf (bad k) = bad k
+
+-- N, where the code line is accepted
+abbrev pub columnsRead : Read Numbers → ℕ
+columnsRead (good h) = h .columns
+columnsRead (bad k) = 0

@@ -76,7 +76,7 @@ pub extern "C" fn petsivola_line(text: &[u8], out: &mut [u8]) -> u32
     ensures { λ r. ⌜ r ≡ packed (lineReply (now (text .entry)) (now (out .entry))) ⌝ }
     ensures { λ _. ⌜ now (out .exit) ≡ lineLeaves (now (text .entry)) (now (out .entry)) ⌝ }
 {
-    of_written(layered::line(text, out))
+    of_written(text::line(text, out))
 }
 
 #[no_mangle]

@@ -1,6 +1,10 @@
 -- The reader's answer is the line's refusal, or the numbers and tables of its code; under these the rest is promised.
 use Rattle.layered.proofs.Decoded.{refused-decodes, coded-room, coded-decodes}
+use mathlib.Core.Path.{ap, _∙_}
+use native.Mathlib.Omega.{arith}
 use borrow.Author.Needs.{needs}
+use Rattle.machine.specs.CodeLine.{columnsRead}
+use Rattle.machine.proofs.Lines.{columns-small}
 use Rattle.layered.proofs.decoding.decode_in.Statement.{statement}
 use Rattle.layered.proofs.decoding.decode_in.Tie as tie
 
@@ -44,7 +48,7 @@ returns : tie.Need-returns
 returns c =
     let t = c .before .before .before .before .before .before .before .before .before in
     let a = t .before .before .before .before .before .before .before .before .before .before .before .before .before .before .args in
-    refused-decodes (a .code .now) (t .tables .result) (t .tables .ensures .0) _ (c .before .k .given .1) (a .frame .now) (a .symbols .now) (a .costs .now) (a .store .now)
+    (refused-decodes (a .code .now) (t .tables .result) (t .tables .ensures .0) _ (c .before .k .given .1) (a .frame .now) (a .symbols .now) (a .costs .now) (a .store .now), (ap columnsRead (rw (c .before .k .given .1) at (t .tables .ensures .0)), omega arith))
 
 same-length-4 : tie.Need-same-length-4
 same-length-4 c = search needs
@@ -78,7 +82,8 @@ returns-2 c =
     let t = v .before .before .before .before .before .before .before .before in
     let s = t .before .before .before .before .before .before .before .before .before .before .before .before .before .before in
     let a = s .args in
-    coded-decodes (a .code .now) (t .tables .result) (t .tables .ensures .0) (v .p .given .0 .0) (v .p .given .0 .1 .0) (v .p .given .0 .1 .1 .0) (v .p .given .0 .1 .1 .1 .0) (v .p .given .0 .1 .1 .1 .1 .0) (v .p .given .1) (w .before .before .long .result) (w .before .index .result) (w .wide .result) (w .before .before .long .ensures .0) (w .before .index .ensures .0) (w .wide .ensures .0) (t .tables .last .1 .0) (t .tables .last .1 .1 .0) (t .tables .last .1 .1 .1 .0) (t .tables .ensures .1) (a .frame .now) (a .symbols .now) (a .costs .now) (a .store .now) _ _ _ _ (u .under-code .ensures)
+    let e = rw (v .p .given .1) at (t .tables .ensures .0) in
+    (coded-decodes (a .code .now) (t .tables .result) (t .tables .ensures .0) (v .p .given .0 .0) (v .p .given .0 .1 .0) (v .p .given .0 .1 .1 .0) (v .p .given .0 .1 .1 .1 .0) (v .p .given .0 .1 .1 .1 .1 .0) (v .p .given .1) (w .before .before .long .result) (w .before .index .result) (w .wide .result) (w .before .before .long .ensures .0) (w .before .index .ensures .0) (w .wide .ensures .0) (t .tables .last .1 .0) (t .tables .last .1 .1 .0) (t .tables .last .1 .1 .1 .0) (t .tables .ensures .1) (a .frame .now) (a .symbols .now) (a .costs .now) (a .store .now) _ _ _ _ (u .under-code .ensures), (w .before .before .long .ensures .0 ∙ ap columnsRead e, rw (w .before .before .long .ensures .0) (columns-small (a .code .now) _ e)))
 
 pub decode-in-spec : {M : Type 1} → statement M
 decode-in-spec =

@@ -1,0 +1,14 @@
+-- What the printing of a line leaves.
+use mathlib.Core.List.{List, [], _∷_, _++_}
+use Prim.Native.Nat.{ℕ}
+use lib.ListN.{length, drop}
+use Rattle.trellis.specs.Lists.{each}
+use Rattle.machine.specs.Printing.{digitsOf}
+
+-- "all as two-digit bytes"; "Each printed line ends in 0A."
+unfoldable pub asLine : List ℕ → List ℕ
+asLine l = each digitsOf l ++ (0x0A ∷ [])
+
+-- a list put over the front of a buffer
+abbrev pub over : List ℕ → List ℕ → List ℕ
+over l out = l ++ drop (length l) out

@@ -1,0 +1,137 @@
+// The input cut into lines, block by block, and its end.
+use crate::State;
+use crate::line_end;
+use crate::num;
+ghost use mathlib.Core.Path.{_≡_};
+ghost use mathlib.Core.Bool.{false};
+ghost use mathlib.Core.List.{[], _∷_, _++_};
+ghost use Prim.Native.Nat.{_+_, _*_, _≤_};
+ghost use lib.ListN.{length, take, drop};
+ghost use Rattle.machine.specs.Blocks.{fedOut, closeOut};
+ghost use Rattle.text.specs.Held.{held, keptOf, putAt, toNewline, Keeps, fedHeld, quiet, closeHeld};
+
+// "Lines end in byte 0A": the place of the first one from `at` on, or the end.
+fn newline(bytes: &[u8], at: usize) -> usize
+    requires { ⌜ at ≤ length (now bytes) ⌝ }
+    ensures { λ r. ⌜ (r ≡ at + toNewline (drop at (now (bytes .entry)))) × (r ≤ length (now (bytes .entry))) ⌝ }
+{
+    let mut i = at;
+    while i < bytes.len() {
+        if bytes[i] == 0x0A {
+            break;
+        }
+        i += 1;
+    }
+    i
+}
+
+// A part of a line, as far as there is room: 32,769 bytes are enough to refuse the line by 15.
+fn keep(st: State, part: &[u8], line: &mut [u8]) -> State
+    requires { ⌜ length (now line) ≡ 32769 ⌝ }
+    ensures { λ r. ⌜ Keeps st (now (line .entry)) (now (part .entry)) r (now (line .exit)) ⌝ }
+    ensures { λ r. ⌜ (r .full ≡ st .full) × (r .ended ≡ st .ended) ⌝ }
+{
+    let len = st.len;
+    if 32769 <= len {
+        return st;
+    }
+    let n = num::least(part.len(), 32769 - len);
+    let e = len + n;
+    num::copy(&part[..n], &mut line[len..e]);
+    State {
+        len: e,
+        code: st.code,
+        ended: st.ended,
+        full: st.full,
+    }
+}
+
+// A part of a line, and its end.
+fn whole(st: State, part: &[u8], line: &mut [u8], code: &mut [u8], out: &mut [u8]) -> State
+    requires { ⌜ (length (now line) ≡ 32769) × ((length (now code) ≡ 16384) × ((st .ended ≡ false) × (toNewline (now part) ≡ length (now part)))) ⌝ }
+    requires { ⌜ st .full + length (fedOut (keptOf (held st (now line) (now code))) (now part ++ (0x0A ∷ []))) ≤ length (now out) ⌝ }
+    ensures { λ r. ⌜ held r (now (line .exit)) (now (code .exit)) ≡ fedHeld (held st (now (line .entry)) (now (code .entry))) (now (part .entry) ++ (0x0A ∷ [])) ⌝ }
+    ensures { λ r. ⌜ r .full ≡ st .full + length (fedOut (keptOf (held st (now (line .entry)) (now (code .entry)))) (now (part .entry) ++ (0x0A ∷ []))) ⌝ }
+    ensures { λ _. ⌜ now (out .exit) ≡ putAt (now (out .entry)) (st .full) (fedOut (keptOf (held st (now (line .entry)) (now (code .entry)))) (now (part .entry) ++ (0x0A ∷ []))) ⌝ }
+{
+    let s = keep(st, part, line);
+    line_end::finish_line(s, line, code, out)
+}
+
+// A block, line by line; no byte counts once the program has ended.
+fn feed_over(st: State, bytes: &[u8], line: &mut [u8], code: &mut [u8], out: &mut [u8]) -> State
+    requires { ⌜ (length (now line) ≡ 32769) × ((length (now code) ≡ 16384) × ((st .full ≡ 0) × (512 + 5 * length (now bytes) ≤ length (now out)))) ⌝ }
+    ensures { λ r. ⌜ held r (now (line .exit)) (now (code .exit)) ≡ fedHeld (held st (now (line .entry)) (now (code .entry))) (now (bytes .entry)) ⌝ }
+    ensures { λ r. ⌜ r .full ≡ length (fedOut (keptOf (held st (now (line .entry)) (now (code .entry)))) (now (bytes .entry))) ⌝ }
+    ensures { λ _. ⌜ now (out .exit) ≡ putAt (now (out .entry)) 0 (fedOut (keptOf (held st (now (line .entry)) (now (code .entry)))) (now (bytes .entry))) ⌝ }
+{
+    let mut s = st;
+    let mut at = 0;
+    while at < bytes.len() {
+        if s.ended {
+            return s;
+        }
+        let e = newline(bytes, at);
+        if e == bytes.len() {
+            return keep(s, &bytes[at..e], line);
+        }
+        s = whole(s, &bytes[at..e], line, code, out);
+        at = e + 1;
+    }
+    s
+}
+
+pub fn feed_in(
+    st: State,
+    block: &[u8],
+    n: usize,
+    line: &mut [u8],
+    code: &mut [u8],
+    out: &mut [u8],
+) -> State
+    requires { ⌜ (length (now line) ≡ 32769) × ((length (now code) ≡ 16384) × ((n ≤ length (now block)) × (512 + 5 * n ≤ length (now out)))) ⌝ }
+    ensures { λ r. ⌜ held r (now (line .exit)) (now (code .exit)) ≡ fedHeld (held st (now (line .entry)) (now (code .entry))) (take n (now (block .entry))) ⌝ }
+    ensures { λ r. ⌜ r .full ≡ length (fedOut (keptOf (held st (now (line .entry)) (now (code .entry)))) (take n (now (block .entry)))) ⌝ }
+    ensures { λ _. ⌜ now (out .exit) ≡ putAt (now (out .entry)) 0 (fedOut (keptOf (held st (now (line .entry)) (now (code .entry)))) (take n (now (block .entry)))) ⌝ }
+{
+    let s = State {
+        len: st.len,
+        code: st.code,
+        ended: st.ended,
+        full: 0,
+    };
+    feed_over(s, &block[..n], line, code, out)
+}
+
+// Whether the end of the input prints nothing: the program has ended, or a frame's line is empty.
+fn silent(st: State) -> bool
+    ensures { λ r. ⌜ r ≡ quiet (st .ended) (st .code) (st .len) ⌝ }
+{
+    if st.ended {
+        return true;
+    }
+    if st.code == 0 {
+        return false;
+    }
+    st.len == 0
+}
+
+// The end of the input: what is printed for what is kept, and how many bytes that are.
+pub fn close_in(st: State, line: &[u8], code: &mut [u8], out: &mut [u8]) -> usize
+    requires { ⌜ (length (now line) ≡ 32769) × ((length (now code) ≡ 16384) × (length (now out) ≡ 517)) ⌝ }
+    ensures { λ r. ⌜ r ≡ length (closeOut (keptOf (held st (now (line .entry)) (now (code .entry))))) ⌝ }
+    ensures { λ _. ⌜ now (code .exit) ≡ closeHeld (held st (now (line .entry)) (now (code .entry))) .bytes ⌝ }
+    ensures { λ _. ⌜ now (out .exit) ≡ putAt (now (out .entry)) 0 (closeOut (keptOf (held st (now (line .entry)) (now (code .entry))))) ⌝ }
+{
+    if silent(st) {
+        return 0;
+    }
+    let s = State {
+        len: st.len,
+        code: st.code,
+        ended: st.ended,
+        full: 0,
+    };
+    let r = line_end::finish_line(s, line, code, out);
+    r.full
+}

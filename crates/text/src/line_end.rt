@@ -1,0 +1,115 @@
+// What happens where a line ends: the code line is read and kept or refused, a frame is printed.
+use crate::State;
+use crate::num;
+use checknode::Written;
+use layered::Header;
+ghost use mathlib.Core.Path.{_≡_};
+ghost use mathlib.Core.Bool.{false, not};
+ghost use mathlib.Core.List.{_++_};
+ghost use Prim.Native.Nat.{_+_, _≤_};
+ghost use lib.ListN.{length, take, drop};
+ghost use Rattle.machine.specs.Printing.{frameLine};
+ghost use Rattle.machine.specs.Program.{readCode};
+ghost use Rattle.machine.specs.Blocks.{codeOut, finishedOut};
+ghost use Rattle.trellis.specs.Lists.{pick};
+ghost use Rattle.text.specs.Held.{held, keptOf, putAt, codeBytes, accepts, finishedHeld};
+
+// Puts the first n bytes of a row into the output.
+fn put(row: &[u8], n: usize, out: &mut [u8], full: usize) -> usize
+    requires { ⌜ (n ≤ length (now row)) × (full + n ≤ length (now out)) ⌝ }
+    ensures { λ r. ⌜ r ≡ full + n ⌝ }
+    ensures { λ _. ⌜ now (out .exit) ≡ putAt (now (out .entry)) full (take n (now (row .entry))) ⌝ }
+{
+    let e = full + n;
+    num::copy(&row[..n], &mut out[full..e]);
+    e
+}
+
+// Prints what crate::frame_line gives, and returns how many bytes are then printed.
+fn print_in(code: &[u8], text: &[u8], row: &mut [u8; 517], out: &mut [u8], full: usize) -> usize
+    requires { ⌜ full + length (frameLine (now code) (now text)) ≤ length (now out) ⌝ }
+    ensures { λ r. ⌜ r ≡ full + length (frameLine (now (code .entry)) (now (text .entry))) ⌝ }
+    ensures { λ _. ⌜ now (out .exit) ≡ putAt (now (out .entry)) full (frameLine (now (code .entry)) (now (text .entry))) ⌝ }
+{
+    let n = crate::frame_line(code, text, row);
+    put(row, n, out, full)
+}
+
+fn print(code: &[u8], text: &[u8], out: &mut [u8], full: usize) -> usize
+    requires { ⌜ full + length (frameLine (now code) (now text)) ≤ length (now out) ⌝ }
+    ensures { λ r. ⌜ r ≡ full + length (frameLine (now (code .entry)) (now (text .entry))) ⌝ }
+    ensures { λ _. ⌜ now (out .exit) ≡ putAt (now (out .entry)) full (frameLine (now (code .entry)) (now (text .entry))) ⌝ }
+{
+    let mut row = [0u8; 517];
+    print_in(code, text, &mut row, out, full)
+}
+
+// The bytes of the code line; none if the line is refused.
+fn code_bytes(text: &[u8], code: &mut [u8]) -> usize
+    requires { ⌜ length (now code) ≡ 16384 ⌝ }
+    ensures { λ r. ⌜ (r ≡ length (codeBytes (now (text .entry)))) × (r ≤ 16384) ⌝ }
+    ensures { λ _. ⌜ now (code .exit) ≡ codeBytes (now (text .entry)) ++ drop (length (codeBytes (now (text .entry)))) (now (code .entry)) ⌝ }
+{
+    match crate::line(text, code) {
+        Written::Bytes(n) => n,
+        Written::Refused(_) => 0,
+    }
+}
+
+fn accepted(code: &[u8]) -> bool
+    ensures { λ r. ⌜ r ≡ accepts (now (code .entry)) ⌝ }
+{
+    match layered::code_line(code) {
+        Header::Read { .. } => true,
+        Header::Refused(_) => false,
+    }
+}
+
+// The code line read to its end: "a refused code line ends the program".
+fn finish_code(text: &[u8], code: &mut [u8], out: &mut [u8], full: usize) -> State
+    requires { ⌜ (length (now code) ≡ 16384) × (full + length (codeOut (readCode (now text))) ≤ length (now out)) ⌝ }
+    ensures { λ r. ⌜ (r .len ≡ 0) × ((r .code ≡ pick (accepts (codeBytes (now (text .entry)))) (length (codeBytes (now (text .entry)))) 0) × (r .ended ≡ not (accepts (codeBytes (now (text .entry)))))) ⌝ }
+    ensures { λ r. ⌜ r .full ≡ full + length (codeOut (readCode (now (text .entry)))) ⌝ }
+    ensures { λ _. ⌜ now (code .exit) ≡ codeBytes (now (text .entry)) ++ drop (length (codeBytes (now (text .entry)))) (now (code .entry)) ⌝ }
+    ensures { λ _. ⌜ now (out .exit) ≡ putAt (now (out .entry)) full (codeOut (readCode (now (text .entry)))) ⌝ }
+{
+    let n = code_bytes(text, code);
+    if accepted(&code[..n]) {
+        return State {
+            len: 0,
+            code: n,
+            ended: false,
+            full,
+        };
+    }
+    let f = print(&code[..n], text, out, full);
+    State {
+        len: 0,
+        code: 0,
+        ended: true,
+        full: f,
+    }
+}
+
+// A line read to its end.
+pub fn finish_line(st: State, line: &[u8], code: &mut [u8], out: &mut [u8]) -> State
+    requires { ⌜ (length (now line) ≡ 32769) × ((length (now code) ≡ 16384) × ((st .ended ≡ false) × (st .full + length (finishedOut (keptOf (held st (now line) (now code)))) ≤ length (now out)))) ⌝ }
+    ensures { λ r. ⌜ held r (now (line .entry)) (now (code .exit)) ≡ finishedHeld (held st (now (line .entry)) (now (code .entry))) ⌝ }
+    ensures { λ r. ⌜ r .full ≡ st .full + length (finishedOut (keptOf (held st (now (line .entry)) (now (code .entry))))) ⌝ }
+    ensures { λ _. ⌜ now (out .exit) ≡ putAt (now (out .entry)) (st .full) (finishedOut (keptOf (held st (now (line .entry)) (now (code .entry))))) ⌝ }
+{
+    let t = num::least(st.len, 32769);
+    let n = st.code;
+    let full = st.full;
+    if n == 0 {
+        return finish_code(&line[..t], code, out, full);
+    }
+    let k = num::least(n, 16384);
+    let f = print(&code[..k], &line[..t], out, full);
+    State {
+        len: 0,
+        code: n,
+        ended: false,
+        full: f,
+    }
+}
