@@ -9,8 +9,8 @@ use lib.ListN.{length, drop}
 use Rattle.trellis.specs.Lists.{allTo}
 use Rattle.trellis.specs.Record.{recordOf, recordLength}
 use Rattle.trellis.specs.Rules.{ruleFor, columnsOf}
+use Rattle.trellis.specs.Ready.{Ready}
 use Rattle.trellis.specs.Reply.{accepted, refusal}
-use Rattle.engine.specs.Ready.{Ready}
 use Rattle.checknode.specs.Answers.{zeroOk, checkReply, checkLeaves}
 use Rattle.checknode.specs.Asks.{weightsFault}
 use Rattle.checknode.proofs.Refusals.{Weighed, fault-case, ready-law, case-12, case-13, case-4, check-case}

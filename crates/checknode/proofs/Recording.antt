@@ -11,13 +11,15 @@ use Rattle.trellis.specs.Lists.{tab, blocks, part}
 use Rattle.trellis.specs.Field.{xor}
 use Rattle.trellis.specs.Record.{recordOf}
 use Rattle.trellis.specs.Rules.{ruleFor, columnsOf}
+use Rattle.trellis.specs.Ready.{Ready}
 use Rattle.engine.specs.Keys.{bothBut, minimaBut, groupOf}
 use Rattle.engine.specs.Fill.{Rows, rowsOf, merged, started, filled}
-use Rattle.engine.specs.Ready.{Ready, termOf, sumTo, keysOf}
+use Rattle.engine.specs.Terms.{termOf, sumTo, keysOf}
 use Rattle.checknode.specs.Asks.{shiftsOf, Inside, MinimaTable, minimaAt}
 use Rattle.trellis.proofs.Loops.{length-tab, getD-tab, tab-ext, blocks-front, length-even}
+use Rattle.trellis.proofs.Ready.{length-columns}
 use Rattle.engine.proofs.Rows.{minima-is}
-use Rattle.engine.proofs.Record.{length-columns, kept, record-is}
+use Rattle.engine.proofs.Record.{kept, record-is}
 
 pub begin-law : (X Y Z : List ℕ) {x y z : List ℕ} → length Y ≡ length X → length Z ≡ length X → x ≡ tab (λ i. 65533) (length X) → y ≡ tab (λ i. 65534) (length Y) → z ≡ tab (λ i. 65535) (length Z)
     → rowsOf x y z ≡ started (length X)

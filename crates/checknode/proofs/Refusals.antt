@@ -14,8 +14,8 @@ use Rattle.trellis.specs.Lists.{pick, allTo}
 use Rattle.trellis.specs.Check.{firstZero}
 use Rattle.trellis.specs.Record.{recordLength, recordOk}
 use Rattle.trellis.specs.Rules.{ruleFor}
+use Rattle.trellis.specs.Ready.{Ready}
 use Rattle.trellis.proofs.Tests.{of-true, all-at}
-use Rattle.engine.specs.Ready.{Ready}
 use Rattle.checknode.specs.Answers.{weightOk, weightsOk, weightCases, zeroOk, checkCases, expandCases}
 use Rattle.checknode.specs.Asks.{weightsFault}
 use Rattle.checknode.proofs.Filling.{zero-here, zero-later, zero-none}

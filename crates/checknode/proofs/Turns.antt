@@ -11,13 +11,14 @@ use Rattle.trellis.specs.Lists.{tab}
 use Rattle.trellis.specs.Field.{xor, product}
 use Rattle.trellis.specs.Check.{Column, firstZero, column}
 use Rattle.trellis.specs.Rules.{ruleFor, columnsOf, costsAt}
+use Rattle.trellis.specs.Ready.{Ready}
 use Rattle.engine.specs.Fill.{Rows, merged, filled, scattered}
-use Rattle.engine.specs.Ready.{Ready, termOf, sumTo, keysOf}
+use Rattle.engine.specs.Terms.{termOf, sumTo, keysOf}
 use Rattle.checknode.specs.Asks.{Times, lineFrom}
 use Rattle.trellis.proofs.FieldLaws.{fields-at, has-inverse}
 use Rattle.trellis.proofs.Loops.{tab-more, getD-tab}
+use Rattle.trellis.proofs.Ready.{column-at, length-columns, ready-proper}
 use Rattle.engine.proofs.Filled.{filled-more, scattered-keys}
-use Rattle.engine.proofs.Record.{column-at, length-columns, ready-proper}
 
 module _ (p : ℕ) (ws cs : List ℕ) (D : Ready p ws cs) (n : ℕ) (h : n < length ws) where
   pub ready-times : Times p (getD ws n 0)

@@ -13,7 +13,7 @@ use Rattle.trellis.specs.Check.{firstZero}
 use Rattle.trellis.specs.Record.{pairsOk, besideGroup, expandAt}
 use Rattle.trellis.specs.Rules.{ruleFor}
 use Rattle.engine.specs.Fill.{scattered}
-use Rattle.engine.specs.Ready.{termOf, sumTo}
+use Rattle.engine.specs.Terms.{termOf, sumTo}
 use Rattle.checknode.specs.Answers.{weightCases}
 use Rattle.checknode.specs.Table.{productTable}
 

@@ -8,7 +8,8 @@ ghost use Prim.Native.Nat.{_+_, _*_, _^_, _≤_};
 ghost use lib.ListN.{length};
 ghost use Rattle.trellis.specs.Record.{recordOf, recordLength};
 ghost use Rattle.trellis.specs.Rules.{ruleFor, columnsOf};
-ghost use Rattle.engine.specs.Ready.{Ready, keysOf};
+ghost use Rattle.trellis.specs.Ready.{Ready};
+ghost use Rattle.engine.specs.Terms.{keysOf};
 ghost use Rattle.engine.specs.Fill.{rowsOf, started, filled};
 ghost use Rattle.checknode.specs.Asks.{TableFor, Sizes, shiftsOf};
 

@@ -7,8 +7,9 @@ ghost use lib.ListN.{length, getD};
 ghost use Rattle.trellis.specs.Lists.{tab};
 ghost use Rattle.trellis.specs.Field.{xor, product};
 ghost use Rattle.trellis.specs.Check.{firstZero};
+ghost use Rattle.trellis.specs.Ready.{Ready};
 ghost use Rattle.engine.specs.Fill.{rowsOf, merged, started, filled, scattered};
-ghost use Rattle.engine.specs.Ready.{Ready, termOf, sumTo, keysOf};
+ghost use Rattle.engine.specs.Terms.{termOf, sumTo, keysOf};
 ghost use Rattle.checknode.specs.Asks.{Placed, Times, TableFor, Sizes, lineFrom};
 
 // v everywhere.

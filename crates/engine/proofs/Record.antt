@@ -1,52 +1,30 @@
 -- The bytes that the engine leaves are the check's record.
 use mathlib.Core.Path.{_≡_, refl, sym, ap, ap₂, _∙_, subst}
-use mathlib.Core.List.{List, [], _∷_, _++_, map, List·Memᴰ, List·Memᴰ·head, List·Memᴰ·tail}
+use mathlib.Core.List.{List, [], _∷_, _++_, map}
 use Prim.Native.Nat.{ℕ, zero, suc, _+_, _*_, _-_, _^_, _≤_, _<_}
-use native.Mathlib.Nat.{not-suc-le-zero, le-of-suc-le-suc, zero-add, suc-mul, mul-le-mul-right}
+use native.Mathlib.Nat.{zero-add}
 use native.Mathlib.Omega.{arith}
 use lib.Pow.{pow-mono}
-use lib.ListN.{length, getD, take, drop, length-take, length-drop}
-use lib.Seq.{drop-drop, getD-take, getD-drop}
+use lib.ListN.{length, getD}
+use lib.Seq.{getD-take, getD-drop}
 use Rattle.trellis.specs.Lists.{each, countFrom, upTo, tab, blocks}
 use Rattle.trellis.specs.Field.{xor}
-use Rattle.trellis.specs.Check.{Rule, Column, costAt, weigh, decision, decided, shift, firstZero, column}
+use Rattle.trellis.specs.Check.{Rule, Column, costAt, weigh, decision, decided, shift, column}
 use Rattle.trellis.specs.Record.{shifts, group, recordOf}
 use Rattle.trellis.specs.Rows.{entry, symbolAt}
 use Rattle.trellis.specs.Rules.{ruleFor, columnsOf, costsAt}
+use Rattle.trellis.specs.Ready.{Ready}
 use Rattle.engine.specs.Keys.{minimaBut, groupOf}
 use Rattle.engine.specs.Fill.{Rows, rowsOf, filled}
-use Rattle.engine.specs.Ready.{Ready, termOf, sumTo}
+use Rattle.engine.specs.Terms.{termOf, sumTo}
 use Rattle.trellis.proofs.Xor.{xor-assoc, xor-comm, xor-cancel}
 use Rattle.trellis.proofs.Loops.{tab-ext, map-tab, blocks-ext, each-blocks}
-use Rattle.trellis.proofs.Sent.{Proper, split-decided}
+use Rattle.trellis.proofs.Sent.{split-decided}
 use Rattle.trellis.proofs.Kept.{symbol-at}
-use Rattle.trellis.proofs.FieldLaws.{fields-at}
-use Rattle.trellis.proofs.Instances.{Accepted, proper, sum-joins}
+use Rattle.trellis.proofs.Ready.{length-columns, column-at, ready-proper}
 use Rattle.engine.proofs.Rows.{Kept}
 use Rattle.engine.proofs.Filled.{keyOf, rows-kept}
 use Rattle.engine.proofs.Best.{group-is}
-
-pub length-columns : (q : ℕ) (ws cs : List ℕ) → length (columnsOf q ws cs) ≡ length ws
-unfolding columnsOf
-length-columns q [] cs = refl
-length-columns q (h ∷ ws) cs = ap suc (length-columns q ws (drop q cs))
-
-pub column-at : (q : ℕ) (ws cs : List ℕ) (n : ℕ) → n < length ws → column (columnsOf q ws cs) n ≡ record { weight = getD ws n 0; costs = costsAt q cs n }
-unfolding columnsOf
-column-at q [] cs n l = absurd (not-suc-le-zero l)
-column-at q (h ∷ ws) cs zero l = let z : 0 * q ≡ 0 = omega arith in rw z
-column-at q (h ∷ ws) cs (suc n) l =
-    column-at q ws (drop q cs) n (le-of-suc-le-suc l)
-    ∙ ap {B = Column} (λ y. record { weight = getD ws n 0; costs = take q y }) (drop-drop (n * q) q cs ∙ ap (λ y. drop y cs) (sym (suc-mul' n)))
-  where
-    suc-mul' : (n : ℕ) → suc n * q ≡ q + n * q
-    suc-mul' n = omega (arith, suc-mul n q)
-
--- a list whose first zero is below its length has a zero
-zero-member : (l : List ℕ) → firstZero l < length l → List·Memᴰ 0 l
-zero-member [] h = absurd (not-suc-le-zero h)
-zero-member (zero ∷ l) h = List·Memᴰ·head refl
-zero-member (suc x ∷ l) h = List·Memᴰ·tail (zero-member l (le-of-suc-le-suc h))
 
 -- sums from the front and from the back
 sum-front : (f : ℕ → ℕ) (n : ℕ) → sumTo f (suc n) ≡ xor (f 0) (sumTo (λ j. f (suc j)) n)
@@ -69,47 +47,25 @@ module _ (p : ℕ) (ws cs : List ℕ) (D : Ready p ws cs) where
   abbrev pub theColumns : List Column
   theColumns = columnsOf (2 ^ p) ws cs
 
-  room : (n : ℕ) → n < length ws → n * q + q ≤ length ws * q
-  room n h = rw suc-mul at (mul-le-mul-right q h)
-
-  pub costs-length : (n : ℕ) → n < length ws → length (costsAt q cs n) ≡ q
-  costs-length n h = simp (length-take, length-drop) (omega (arith, D .count, room n h))
-
-  accepted : (n : ℕ) → n < length ws → Accepted p (column theColumns n)
-  accepted n h =
-      subst (λ c. Accepted p c) (sym (column-at q ws cs n h))
-      record {
-        weight-small = D .weight-small n h;
-        weight-some = D .weight-some n h;
-        full = costs-length n h;
-        zero-in = zero-member (costsAt q cs n) (omega (arith, costs-length n h, D .zeros n h));
-      }
-
-  pub ready-proper : Proper (ruleFor p) theColumns
-  ready-proper =
-      let e : length theColumns ≡ length ws = length-columns q ws cs in
-      proper p (fields-at p (D .low) (D .high)) _+_ 2 theColumns (λ n l. accepted n (omega arith)) sum-joins (omega (arith, D .three)) (omega (arith, D .three)) (omega (arith, D .few)) (omega arith)
-      (omega (arith, pow-mono {i = 1} {j = p} (omega (arith, D .low))))
-
   pub term-is : (n : ℕ) → n < length ws → weigh (ruleFor p) (column theColumns n) (decision (column theColumns n)) ≡ termOf p ws cs n
   term-is n h = rw (column-at q ws cs n h)
 
   shift-is : (n : ℕ) → n < length ws → shift (ruleFor p) theColumns n ≡ xor (sumTo (termOf p ws cs) (length ws)) (termOf p ws cs n)
   shift-is n h =
       let e : length theColumns ≡ length ws = length-columns q ws cs in
-      let s = split-decided (ruleFor p) theColumns ready-proper 0 n (omega arith) in
+      let s = split-decided (ruleFor p) theColumns (ready-proper p ws cs D) 0 n (omega arith) in
       let t : sumTo (λ j. weigh (ruleFor p) (column theColumns j) (decision (column theColumns j))) (length theColumns) ≡ sumTo (termOf p ws cs) (length ws) =
       rw e (sum-same _ _ (length ws) (λ j l. term-is j l)) in
       let d : decided (ruleFor p) theColumns ≡ sumTo (termOf p ws cs) (length ws) = decided-sum (ruleFor p) theColumns ∙ t in
       sym (xor-cancel (termOf p ws cs n) (shift (ruleFor p) theColumns n)) ∙ ap (xor (termOf p ws cs n)) (ap (λ y. xor y (shift (ruleFor p) theColumns n)) (sym (term-is n h)) ∙ sym s ∙ d) ∙ xor-comm _ _
 
-  module _ (bytes : (i : ℕ) → getD cs i 0 < 256) (X Y Z : List ℕ) (F : rowsOf X Y Z ≡ filled (keyOf (ruleFor p) theColumns ready-proper) q (length ws))
+  module _ (bytes : (i : ℕ) → getD cs i 0 < 256) (X Y Z : List ℕ) (F : rowsOf X Y Z ≡ filled (keyOf (ruleFor p) theColumns (ready-proper p ws cs D)) q (length ws))
     where
       entry-small : (a j : ℕ) → a < q → j < length theColumns → entry (ruleFor p) theColumns a j ≤ 255
       unfolding entry
       entry-small a j l h =
           let e : length theColumns ≡ length ws = length-columns q ws cs in
-          let s = symbol-at (ruleFor p) theColumns ready-proper j h a l in
+          let s = symbol-at (ruleFor p) theColumns (ready-proper p ws cs D) j h a l in
           let x : ℕ = symbolAt (ruleFor p) (column theColumns j) a in
           let c : costAt (column theColumns j) x ≡ getD (costsAt q cs j) x 0 = ap (λ c. costAt c x) (column-at q ws cs j (omega arith)) in
           let g : getD (costsAt q cs j) x 0 ≡ getD cs (j * q + x) 0 = (let h : x < q = s .1 in rw (getD-take, getD-drop)) in
@@ -118,8 +74,8 @@ module _ (p : ℕ) (ws cs : List ℕ) (D : Ready p ws cs) where
       pub kept : (b : ℕ) → b < q → Kept (entry (ruleFor p) theColumns b) (length theColumns) (getD X b 0) (getD Y b 0) (getD Z b 0)
       kept b l =
           let e : length theColumns ≡ length ws = length-columns q ws cs in
-          let r = rows-kept (ruleFor p) theColumns ready-proper (omega (arith, D .three)) (omega (arith, D .few)) entry-small b l in
-          subst (λ (R : Rows). Kept (entry (ruleFor p) theColumns b) (length theColumns) (getD (R .xs) b 0) (getD (R .ys) b 0) (getD (R .zs) b 0)) (ap (filled (keyOf (ruleFor p) theColumns ready-proper) q) e ∙ sym F) r
+          let r = rows-kept (ruleFor p) theColumns (ready-proper p ws cs D) (omega (arith, D .three)) (omega (arith, D .few)) entry-small b l in
+          subst (λ (R : Rows). Kept (entry (ruleFor p) theColumns b) (length theColumns) (getD (R .xs) b 0) (getD (R .ys) b 0) (getD (R .zs) b 0)) (ap (filled (keyOf (ruleFor p) theColumns (ready-proper p ws cs D)) q) e ∙ sym F) r
 
       limit : q ≤ 64
       limit = pow-mono {i = p} {j = 6} (D .high)
@@ -136,5 +92,5 @@ module _ (p : ℕ) (ws cs : List ℕ) (D : Ready p ws cs) where
             each-blocks (group (ruleFor p) theColumns) 1 (q - 1)
             ∙ blocks-ext (λ j. group (ruleFor p) theColumns (1 + j)) (λ i. groupOf _+_ T q (length ws) (i + 1)) (q - 1) (λ j l.
             let u : 1 + j ≡ j + 1 = omega arith in
-            rw (u, ← e) (group-is (ruleFor p) theColumns ready-proper refl (omega (arith, D .three)) (omega (arith, D .few)) limit X Y Z kept T (λ m h. without m (omega arith)) (j + 1) (omega arith) (omega arith))) in
+            rw (u, ← e) (group-is (ruleFor p) theColumns (ready-proper p ws cs D) refl (omega (arith, D .three)) (omega (arith, D .few)) limit X Y Z kept T (λ m h. without m (omega arith)) (j + 1) (omega arith) (omega arith))) in
             rw (a, b)

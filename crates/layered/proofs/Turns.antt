@@ -16,14 +16,14 @@ use Rattle.trellis.specs.Lists.{upTo, each, upto, allTo, tab, part, patch, bloc
 use Rattle.trellis.specs.Check.{Column, column, blank}
 use Rattle.trellis.specs.Record.{recordOf, recordLength, recordOk, expandAt, expansion}
 use Rattle.trellis.specs.Rules.{ruleFor, columnsOf, costsAt}
+use Rattle.trellis.specs.Ready.{Ready}
 use Rattle.trellis.proofs.Tests.{to-true, all-of}
 use Rattle.trellis.proofs.Lists.{of-upTo}
 use Rattle.trellis.proofs.Places.{map-ext, slice-each, length-count}
 use Rattle.trellis.proofs.Loops.{length-tab, getD-tab}
 use Rattle.trellis.proofs.Instances.{first-zero}
-use Rattle.trellis.proofs.Form.{record-ok}
-use Rattle.engine.specs.Ready.{Ready}
-use Rattle.engine.proofs.Record.{length-columns, column-at, ready-proper}
+use Rattle.trellis.proofs.Ready.{length-columns, column-at}
+use Rattle.trellis.proofs.Messages.{ready-form}
 use Rattle.checknode.specs.Answers.{weightOk, weightsOk, zeroOk, checkLeaves, expandLeaves}
 use Rattle.machine.specs.CodeLine.{edgeAt, columnOf}
 use Rattle.machine.specs.Machine.{scaled, incoming, outgoing, arriving, spread}
@@ -171,13 +171,9 @@ module _ (p : ℕ) (ws Q : List ℕ) (D : Ready p ws Q) where
       )
       (append-nil (recordOf (ruleFor p) (columnsOf (2 ^ p) ws Q)))
 
-  -- the record is one that expand accepts
-  pub record-fits : recordOk (ruleFor p) (length ws) (recordOf (ruleFor p) (columnsOf (2 ^ p) ws Q)) ≡ true
-  record-fits = ap (λ d. recordOk (ruleFor p) d (recordOf (ruleFor p) (columnsOf (2 ^ p) ws Q))) (sym (length-columns (2 ^ p) ws Q)) ∙ record-ok (ruleFor p) (columnsOf (2 ^ p) ws Q) (ready-proper p ws Q D)
-
   pub sent-is : (new out last : List ℕ) → new ≡ recordOf (ruleFor p) (columnsOf (2 ^ p) ws Q) → length out ≡ length ws * 2 ^ p → last ≡ expandLeaves p ws new out
       → last ≡ expansion (ruleFor p) ws (recordOf (ruleFor p) (columnsOf (2 ^ p) ws Q))
-  sent-is new out last e f o = o ∙ rw e (expand-accepts p ws (recordOf (ruleFor p) (columnsOf (2 ^ p) ws Q)) out ready-weighed record-fits f)
+  sent-is new out last e f o = o ∙ rw e (expand-accepts p ws (recordOf (ruleFor p) (columnsOf (2 ^ p) ws Q)) out ready-weighed (ready-form p ws Q D) f)
 
 module _ (p g : ℕ) (first : Bool) (cs ws P r Q S : List ℕ) (U : UpdateRoom p g first cs ws P r Q S) where
   abbrev pub arrived : List ℕ

@@ -9,7 +9,7 @@ use Rattle.trellis.specs.Lists.{pick, tab}
 use Rattle.trellis.specs.Check.{Column}
 use Rattle.trellis.specs.Record.{recordOf, recordLength, recordOk, expansion}
 use Rattle.trellis.specs.Rules.{ruleFor}
-use Rattle.engine.specs.Ready.{Ready}
+use Rattle.trellis.specs.Ready.{Ready}
 use Rattle.machine.specs.Machine.{spread}
 use Rattle.machine.specs.Lent.{weightsOf, heard, gathered}
 use Rattle.machine.specs.Tables.{edgesOf}

@@ -14,4 +14,6 @@ pub mod Kept
 pub mod Instances
 pub mod FieldLaws
 pub mod Recurrence
+pub mod Ready
+pub mod Messages
 pub mod Bench

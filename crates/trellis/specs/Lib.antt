@@ -5,5 +5,6 @@ pub mod Check
 pub mod Record
 pub mod Rows
 pub mod Rules
+pub mod Ready
 pub mod Reply
 pub mod Bench

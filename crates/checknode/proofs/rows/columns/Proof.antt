@@ -1,5 +1,4 @@
 -- After n turns the rows hold the three least keys of the first n columns, and the terms h times z of these stand in out.
-use Rattle.engine.proofs.Record.{costs-length}
 use mathlib.Core.Path.{_≡_, refl, ap, _∙_}
 use mathlib.Core.List.{_++_}
 use Prim.Native.Nat.{_^_, _≤_, _-_}
@@ -8,9 +7,10 @@ use borrow.Author.Needs.{needs}
 use lib.ListN.{length, drop, length-set}
 use Rattle.trellis.specs.Lists.{tab}
 use Rattle.engine.specs.Fill.{rowsOf, filled}
-use Rattle.engine.specs.Ready.{termOf, sumTo, keysOf}
+use Rattle.engine.specs.Terms.{termOf, sumTo, keysOf}
 use Rattle.checknode.specs.Asks.{Sizes}
 use Rattle.trellis.proofs.Loops.{tab-whole}
+use Rattle.trellis.proofs.Ready.{costs-length}
 use Rattle.checknode.proofs.Turns.{ready-times, part-is, part-room, rows-turn, term-turn, out-turn, sum-turn}
 use Rattle.checknode.proofs.rows.columns.Statement.{statement}
 use Rattle.checknode.proofs.rows.columns.Tie as tie
