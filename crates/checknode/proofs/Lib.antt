@@ -12,3 +12,4 @@ pub mod Expanding
 pub mod Forming
 pub mod ExpandCall
 pub mod Values
+pub mod Messages

@@ -1,0 +1,173 @@
+-- Demand 2 for the messages, as a claim about two calls: a check that is accepted, and an expansion of the record that it wrote. Over what the
+-- calls promise (Demand-2-messages), and stated of the two functions' own contracts (check-then-expand).
+use mathlib.Core.Path.{_≡_, refl, sym, ap, _∙_}
+use mathlib.Core.Bool.{Bool, true, false}
+use mathlib.Core.List.{List, _++_}
+use Prim.Native.Nat.{ℕ, _+_, _*_, _^_, _≤_, _<_}
+use native.Mathlib.Decide.{decLt, ℕ-discrete}
+use native.Mathlib.Omega.{arith}
+use lib.ListN.{length, getD, take, drop, List·getD-append}
+use lib.Seq.{take-at, drop-at}
+use contract.Lifetimes.{Lfts}
+use denote.Ref.{now}
+use denote.Triple.Clauses.{AtExit}
+use borrow.Fn.Kinds.{endedOf}
+use borrow.Fn.World.{ArgsD, ResD}
+use Rattle.trellis.specs.Lists.{others, allTo}
+use Rattle.trellis.specs.Field.{product}
+use Rattle.trellis.specs.Check.{Column, IsLeast, allSent}
+use Rattle.trellis.specs.Record.{recordOf, recordLength}
+use Rattle.trellis.specs.Rules.{ruleFor, columnsOf}
+use Rattle.trellis.specs.Ready.{Ready}
+use Rattle.trellis.specs.Reply.{Reply, accepted, refusal}
+use Rattle.checknode.specs.declared.Written.{Written}
+use Rattle.checknode.specs.declared.Written.the-variants.{Bytes, Refused}
+use Rattle.checknode.specs.Answers.{writtenReply, zeroOk, checkReply, checkLeaves, expandReply, expandLeaves}
+use Rattle.checknode.specs.Asks.{weightsFault}
+use Rattle.trellis.proofs.Messages.{ready-length, ready-form, ready-messages, ready-many, ready-least}
+use Rattle.checknode.proofs.Refusals.{part-room, Weighed, no-fault, ready-law, check-case, expand-case}
+use Rattle.checknode.proofs.CheckCall.{RefusedBy, refused-fault, refused-12, refused-13, refused-4}
+use Rattle.checknode.proofs.check as check
+use Rattle.checknode.proofs.check.Kinds as check-kinds
+use Rattle.checknode.proofs.check.Reads as check-reads
+use Rattle.checknode.proofs.expand as expand
+use Rattle.checknode.proofs.expand.Kinds as expand-kinds
+use Rattle.checknode.proofs.expand.Reads as expand-reads
+
+-- what a call of check promises: its reply, and the record buffer afterwards
+pub record Checks (p : ℕ) (weights costs out : List ℕ) (reply : Reply) (out′ : List ℕ) : Type 0 where
+  pub replies : reply ≡ checkReply p weights costs out
+  pub out-then : out′ ≡ checkLeaves p weights costs out
+
+-- what a call of expand promises
+pub record Expands (p : ℕ) (weights bytes out : List ℕ) (reply : Reply) (out′ : List ℕ) : Type 0 where
+  pub replies : reply ≡ expandReply p weights bytes out
+  pub out-then : out′ ≡ expandLeaves p weights bytes out
+
+-- What the two leave. The first n bytes of the check's buffer are its record; the expansion of these is not refused and writes d times q bytes,
+-- all the sent costs; and the byte of column k at symbol x is the least cost over choices for the other columns that have at most two deviations
+-- and whose weighted sum is h_k times x. Past what is written each buffer keeps its content
+pub record Sends (p : ℕ) (weights costs : List ℕ) (n : ℕ) (out out′ : List ℕ) (reply : Reply) (buffer buffer′ : List ℕ) : Type 0 where
+  pub ready : Ready p weights costs
+  pub bytes : n ≡ recordLength (ruleFor p) (length weights)
+  pub packed : take n out′ ≡ recordOf (ruleFor p) (columnsOf (2 ^ p) weights costs)
+  pub expands : reply ≡ accepted (length weights * 2 ^ p)
+  pub sents : take (length weights * 2 ^ p) buffer′ ≡ allSent (ruleFor p) (columnsOf (2 ^ p) weights costs)
+  pub least : (k x : ℕ) → k < length weights → x < 2 ^ p
+      → IsLeast (ruleFor p) (others k (columnsOf (2 ^ p) weights costs)) (product p (getD weights k 0) x) (getD buffer′ (k * 2 ^ p + x) 0)
+  pub out-rest : drop n out′ ≡ drop n out
+  pub buffer-rest : drop (length weights * 2 ^ p) buffer′ ≡ drop (length weights * 2 ^ p) buffer
+
+-- demand 2 for the messages: any check that is accepted, with n bytes written, and any expansion of these n bytes under the same p and weights, in
+-- a buffer long enough, whatever this held before
+abbrev pub Demand-2-messages : Type 0
+Demand-2-messages =
+    (p : ℕ) (weights costs : List ℕ) (n : ℕ) (out out′ : List ℕ) → Checks p weights costs out (accepted n) out′
+    → (buffer : List ℕ) → length weights * 2 ^ p ≤ length buffer
+    → (r : Reply) (buffer′ : List ℕ) → Expands p weights (take n out′) buffer r buffer′
+    → Sends p weights costs n out out′ r buffer buffer′
+
+not-both : {b : Bool} → true ≡ b → b ≡ false → ⊥
+not-both e f = let z : _≡_ {A = ℕ} 0 1 = cc in omega arith
+
+-- a check that is not refused: its reply and what it leaves
+record Passed (p : ℕ) (ws cs out : List ℕ) : Type 0 where
+  weighed : Weighed p ws
+  ready : Ready p ws cs
+  reply : checkReply p ws cs out ≡ accepted (recordLength (ruleFor p) (length ws))
+  leaves : checkLeaves p ws cs out ≡ recordOf (ruleFor p) (columnsOf (2 ^ p) ws cs) ++ drop (recordLength (ruleFor p) (length ws)) out
+
+module _ (p : ℕ) (ws cs out : List ℕ) (a : checkReply p ws cs out .refused ≡ false) where
+  never : {A : Type 0} {k : ℕ} → RefusedBy p ws cs out k → A
+  never R = absurd (not-both (ap (λ (r : Reply). r .refused) (R .0)) a)
+
+  module _ (W : Weighed p ws) where
+    module _ (c : length cs ≡ length ws * 2 ^ p) where
+      with-room : allTo (zeroOk (2 ^ p) cs) (length ws) ≡ true → recordLength (ruleFor p) (length ws) ≤ length out → Passed p ws cs out
+      unfolding checkReply checkLeaves
+      with-room z l =
+          record {
+            weighed = W;
+            ready = ready-law p ws W cs c z;
+            reply = sym (check-case p ws W (length out) (λ k. refusal k) _ cs c z l);
+            leaves = sym (check-case p ws W (length out) (λ k. out) _ cs c z l);
+          }
+
+      with-zeros : (b : Bool) → allTo (zeroOk (2 ^ p) cs) (length ws) ≡ b → Passed p ws cs out
+      with-zeros true z =
+          elim (decLt (length out) (recordLength (ruleFor p) (length ws))) [
+            | yes l ↦ never (refused-4 p ws cs out W (2 ^ p) refl c refl z l)
+            | no l ↦ with-room z (omega arith)
+          ]
+      with-zeros false z = never (refused-13 p ws cs out W (2 ^ p) refl c refl z)
+
+    with-weights : Passed p ws cs out
+    with-weights =
+        elim (ℕ-discrete (length cs) (length ws * 2 ^ p)) [
+          | yes c ↦ with-zeros c (allTo (zeroOk (2 ^ p) cs) (length ws)) refl
+          | no c ↦ never (refused-12 p ws cs out W (2 ^ p) refl c)
+        ]
+
+  passed : Passed p ws cs out
+  passed =
+      elim (ℕ-discrete (weightsFault p ws) 0) [
+        | yes e ↦ with-weights (no-fault p ws e)
+        | no e ↦ never (refused-fault p ws cs out refl e)
+      ]
+
+pub demand-2-messages : Demand-2-messages
+unfolding expandReply expandLeaves
+demand-2-messages p ws cs n out out′ C buffer long r buffer′ E =
+    let cols : List Column = columnsOf (2 ^ p) ws cs in
+    let rec : List ℕ = recordOf (ruleFor p) cols in
+    let d : ℕ = length ws * 2 ^ p in
+    let P = passed p ws cs out (ap (λ (r : Reply). r .refused) (sym (C .replies))) in
+    let D = P .ready in
+    let k : n ≡ recordLength (ruleFor p) (length ws) = ap (λ (r : Reply). r .value) (C .replies ∙ P .reply) in
+    let l : length rec ≡ n = ready-length p ws cs D ∙ sym k in
+    let w : out′ ≡ rec ++ drop n out = C .out-then ∙ P .leaves ∙ ap (λ k. rec ++ drop k out) (sym k) in
+    let t : take n out′ ≡ rec = ap (take n) w ∙ take-at rec (drop n out) n l in
+    let f = ready-form p ws cs D in
+    let x : buffer′ ≡ allSent (ruleFor p) cols ++ drop d buffer =
+    E .out-then
+    ∙ ap (λ b. expandLeaves p ws b buffer) t
+    ∙ sym (expand-case p ws (P .weighed) (length buffer) (λ k. buffer) _ rec f long)
+    ∙ ap (λ l. l ++ drop d buffer) (ready-messages p ws cs D) in
+    let m : length (allSent (ruleFor p) cols) ≡ d = ready-many p ws cs D in
+    record {
+      ready = D;
+      bytes = k;
+      packed = t;
+      expands = E .replies ∙ ap (λ b. expandReply p ws b buffer) t ∙ sym (expand-case p ws (P .weighed) (length buffer) (λ k. refusal k) _ rec f long);
+      sents = ap (take d) x ∙ take-at (allSent (ruleFor p) cols) (drop d buffer) d m;
+      least = λ k y h l.
+          let i : k * 2 ^ p + y < length (allSent (ruleFor p) cols) = omega (arith, m, part-room k (length ws) (2 ^ p) h) in
+          rw (x, List·getD-append (allSent (ruleFor p) cols) (drop d buffer) 0 (k * 2 ^ p + y) i) (ready-least p ws cs D k y h l);
+      out-rest = ap (drop n) w ∙ drop-at rec (drop n out) n l;
+      buffer-rest = ap (drop d) x ∙ drop-at (allSent (ruleFor p) cols) (drop d buffer) d m;
+    }
+
+written-bytes : (r : Written) (n : ℕ) → writtenReply r ≡ accepted n → r ≡ Bytes n
+written-bytes (Bytes m) n e = ap Bytes (ap (λ (r : Reply). r .value) e)
+written-bytes (Refused k) n e = absurd (not-both (ap (λ (r : Reply). r .refused) e) refl)
+
+given : {A : Type 0} (f : ℕ → List ℕ → List ℕ → A) {p q : ℕ} {v w l m : List ℕ} → p ≡ q → v ≡ w → l ≡ m → f p v l ≡ f q w m
+given f e g h = rw (e, g, h)
+
+-- the arguments a are check's p, weights, costs, out, and b are expand's p, weights, bytes, out; s and s′ hold them as the calls return; each
+-- reads.Post is the function's ensures
+module _ (κs κs′ : Lfts 3) (a : ArgsD check.signature κs) (b : ArgsD expand.signature κs′) (r : ResD check.signature κs) (r′ : ResD expand.signature κs′) (s : AtExit (endedOf 3 check-kinds.ps check-kinds.r) κs) (s′ : AtExit (endedOf 3 expand-kinds.ps expand-kinds.r) κs′) where
+  pub check-then-expand : a .0 ≡ b .0 → now (a .1 .0) ≡ now (b .1 .0) → (n : ℕ) → r ≡ Bytes n → now (b .1 .1 .0) ≡ take n (now (s .1 .1 .1 .0))
+      → length (now (a .1 .0)) * 2 ^ a .0 ≤ length (now (b .1 .1 .1 .0))
+      → check-reads.Post κs a r s → expand-reads.Post κs′ b r′ s′
+      → (r′ ≡ Bytes (length (now (a .1 .0)) * 2 ^ a .0))
+      × Sends (a .0) (now (a .1 .0)) (now (a .1 .1 .0)) n (now (a .1 .1 .1 .0)) (now (s .1 .1 .1 .0)) (writtenReply r′) (now (b .1 .1 .1 .0)) (now (s′ .1 .1 .1 .0))
+  check-then-expand same-p same-weights n e same-bytes long c x =
+      let S =
+      demand-2-messages (a .0) (now (a .1 .0)) (now (a .1 .1 .0)) n (now (a .1 .1 .1 .0)) (now (s .1 .1 .1 .0)) (record { replies = sym (ap writtenReply e) ∙ c .0; out-then = c .1 })
+      (now (b .1 .1 .1 .0)) long (writtenReply r′) (now (s′ .1 .1 .1 .0))
+      (record {
+        replies = x .0 ∙ given (λ p w l. expandReply p w l (now (b .1 .1 .1 .0))) (sym same-p) (sym same-weights) same-bytes;
+        out-then = x .1 ∙ given (λ p w l. expandLeaves p w l (now (b .1 .1 .1 .0))) (sym same-p) (sym same-weights) same-bytes;
+      }) in
+      (written-bytes r′ _ (S .expands), S)
