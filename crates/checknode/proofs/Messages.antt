@@ -23,6 +23,7 @@ use Rattle.trellis.specs.Reply.{Reply, accepted, refusal}
 use Rattle.checknode.specs.declared.Written.{Written}
 use Rattle.checknode.specs.declared.Written.the-variants.{Bytes, Refused}
 use Rattle.checknode.specs.Answers.{writtenReply, zeroOk, checkReply, checkLeaves, expandReply, expandLeaves}
+use Rattle.checknode.specs.Demand.{Sends, Demand-2-messages}
 use Rattle.checknode.specs.Asks.{weightsFault}
 use Rattle.trellis.proofs.Messages.{ready-length, ready-form, ready-messages, ready-many, ready-least}
 use Rattle.checknode.proofs.Refusals.{part-room, Weighed, no-fault, ready-law, check-case, expand-case}
@@ -33,39 +34,6 @@ use Rattle.checknode.proofs.check.Reads as check-reads
 use Rattle.checknode.proofs.expand as expand
 use Rattle.checknode.proofs.expand.Kinds as expand-kinds
 use Rattle.checknode.proofs.expand.Reads as expand-reads
-
--- what a call of check promises: its reply, and the record buffer afterwards
-pub record Checks (p : ℕ) (weights costs out : List ℕ) (reply : Reply) (out′ : List ℕ) : Type 0 where
-  pub replies : reply ≡ checkReply p weights costs out
-  pub out-then : out′ ≡ checkLeaves p weights costs out
-
--- what a call of expand promises
-pub record Expands (p : ℕ) (weights bytes out : List ℕ) (reply : Reply) (out′ : List ℕ) : Type 0 where
-  pub replies : reply ≡ expandReply p weights bytes out
-  pub out-then : out′ ≡ expandLeaves p weights bytes out
-
--- What the two leave. The first n bytes of the check's buffer are its record; the expansion of these is not refused and writes d times q bytes,
--- all the sent costs; and the byte of column k at symbol x is the least cost over choices for the other columns that have at most two deviations
--- and whose weighted sum is h_k times x. Past what is written each buffer keeps its content
-pub record Sends (p : ℕ) (weights costs : List ℕ) (n : ℕ) (out out′ : List ℕ) (reply : Reply) (buffer buffer′ : List ℕ) : Type 0 where
-  pub ready : Ready p weights costs
-  pub bytes : n ≡ recordLength (ruleFor p) (length weights)
-  pub packed : take n out′ ≡ recordOf (ruleFor p) (columnsOf (2 ^ p) weights costs)
-  pub expands : reply ≡ accepted (length weights * 2 ^ p)
-  pub sents : take (length weights * 2 ^ p) buffer′ ≡ allSent (ruleFor p) (columnsOf (2 ^ p) weights costs)
-  pub least : (k x : ℕ) → k < length weights → x < 2 ^ p
-      → IsLeast (ruleFor p) (others k (columnsOf (2 ^ p) weights costs)) (product p (getD weights k 0) x) (getD buffer′ (k * 2 ^ p + x) 0)
-  pub out-rest : drop n out′ ≡ drop n out
-  pub buffer-rest : drop (length weights * 2 ^ p) buffer′ ≡ drop (length weights * 2 ^ p) buffer
-
--- demand 2 for the messages: any check that is accepted, with n bytes written, and any expansion of these n bytes under the same p and weights, in
--- a buffer long enough, whatever this held before
-abbrev pub Demand-2-messages : Type 0
-Demand-2-messages =
-    (p : ℕ) (weights costs : List ℕ) (n : ℕ) (out out′ : List ℕ) → Checks p weights costs out (accepted n) out′
-    → (buffer : List ℕ) → length weights * 2 ^ p ≤ length buffer
-    → (r : Reply) (buffer′ : List ℕ) → Expands p weights (take n out′) buffer r buffer′
-    → Sends p weights costs n out out′ r buffer buffer′
 
 not-both : {b : Bool} → true ≡ b → b ≡ false → ⊥
 not-both e f = let z : _≡_ {A = ℕ} 0 1 = cc in omega arith

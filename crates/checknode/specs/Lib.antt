@@ -1,3 +1,4 @@
 pub mod Answers
 pub mod Asks
 pub mod Table
+pub mod Demand

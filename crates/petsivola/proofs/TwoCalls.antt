@@ -16,25 +16,12 @@ use Rattle.machine.specs.CodeLine.{Code}
 use Rattle.machine.specs.Machine.{Status, found, notFound, run, used}
 use Rattle.machine.specs.Decoding.{After, outcome, decoding, Accepts, Room, Kept, Agree}
 use Rattle.petsivola.specs.Packed.{packed}
+use Rattle.petsivola.specs.Demand.{Returned, ComparedCalls}
 use Rattle.machine.proofs.Demand.{demand-3}
 use Rattle.petsivola.proofs.Iterations.{run-most, parse-limit}
 use Rattle.petsivola.proofs.petsivola_decode as decode
 use Rattle.petsivola.proofs.petsivola_decode.Kinds as kinds
 use Rattle.petsivola.proofs.petsivola_decode.Reads as reads
-
--- One call's result and store, for the run of the machine on its frame. The store's used part and what stands in it are as demand 3 has them
--- (Kept); the result is the run's reply as one number: not a refusal, but 0 (found) or 1 (not found), with the iterations. That I, the sixth byte
--- of the code line, is a byte is asked for here alone
-pub record Returned (code : List ℕ) (C : Code) (f : List ℕ) (result : ℕ) (store : List ℕ) : Type 0 where
-  pub kept : Kept C f (outcome (run C f .status) (run C f .end .t)) store
-  pub packs : result ≡ packed (outcome (run C f .status) (run C f .end .t))
-  pub not-refused : getD code 5 0 < 256 → result / 65536 ≤ 1
-  pub iterations : getD code 5 0 < 256 → result % 65536 ≡ run C f .end .t
-
-pub record ComparedCalls (code : List ℕ) (C : Code) (f f′ : List ℕ) (result result′ : ℕ) (store store′ : List ℕ) : Type 0 where
-  pub one : Returned code C f result store
-  pub other : Returned code C f′ result′ store′
-  pub equal : (take (used C) store ≡ take (used C) store′) ↔ Agree C f f′
 
 -- a number that packs a result with fewer than 65,536 iterations
 unpacked : (o : Status) (t : ℕ) → t < 65536 → (packed (outcome o t) / 65536 ≤ 1) × (packed (outcome o t) % 65536 ≡ t)
