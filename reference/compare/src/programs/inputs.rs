@@ -125,17 +125,18 @@ impl Read for InPieces<'_> {
     }
 }
 
-/// An input that is longer than the program reads: the example, one line with almost all the bytes
-/// there may be, a frame, a frame whose last digit is past the limit, and more frames.
+/// An input that is longer than the program reads, whose output is another one with every other limit:
+/// the example, one line with almost all the bytes there may be, and a frame whose last digit is the
+/// last byte that may be read. With a lower limit this frame is cut or missing; with a higher one it
+/// has digits too many, and then come more frames.
 pub fn past_the_limit() -> impl Read + Send {
     let start = lines(&[CODE, FRAME]);
-    let long_end = lines(&[b"", FRAME]);
-    let cut = lines(&[FRAME, FRAME, FRAME]);
-    let before_limit = start.len() + long_end.len() + FRAME.len() - 1;
-    let before_limit = u64::try_from(before_limit).expect("a short input");
-    let long = io::repeat(b'0').take(INPUT_LIMIT - before_limit);
+    let last = [b"\n", FRAME].concat();
+    let past = lines(&[b"0", FRAME, FRAME]);
+    let around = u64::try_from(start.len() + last.len()).expect("a short input");
+    let long = io::repeat(b'0').take(INPUT_LIMIT - around);
     Cursor::new(start)
         .chain(long)
-        .chain(Cursor::new(long_end))
-        .chain(Cursor::new(cut))
+        .chain(Cursor::new(last))
+        .chain(Cursor::new(past))
 }
