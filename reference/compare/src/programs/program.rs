@@ -44,6 +44,16 @@ impl Program {
         Err(format!("{missing} ({ALLOW_VARIABLE}=1 lets it be missing)"))
     }
 
+    /// Where the program is.
+    pub fn path(&self) -> &Path {
+        &self.path
+    }
+
+    /// A command that runs the program.
+    pub fn command(&self) -> Command {
+        Command::new(&self.path)
+    }
+
     /// What the program prints on this input. Each read of the input becomes one write to the
     /// program.
     ///
@@ -51,8 +61,9 @@ impl Program {
     ///
     /// When the program cannot be run, ends by a signal or another status than 0, or writes to
     /// standard error.
-    pub(crate) fn output(&self, mut input: impl Read + Send) -> io::Result<Vec<u8>> {
-        let mut child = Command::new(&self.path)
+    pub fn output(&self, mut input: impl Read + Send) -> io::Result<Vec<u8>> {
+        let mut child = self
+            .command()
             .stdin(Stdio::piped())
             .stdout(Stdio::piped())
             .stderr(Stdio::piped())
