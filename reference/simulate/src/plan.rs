@@ -1,9 +1,11 @@
-//! What a run simulates: a curve over Eb/N0, a sweep over g, and a sweep over the cost scale.
+//! What a run simulates: a curve over Eb/N0, a sweep over g, a sweep over the cost scale, and a sweep
+//! over g by column weight.
 
 use reference_decoder::sample::Generator;
 
 use crate::progress::Progress;
 use crate::trial::{Count, Rule, Scene, Setup, Stop};
+use crate::weights::{self, Sweep};
 
 /// I of every decoding; document 003 simulates with 15 iterations.
 pub const LIMIT: u8 = 15;
@@ -27,6 +29,8 @@ pub struct Plan {
     pub scaling: Vec<(f64, Stop)>,
     /// Both rules with every cost scale.
     pub costs: Vec<(f64, Stop)>,
+    /// The proved rule with every g, once for each code of [`weights::codes`].
+    pub weights: Vec<(f64, Stop)>,
     /// What the frames depend on.
     pub seed: u64,
 }
@@ -40,6 +44,8 @@ pub struct Results {
     pub scaling: Vec<Count>,
     /// The sweep over the cost scale.
     pub costs: Vec<Count>,
+    /// The sweep over g by column weight.
+    pub weights: Vec<Sweep>,
 }
 
 impl Plan {
@@ -66,6 +72,11 @@ impl Plan {
             ]),
             scaling: stops(&[(2.5, 300, 300), (2.75, 300, 300)]),
             costs: stops(&[(2.5, 300, 300)]),
+            weights: stops(&[
+                (1.5, 1_000, 1_000),
+                (2.0, 2_000, 2_000),
+                (2.5, 1_000, 1_000),
+            ]),
             seed,
         }
     }
@@ -99,8 +110,20 @@ impl Plan {
                 &self.costs,
                 over_scale.concat(),
             ),
+            weights: self.by_weight(&mut seeds, progress),
         };
         progress.end();
         results
+    }
+
+    /// The sweep over g by column weight.
+    fn by_weight(&self, seeds: &mut Generator, progress: &mut Progress) -> Vec<Sweep> {
+        progress.stage("sweep over g by column weight");
+        let trials = weights::codes().into_iter().zip(&self.weights);
+        trials
+            .map(|(code, &(decibels, stop))| {
+                weights::sweep(code, decibels, stop, seeds.bits(), progress)
+            })
+            .collect()
     }
 }

@@ -1,5 +1,7 @@
 //! The Markdown document and the chart that a run writes.
 
+mod weights;
+
 use crate::chart::{Axis, Chart, Point, Series, Stroke, COLOURS};
 use crate::encoder::Encoder;
 use crate::plan::{Plan, Results, COSTS_PER_NAT, LIMIT, MIN_MAX_G, PROVED_G};
@@ -25,6 +27,7 @@ pub fn markdown(plan: &Plan, encoder: &Encoder, results: &Results) -> String {
          to it. g as in the curve.\n\n"
             .to_string(),
         table(&results.costs),
+        weights::section(&results.weights),
     ];
     parts.concat().trim_end().to_string() + "\n"
 }

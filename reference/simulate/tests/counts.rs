@@ -73,9 +73,14 @@ fn the_document_has_every_trial() {
     assert_eq!(results.curve.len(), 2 * plan.curve.len());
     assert_eq!(results.scaling.len(), 10 * plan.scaling.len());
     assert_eq!(results.costs.len(), 10 * plan.costs.len());
+    assert_eq!(results.weights.len(), plan.weights.len());
     let text = report::markdown(&plan, &scene.encoder, &results);
     let rows = text.lines().filter(|line| line.contains("| proved |"));
     assert_eq!(rows.count(), 7 + 5 * 2 + 5);
+    let rows = text
+        .lines()
+        .filter(|line| line.matches(" of 1 |").count() == 3);
+    assert_eq!(rows.count(), 11);
     let svg = report::chart(&results.curve).svg();
     assert!(svg.starts_with("<svg") && svg.ends_with("</svg>\n"));
 }
