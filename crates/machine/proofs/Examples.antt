@@ -9,7 +9,7 @@ use Rattle.trellis.specs.Check.{extra, sentAt, leastCost, choices, shift, decid
 use Rattle.trellis.specs.Record.{recordOf, shifts, group, above}
 use Rattle.trellis.specs.Reply.{foundIn}
 use Rattle.machine.specs.CodeLine.{Code, edge, good, parse, checks, checkAt, edges, readEdge, frameFault, rule}
-use Rattle.machine.specs.Machine.{run, go, iteration, update, spread, arriving, outgoing, incoming, message, settled, symbols, records, place}
+use Rattle.machine.specs.Machine.{scaled, run, go, iteration, update, spread, arriving, outgoing, incoming, message, settled, symbols, records, place, Status, found, notFound}
 use Rattle.machine.specs.Decoding.{decoding, inBuffers, After, lastUpdate}
 
 abbrev line : List ℕ
@@ -67,6 +67,61 @@ pub equal-sents : (sentIn frame-3 ≡ sentIn frame-4) × ((call frame-3 .store �
 unfolding decoding inBuffers parse checks checkAt edges readEdge frameFault place records run go iteration update spread arriving outgoing incoming message settled symbols sent leastCost choices xor recordOf shifts group above extra sentAt shift decided
 equal-sents = (refl, (refl, refl))
 
+-- Columns of the two runs below: a cost is scaled down to a whole number; a difference of 257 is capped; of differences below 0 the least is
+-- subtracted before the cap, -7 244 -13 242; and one where all of the offset is used, 9 -255 0 9
+pub columns : (scaled 10 2 ≡ 1)
+    × ((incoming 4 (257 ∷ 0 ∷ 8 ∷ 12 ∷ []) (0 ∷ 0 ∷ 0 ∷ 0 ∷ []) ≡ 255 ∷ 0 ∷ 8 ∷ 12 ∷ [])
+    × ((incoming 4 (0 ∷ 244 ∷ 0 ∷ 247 ∷ []) (7 ∷ 0 ∷ 13 ∷ 5 ∷ []) ≡ 6 ∷ 255 ∷ 0 ∷ 255 ∷ [])
+    × (incoming 4 (9 ∷ 0 ∷ 255 ∷ 264 ∷ []) (0 ∷ 255 ∷ 255 ∷ 255 ∷ []) ≡ 255 ∷ 0 ∷ 255 ∷ 255 ∷ [])))
+unfolding incoming
+columns = (refl, (refl, (refl, refl)))
+
+-- Two checks that share columns 1 and 2, g = 10, at most I iterations. In the first iteration check 1 has the differences 257 0 8 12 in column 1
+-- and 9 256 0 257 in column 2. In the second, check 0 subtracts what it sent before: from column 0 1 0 3 5, which is 10/16 of 2 0 6 8. Check 1
+-- then has -7 244 -13 242 in column 2
+abbrev code-2 : ℕ → Code
+code-2 I = record { p = 2; columns = 4; scale = 10; limit = I; checks = (edge 0 1 ∷ edge 1 2 ∷ edge 2 2 ∷ []) ∷ (edge 1 1 ∷ edge 2 2 ∷ edge 3 3 ∷ []) ∷ [] }
+
+abbrev frame-5 : List ℕ
+frame-5 = 255 ∷ 0 ∷ 255 ∷ 4 ∷ 255 ∷ 0 ∷ 2 ∷ 9 ∷ 6 ∷ 255 ∷ 0 ∷ 255 ∷ 255 ∷ 0 ∷ 29 ∷ 21 ∷ []
+
+-- status, t, P, the decisions, the records
+pub record Ends (C : Code) (f : List ℕ) (o : Status) (t : ℕ) (P z rs : List ℕ) : Type 0 where
+  pub status : run C f .status ≡ o
+  pub iterations : run C f .end .t ≡ t
+  pub costs : run C f .end .costs ≡ P
+  pub decisions : symbols C (run C f .end .costs) ≡ z
+  pub store : records C (run C f .end) ≡ rs
+
+pub one-iteration : Ends (code-2 1) frame-5 notFound 1
+    (256 ∷ 0 ∷ 258 ∷ 9 ∷ 242 ∷ 0 ∷ 13 ∷ 4 ∷ 3 ∷ 242 ∷ 0 ∷ 247 ∷ 249 ∷ 0 ∷ 21 ∷ 8 ∷ [])
+    (1 ∷ 1 ∷ 2 ∷ 1 ∷ [])
+    (1 ∷ 2 ∷ 3 ∷ 2 ∷ 1 ∷ 10 ∷ 255 ∷ 0 ∷ 4 ∷ 0 ∷ 8 ∷ 255 ∷ 0 ∷ 6 ∷ 255 ∷ 0 ∷ 255 ∷ 0 ∷ 0 ∷ 2 ∷ 2 ∷ 21 ∷ 255 ∷ 0 ∷ 255 ∷ 0 ∷ 12 ∷ 0 ∷ 29 ∷ 255 ∷ 0 ∷ 8 ∷ 0 ∷ 9 ∷ 255 ∷ 0 ∷ [])
+unfolding run go iteration update spread arriving outgoing incoming message settled symbols records sent leastCost choices xor recordOf shifts group above extra sentAt shift decided
+one-iteration = record { status = refl; iterations = refl; costs = refl; decisions = refl; store = refl }
+
+pub two-iterations : Ends (code-2 2) frame-5 found 2
+    (259 ∷ 0 ∷ 255 ∷ 8 ∷ 243 ∷ 1 ∷ 8 ∷ 0 ∷ 0 ∷ 244 ∷ 2 ∷ 246 ∷ 251 ∷ 0 ∷ 22 ∷ 12 ∷ [])
+    (1 ∷ 3 ∷ 0 ∷ 1 ∷ [])
+    (2 ∷ 1 ∷ 3 ∷ 4 ∷ 0 ∷ 7 ∷ 2 ∷ 5 ∷ 4 ∷ 0 ∷ 7 ∷ 255 ∷ 0 ∷ 0 ∷ 2 ∷ 1 ∷ 255 ∷ 0 ∷ 0 ∷ 2 ∷ 2 ∷ 15 ∷ 0 ∷ 21 ∷ 1 ∷ 21 ∷ 9 ∷ 0 ∷ 27 ∷ 255 ∷ 0 ∷ 4 ∷ 0 ∷ 6 ∷ 255 ∷ 0 ∷ [])
+unfolding run go iteration update spread arriving outgoing incoming message settled symbols records sent leastCost choices xor recordOf shifts group above extra sentAt shift decided
+two-iterations = record { status = refl; iterations = refl; costs = refl; decisions = refl; store = refl }
+
+-- g = 16, and the two checks contradict each other at column 2: in the second iteration it has a symbol of cost 0 whose old scaled cost is 255,
+-- the greatest there is. With a smaller offset the difference would be cut off, and the frame not be found
+abbrev pub code-3 : Code
+code-3 = record { p = 2; columns = 5; scale = 16; limit = 2; checks = (edge 0 1 ∷ edge 1 1 ∷ edge 2 1 ∷ []) ∷ (edge 2 1 ∷ edge 3 1 ∷ edge 4 1 ∷ []) ∷ [] }
+
+abbrev pub frame-6 : List ℕ
+frame-6 = 0 ∷ 255 ∷ 255 ∷ 255 ∷ 0 ∷ 255 ∷ 255 ∷ 255 ∷ 9 ∷ 0 ∷ 0 ∷ 9 ∷ 0 ∷ 255 ∷ 255 ∷ 255 ∷ 255 ∷ 0 ∷ 255 ∷ 255 ∷ []
+
+pub whole-offset : Ends code-3 frame-6 found 2
+    (0 ∷ 0 ∷ 255 ∷ 255 ∷ 0 ∷ 0 ∷ 255 ∷ 255 ∷ 0 ∷ 0 ∷ 255 ∷ 255 ∷ 0 ∷ 0 ∷ 255 ∷ 255 ∷ 0 ∷ 0 ∷ 255 ∷ 255 ∷ [])
+    (0 ∷ 0 ∷ 0 ∷ 0 ∷ 0 ∷ [])
+    (1 ∷ 1 ∷ 0 ∷ 255 ∷ 255 ∷ 0 ∷ 255 ∷ 0 ∷ 255 ∷ 255 ∷ 0 ∷ 255 ∷ 0 ∷ 255 ∷ 255 ∷ 0 ∷ 255 ∷ 0 ∷ 1 ∷ 1 ∷ 0 ∷ 255 ∷ 255 ∷ 0 ∷ 255 ∷ 0 ∷ 255 ∷ 255 ∷ 0 ∷ 255 ∷ 0 ∷ 255 ∷ 255 ∷ 0 ∷ 255 ∷ 0 ∷ [])
+unfolding run go iteration update spread arriving outgoing incoming message settled symbols records sent leastCost choices xor recordOf shifts group above extra sentAt shift decided
+whole-offset = record { status = refl; iterations = refl; costs = refl; decisions = refl; store = refl }
+
 -- refusals, in their order
 pub record Case : Type 0 where
   pub code-bytes : List ℕ
@@ -93,6 +148,7 @@ table =
     case (2 ∷ 0 ∷ 3 ∷ 1 ∷ 16 ∷ 0 ∷ []) [] 0 0 0 8 ∷
     case (2 ∷ 0 ∷ 3 ∷ 1 ∷ 16 ∷ 1 ∷ []) [] 0 0 0 5 ∷
     case (2 ∷ 0 ∷ 3 ∷ 1 ∷ 16 ∷ 1 ∷ 2 ∷ []) [] 0 0 0 9 ∷
+    case (2 ∷ 0 ∷ 3 ∷ 1 ∷ 16 ∷ 1 ∷ 33 ∷ []) [] 0 0 0 9 ∷
     case (2 ∷ 0 ∷ 3 ∷ 1 ∷ 16 ∷ 1 ∷ 3 ∷ 0 ∷ 9 ∷ []) [] 0 0 0 5 ∷
     case (2 ∷ 0 ∷ 3 ∷ 1 ∷ 16 ∷ 1 ∷ 3 ∷ 0 ∷ 0 ∷ 4 ∷ 0 ∷ 0 ∷ 1 ∷ 0 ∷ 2 ∷ 1 ∷ []) [] 0 0 0 11 ∷
     case (2 ∷ 0 ∷ 3 ∷ 1 ∷ 16 ∷ 1 ∷ 3 ∷ 0 ∷ 0 ∷ 3 ∷ 0 ∷ 0 ∷ 1 ∷ 0 ∷ 2 ∷ 1 ∷ []) [] 0 0 0 10 ∷
