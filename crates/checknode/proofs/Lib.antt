@@ -7,6 +7,7 @@ pub mod Steps
 pub mod Searching
 pub mod Recording
 pub mod Refusals
+pub mod CheckFault
 pub mod CheckCall
 pub mod Expanding
 pub mod Forming

@@ -4,30 +4,28 @@ use mathlib.Core.Path.{_≡_, refl, sym, ap, _∙_}
 use mathlib.Core.Bool.{Bool, true, false}
 use mathlib.Core.List.{List, _++_}
 use Prim.Native.Nat.{ℕ, _+_, _*_, _^_, _≤_, _<_}
-use native.Mathlib.Decide.{decLt, ℕ-discrete}
+use native.Mathlib.Decide.{ℕ-discrete}
 use native.Mathlib.Omega.{arith}
-use lib.ListN.{length, getD, take, drop, List·getD-append}
+use lib.ListN.{length, take, drop, List·getD-append}
 use lib.Seq.{take-at, drop-at}
 use contract.Lifetimes.{Lfts}
 use denote.Ref.{now}
 use denote.Triple.Clauses.{AtExit}
 use borrow.Fn.Kinds.{endedOf}
 use borrow.Fn.World.{ArgsD, ResD}
-use Rattle.trellis.specs.Lists.{others, allTo}
-use Rattle.trellis.specs.Field.{product}
-use Rattle.trellis.specs.Check.{Column, IsLeast, allSent}
+use Rattle.trellis.specs.Check.{Column, allSent}
 use Rattle.trellis.specs.Record.{recordOf, recordLength}
 use Rattle.trellis.specs.Rules.{ruleFor, columnsOf}
-use Rattle.trellis.specs.Ready.{Ready}
 use Rattle.trellis.specs.Reply.{Reply, accepted, refusal}
 use Rattle.checknode.specs.declared.Written.{Written}
 use Rattle.checknode.specs.declared.Written.the-variants.{Bytes, Refused}
-use Rattle.checknode.specs.Answers.{writtenReply, zeroOk, checkReply, checkLeaves, expandReply, expandLeaves}
+use Rattle.checknode.specs.Answers.{writtenReply, checkReply, checkLeaves, expandReply, expandLeaves}
 use Rattle.checknode.specs.Demand.{Sends, Demand-2-messages}
-use Rattle.checknode.specs.Asks.{weightsFault}
+use Rattle.checknode.specs.Asks.{checkFault}
 use Rattle.trellis.proofs.Messages.{ready-length, ready-form, ready-messages, ready-many, ready-least}
-use Rattle.checknode.proofs.Refusals.{part-room, Weighed, no-fault, ready-law, check-case, expand-case}
-use Rattle.checknode.proofs.CheckCall.{RefusedBy, refused-fault, refused-12, refused-13, refused-4}
+use Rattle.checknode.proofs.Refusals.{part-room, expand-case}
+use Rattle.checknode.proofs.CheckFault.{Passed, passed}
+use Rattle.checknode.proofs.CheckCall.{refused, written}
 use Rattle.checknode.proofs.check as check
 use Rattle.checknode.proofs.check.Kinds as check-kinds
 use Rattle.checknode.proofs.check.Reads as check-reads
@@ -39,49 +37,19 @@ not-both : {b : Bool} → true ≡ b → b ≡ false → ⊥
 not-both e f = let z : _≡_ {A = ℕ} 0 1 = cc in omega arith
 
 -- a check that is not refused: its reply and what it leaves
-record Passed (p : ℕ) (ws cs out : List ℕ) : Type 0 where
-  weighed : Weighed p ws
-  ready : Ready p ws cs
+record Accepts (p : ℕ) (ws cs out : List ℕ) : Type 0 where
+  passes : Passed p ws cs (length out)
   reply : checkReply p ws cs out ≡ accepted (recordLength (ruleFor p) (length ws))
   leaves : checkLeaves p ws cs out ≡ recordOf (ruleFor p) (columnsOf (2 ^ p) ws cs) ++ drop (recordLength (ruleFor p) (length ws)) out
 
-module _ (p : ℕ) (ws cs out : List ℕ) (a : checkReply p ws cs out .refused ≡ false) where
-  never : {A : Type 0} {k : ℕ} → RefusedBy p ws cs out k → A
-  never R = absurd (not-both (ap (λ (r : Reply). r .refused) (R .0)) a)
-
-  module _ (W : Weighed p ws) where
-    module _ (c : length cs ≡ length ws * 2 ^ p) where
-      with-room : allTo (zeroOk (2 ^ p) cs) (length ws) ≡ true → recordLength (ruleFor p) (length ws) ≤ length out → Passed p ws cs out
-      unfolding checkReply checkLeaves
-      with-room z l =
-          record {
-            weighed = W;
-            ready = ready-law p ws W cs c z;
-            reply = sym (check-case p ws W (length out) (λ k. refusal k) _ cs c z l);
-            leaves = sym (check-case p ws W (length out) (λ k. out) _ cs c z l);
-          }
-
-      with-zeros : (b : Bool) → allTo (zeroOk (2 ^ p) cs) (length ws) ≡ b → Passed p ws cs out
-      with-zeros true z =
-          elim (decLt (length out) (recordLength (ruleFor p) (length ws))) [
-            | yes l ↦ never (refused-4 p ws cs out W (2 ^ p) refl c refl z l)
-            | no l ↦ with-room z (omega arith)
-          ]
-      with-zeros false z = never (refused-13 p ws cs out W (2 ^ p) refl c refl z)
-
-    with-weights : Passed p ws cs out
-    with-weights =
-        elim (ℕ-discrete (length cs) (length ws * 2 ^ p)) [
-          | yes c ↦ with-zeros c (allTo (zeroOk (2 ^ p) cs) (length ws)) refl
-          | no c ↦ never (refused-12 p ws cs out W (2 ^ p) refl c)
-        ]
-
-  passed : Passed p ws cs out
-  passed =
-      elim (ℕ-discrete (weightsFault p ws) 0) [
-        | yes e ↦ with-weights (no-fault p ws e)
-        | no e ↦ never (refused-fault p ws cs out refl e)
-      ]
+accepts : (p : ℕ) (ws cs out : List ℕ) → checkReply p ws cs out .refused ≡ false → Accepts p ws cs out
+accepts p ws cs out a =
+    elim (ℕ-discrete (checkFault p ws cs (length out)) 0) [
+      | yes z ↦
+          let W = written p ws cs out refl z {w = 2 ^ p} refl refl refl in
+          record { passes = passed p ws cs (length out) refl z; reply = sym (W .0); leaves = sym (W .1) }
+      | no n ↦ absurd (not-both (ap (λ (r : Reply). r .refused) (refused p ws cs out refl n .0)) a)
+    ]
 
 pub demand-2-messages : Demand-2-messages
 unfolding expandReply expandLeaves
@@ -89,8 +57,8 @@ demand-2-messages p ws cs n out out′ C buffer long r buffer′ E =
     let cols : List Column = columnsOf (2 ^ p) ws cs in
     let rec : List ℕ = recordOf (ruleFor p) cols in
     let d : ℕ = length ws * 2 ^ p in
-    let P = passed p ws cs out (ap (λ (r : Reply). r .refused) (sym (C .replies))) in
-    let D = P .ready in
+    let P = accepts p ws cs out (ap (λ (r : Reply). r .refused) (sym (C .replies))) in
+    let D = P .passes .ready in
     let k : n ≡ recordLength (ruleFor p) (length ws) = ap (λ (r : Reply). r .value) (C .replies ∙ P .reply) in
     let l : length rec ≡ n = ready-length p ws cs D ∙ sym k in
     let w : out′ ≡ rec ++ drop n out = C .out-then ∙ P .leaves ∙ ap (λ k. rec ++ drop k out) (sym k) in
@@ -99,14 +67,14 @@ demand-2-messages p ws cs n out out′ C buffer long r buffer′ E =
     let x : buffer′ ≡ allSent (ruleFor p) cols ++ drop d buffer =
     E .out-then
     ∙ ap (λ b. expandLeaves p ws b buffer) t
-    ∙ sym (expand-case p ws (P .weighed) (length buffer) (λ k. buffer) _ rec f long)
+    ∙ sym (expand-case p ws (P .passes .weighed) (length buffer) (λ k. buffer) _ rec f long)
     ∙ ap (λ l. l ++ drop d buffer) (ready-messages p ws cs D) in
     let m : length (allSent (ruleFor p) cols) ≡ d = ready-many p ws cs D in
     record {
       ready = D;
       bytes = k;
       packed = t;
-      expands = E .replies ∙ ap (λ b. expandReply p ws b buffer) t ∙ sym (expand-case p ws (P .weighed) (length buffer) (λ k. refusal k) _ rec f long);
+      expands = E .replies ∙ ap (λ b. expandReply p ws b buffer) t ∙ sym (expand-case p ws (P .passes .weighed) (length buffer) (λ k. refusal k) _ rec f long);
       sents = ap (take d) x ∙ take-at (allSent (ruleFor p) cols) (drop d buffer) d m;
       least = λ k y h l.
           let i : k * 2 ^ p + y < length (allSent (ruleFor p) cols) = omega (arith, m, part-room k (length ws) (2 ^ p) h) in

@@ -12,11 +12,11 @@ use lib.Dec.{T, ltb, eqb, ltb→lt}
 use lib.ListN.{length, take, drop, getD, length-take, length-drop}
 use Rattle.trellis.specs.Lists.{pick, allTo}
 use Rattle.trellis.specs.Check.{firstZero}
-use Rattle.trellis.specs.Record.{recordLength, recordOk}
+use Rattle.trellis.specs.Record.{recordOk}
 use Rattle.trellis.specs.Rules.{ruleFor}
 use Rattle.trellis.specs.Ready.{Ready}
 use Rattle.trellis.proofs.Tests.{of-true, all-at}
-use Rattle.checknode.specs.Answers.{weightOk, weightsOk, weightCases, zeroOk, checkCases, expandCases}
+use Rattle.checknode.specs.Answers.{weightOk, weightsOk, weightCases, zeroOk, expandCases}
 use Rattle.checknode.specs.Asks.{weightsFault}
 use Rattle.checknode.proofs.Filling.{zero-here, zero-later, zero-none}
 
@@ -54,7 +54,7 @@ pub record Weighed (p : ℕ) (ws : List ℕ) : Type 0 where
   pub few : length ws ≤ 32
   pub ok : weightsOk (2 ^ p) ws ≡ true
 
-at-least : {m n : ℕ} → ltb m n ≡ false → n ≤ m
+pub at-least : {m n : ℕ} → ltb m n ≡ false → n ≤ m
 at-least {m} {n} e =
     elim (decLe n m) [
       | yes h ↦ h
@@ -109,20 +109,6 @@ module _ (p : ℕ) (ws : List ℕ) (W : Weighed p ws) where
       }
 
   module _ {A : Type 0} (room : ℕ) (bad : ℕ → A) (good : A) where
-    module _ (cs : List ℕ) where
-      pub case-12 : length cs ≢ length ws * 2 ^ p → bad 12 ≡ checkCases p ws cs room bad good
-      case-12 e = sym (rest-case bad _ ∙ simp (ne-eqb _ _ e))
-
-      module _ (c : length cs ≡ length ws * 2 ^ p) where
-        pub case-13 : allTo (zeroOk (2 ^ p) cs) (length ws) ≡ false → bad 13 ≡ checkCases p ws cs room bad good
-        case-13 z = sym (rest-case bad _ ∙ simp (eq-eqb _ _ c, z))
-
-        pub case-4 : allTo (zeroOk (2 ^ p) cs) (length ws) ≡ true → room < recordLength (ruleFor p) (length ws) → bad 4 ≡ checkCases p ws cs room bad good
-        case-4 z k = sym (rest-case bad _ ∙ simp (eq-eqb _ _ c, z, lt-ltb _ _ k))
-
-        pub check-case : allTo (zeroOk (2 ^ p) cs) (length ws) ≡ true → recordLength (ruleFor p) (length ws) ≤ room → good ≡ checkCases p ws cs room bad good
-        check-case z k = sym (rest-case bad _ ∙ simp (eq-eqb _ _ c, z, le-ltb _ _ k))
-
     module _ (r : List ℕ) where
       pub case-16 : recordOk (ruleFor p) (length ws) r ≡ false → bad 16 ≡ expandCases p ws r room bad good
       case-16 o = sym (rest-case bad _ ∙ simp o)

@@ -14,7 +14,7 @@ use Rattle.trellis.specs.Record.{pairsOk, besideGroup, expandAt}
 use Rattle.trellis.specs.Rules.{ruleFor}
 use Rattle.engine.specs.Fill.{scattered}
 use Rattle.engine.specs.Terms.{termOf, sumTo}
-use Rattle.checknode.specs.Answers.{weightCases}
+use Rattle.checknode.specs.Answers.{weightCases, checkCases}
 use Rattle.checknode.specs.Table.{productTable}
 
 -- the minima of each of 2 ^ p rows
@@ -89,6 +89,10 @@ shiftsOf p ws cs = tab (λ n. xor (sumTo (termOf p ws cs) (length ws)) (termOf p
 -- the number of the first refusal of p and the weights, 0 for none
 unfoldable pub weightsFault : ℕ → List ℕ → ℕ
 weightsFault p ws = weightCases p ws (λ k. k) 0
+
+-- the number of the first refusal of a check whose record buffer has `room` bytes, 0 for none
+unfoldable pub checkFault : ℕ → List ℕ → List ℕ → ℕ → ℕ
+checkFault p ws cs room = checkCases p ws cs room (λ k. k) 0
 
 -- after a pair, the least column that the next used pair may have: one more, 256 after an unused pair, 257 for a fault
 unfoldable pub pairNext : ℕ → ℕ → ℕ → ℕ → ℕ → ℕ

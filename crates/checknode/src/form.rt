@@ -8,6 +8,14 @@ ghost use Rattle.trellis.specs.Lists.{allTo};
 ghost use Rattle.trellis.specs.Record.{pairsOk};
 ghost use Rattle.checknode.specs.Asks.{pairNext, formOk};
 
+// The length of a record of degree d.
+pub fn record_bytes(d: usize, q: usize) -> usize
+    requires { ⌜ (d ≤ 32) × ((1 ≤ q) × (q ≤ 64)) ⌝ }
+    ensures { λ r. ⌜ r ≡ d + 5 * (q - 1) ⌝ }
+{
+    d + 5 * (q - 1)
+}
+
 // After the pair c, s: the least column that the next used pair may have, 256 after an unused pair, 257 for a fault.
 fn pair_next(c: u8, s: u8, e: u8, d: usize, low: usize) -> usize
     ensures { λ r. ⌜ r ≡ pairNext c s e d low ⌝ }
@@ -74,7 +82,7 @@ pub fn record_ok(r: &[u8], d: usize, q: usize) -> bool
     requires { ⌜ (d ≤ 32) × ((1 ≤ q) × (q ≤ 64)) ⌝ }
     ensures { λ b. ⌜ b ≡ formOk q d (now (r .entry)) ⌝ }
 {
-    if r.len() != d + 5 * (q - 1) {
+    if r.len() != record_bytes(d, q) {
         return false;
     }
     if !shifts_ok(r, d, q) {

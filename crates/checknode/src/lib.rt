@@ -52,22 +52,12 @@ pub fn check(p: u8, weights: &[u8], costs: &[u8], out: &mut [u8]) -> Written
     ensures { λ r. ⌜ writtenReply r ≡ checkReply p (now (weights .entry)) (now (costs .entry)) (now (out .entry)) ⌝ }
     ensures { λ _. ⌜ now (out .exit) ≡ checkLeaves p (now (weights .entry)) (now (costs .entry)) (now (out .entry)) ⌝ }
 {
-    let k = tests::weights_fault(p, weights);
+    let k = tests::check_fault(p, weights, costs, out.len());
     if k != 0 {
         return Written::Refused(k);
     }
-    let d = weights.len();
     let w = num::index(field::size(p));
-    if costs.len() != d * w {
-        return Written::Refused(12);
-    }
-    if !tests::zeros_ok(costs, d, w) {
-        return Written::Refused(13);
-    }
-    let n = d + 5 * (w - 1);
-    if out.len() < n {
-        return Written::Refused(4);
-    }
+    let n = form::record_bytes(weights.len(), w);
     record::record_in(p, w, weights, costs, &mut out[..n]);
     Written::Bytes(n)
 }

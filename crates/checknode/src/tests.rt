@@ -1,5 +1,6 @@
 // The tests behind the refusals of a check and of an expansion.
 use crate::field;
+use crate::form;
 use crate::num;
 ghost use mathlib.Core.Path.{_≡_};
 ghost use Prim.Native.Nat.{_*_};
@@ -8,7 +9,7 @@ ghost use lib.ListN.{length};
 ghost use Rattle.trellis.specs.Lists.{allTo};
 ghost use Rattle.trellis.specs.Check.{firstZero};
 ghost use Rattle.checknode.specs.Answers.{weightOk, weightsOk, zeroOk};
-ghost use Rattle.checknode.specs.Asks.{weightsFault};
+ghost use Rattle.checknode.specs.Asks.{weightsFault, checkFault};
 
 // A weight is an element other than 0.
 fn weight_ok(q: u8, h: u8) -> bool
@@ -68,7 +69,7 @@ fn has_zero(costs: &[u8]) -> bool
 }
 
 // Whether each of d columns has one.
-pub fn zeros_ok(costs: &[u8], d: usize, w: usize) -> bool
+fn zeros_ok(costs: &[u8], d: usize, w: usize) -> bool
     requires { ⌜ length (now costs) ≡ d * w ⌝ }
     ensures { λ r. ⌜ r ≡ allTo (zeroOk w (now (costs .entry))) d ⌝ }
 {
@@ -81,4 +82,26 @@ pub fn zeros_ok(costs: &[u8], d: usize, w: usize) -> bool
         n += 1;
     }
     ok
+}
+
+// 6, 9, 11, 12, 13 or 4, in this order, or 0 for none of them. room is the length of the record buffer.
+pub fn check_fault(p: u8, weights: &[u8], costs: &[u8], room: usize) -> u8
+    ensures { λ r. ⌜ r ≡ checkFault p (now (weights .entry)) (now (costs .entry)) room ⌝ }
+{
+    let k = weights_fault(p, weights);
+    if k != 0 {
+        return k;
+    }
+    let d = weights.len();
+    let w = num::index(field::size(p));
+    if costs.len() != d * w {
+        return 12;
+    }
+    if !zeros_ok(costs, d, w) {
+        return 13;
+    }
+    if room < form::record_bytes(d, w) {
+        return 4;
+    }
+    0
 }
