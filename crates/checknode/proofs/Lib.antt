@@ -13,4 +13,5 @@ pub mod Expanding
 pub mod Forming
 pub mod ExpandCall
 pub mod Values
-pub mod Messages
+pub mod MessagesCall
+pub mod TwoCalls

@@ -8,14 +8,14 @@ use native.Mathlib.Nat.{suc-mul, mul-le-mul-right, add-sub-cancel-left}
 use native.Mathlib.Decide.{decLe, decLt, ℕ-discrete}
 use native.Mathlib.Omega.{arith}
 use borrow.Author.Tests.{eq-eqb, ne-eqb, lt-ltb, le-ltb}
-use lib.Dec.{T, ltb, eqb, ltb→lt}
+use lib.Dec.{T, ltb, eqb, ltb→lt, lt→ltb}
 use lib.ListN.{length, take, drop, getD, length-take, length-drop}
 use Rattle.trellis.specs.Lists.{pick, allTo}
 use Rattle.trellis.specs.Check.{firstZero}
 use Rattle.trellis.specs.Record.{recordOk}
 use Rattle.trellis.specs.Rules.{ruleFor}
 use Rattle.trellis.specs.Ready.{Ready}
-use Rattle.trellis.proofs.Tests.{of-true, all-at}
+use Rattle.trellis.proofs.Tests.{of-true, to-true, all-at, all-of}
 use Rattle.checknode.specs.Answers.{weightOk, weightsOk, weightCases, zeroOk, expandCases}
 use Rattle.checknode.specs.Asks.{weightsFault}
 use Rattle.checknode.proofs.Filling.{zero-here, zero-later, zero-none}
@@ -119,6 +119,18 @@ module _ (p : ℕ) (ws : List ℕ) (W : Weighed p ws) where
 
         pub expand-case : length ws * 2 ^ p ≤ room → good ≡ expandCases p ws r room bad good
         expand-case k = sym (rest-case bad _ ∙ simp (o, le-ltb _ _ k))
+
+-- the weights of an accepted check
+pub ready-weighed : (p : ℕ) (ws cs : List ℕ) → Ready p ws cs → Weighed p ws
+unfolding weightOk
+ready-weighed p ws cs D =
+    record {
+      low = D .low;
+      high = D .high;
+      three = D .three;
+      few = D .few;
+      ok = to-true (all-of _ (length ws) (λ n h. rw (ne-eqb (getD ws n 0) 0 (D .weight-some n h)) (lt→ltb _ _ (D .weight-small n h))));
+    }
 
 -- whether there is a zero from place x on
 abbrev pub zeroFrom : List ℕ → ℕ → Bool

@@ -6,7 +6,7 @@ use lib.Dec.{ltb, eqb, leb}
 use lib.ListN.{length, getD, drop}
 use Rattle.trellis.specs.Lists.{pick, allTo}
 use Rattle.trellis.specs.Field.{product}
-use Rattle.trellis.specs.Check.{firstZero}
+use Rattle.trellis.specs.Check.{firstZero, allSent}
 use Rattle.trellis.specs.Record.{recordOf, recordLength, recordOk, expansion}
 use Rattle.trellis.specs.Rules.{ruleFor, columnsOf, costsAt}
 use Rattle.trellis.specs.Reply.{Reply, accepted, refusal}
@@ -68,6 +68,24 @@ checkReply p ws cs out = checkCases p ws cs (length out) (λ k. refusal k) (acce
 unfoldable pub checkLeaves : ℕ → List ℕ → List ℕ → List ℕ → List ℕ
 checkLeaves p ws cs out =
     checkCases p ws cs (length out) (λ k. out) (recordOf (ruleFor p) (columnsOf (2 ^ p) ws cs) ++ drop (recordLength (ruleFor p) (length ws)) out)
+
+-- a check's record and its sent costs in one call: refused as a check is, then by 2 where the buffer for the d times q sent costs, of `many` bytes,
+-- is too short. It returns the length of the record, as a check does
+abbrev pub messagesCases {ℓ} : {A : Type ℓ} → ℕ → List ℕ → List ℕ → ℕ → ℕ → (ℕ → A) → A → A
+messagesCases p ws cs room many bad good = checkCases p ws cs room bad (pick (ltb many (length ws * 2 ^ p)) (bad 2) good)
+
+unfoldable pub messagesReply : ℕ → List ℕ → List ℕ → List ℕ → List ℕ → Reply
+messagesReply p ws cs out sent = messagesCases p ws cs (length out) (length sent) (λ k. refusal k) (accepted (recordLength (ruleFor p) (length ws)))
+
+-- the record buffer afterwards
+unfoldable pub messagesLeaves : ℕ → List ℕ → List ℕ → List ℕ → List ℕ → List ℕ
+messagesLeaves p ws cs out sent =
+    messagesCases p ws cs (length out) (length sent) (λ k. out) (recordOf (ruleFor p) (columnsOf (2 ^ p) ws cs) ++ drop (recordLength (ruleFor p) (length ws)) out)
+
+-- the buffer of the sent costs afterwards
+unfoldable pub messagesSent : ℕ → List ℕ → List ℕ → List ℕ → List ℕ → List ℕ
+messagesSent p ws cs out sent =
+    messagesCases p ws cs (length out) (length sent) (λ k. sent) (allSent (ruleFor p) (columnsOf (2 ^ p) ws cs) ++ drop (length ws * 2 ^ p) sent)
 
 -- "Expand: 6, 9, 11, 16, 2."
 abbrev pub expandCases {ℓ} : {A : Type ℓ} → ℕ → List ℕ → List ℕ → ℕ → (ℕ → A) → A → A

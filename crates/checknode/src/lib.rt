@@ -1,4 +1,4 @@
-// The field and one check: product, the packed record of a check's messages, its expansion.
+// The field and one check: product, the packed record of a check's messages, alone and beside the messages, and its expansion.
 mod expansion;
 mod field;
 mod form;
@@ -12,7 +12,7 @@ mod table;
 mod tests;
 
 ghost use mathlib.Core.Path.{_≡_};
-ghost use Rattle.checknode.specs.Answers.{elementReply, productReply, writtenReply, checkReply, checkLeaves, expandReply, expandLeaves};
+ghost use Rattle.checknode.specs.Answers.{elementReply, productReply, writtenReply, checkReply, checkLeaves, messagesReply, messagesLeaves, messagesSent, expandReply, expandLeaves};
 
 // A product, or the number of the refusal.
 pub enum Element {
@@ -59,6 +59,28 @@ pub fn check(p: u8, weights: &[u8], costs: &[u8], out: &mut [u8]) -> Written
     let w = num::index(field::size(p));
     let n = form::record_bytes(weights.len(), w);
     record::record_in(p, w, weights, costs, &mut out[..n]);
+    Written::Bytes(n)
+}
+
+// The record of a check and, in a second buffer, its sent costs: d times q bytes, column by column, each column by x. Refused as a check is;
+// last 2, the second buffer too short. The answer is how many bytes the record has, as of a check.
+pub fn messages(p: u8, weights: &[u8], costs: &[u8], out: &mut [u8], sent: &mut [u8]) -> Written
+    ensures { λ r. ⌜ writtenReply r ≡ messagesReply p (now (weights .entry)) (now (costs .entry)) (now (out .entry)) (now (sent .entry)) ⌝ }
+    ensures { λ _. ⌜ now (out .exit) ≡ messagesLeaves p (now (weights .entry)) (now (costs .entry)) (now (out .entry)) (now (sent .entry)) ⌝ }
+    ensures { λ _. ⌜ now (sent .exit) ≡ messagesSent p (now (weights .entry)) (now (costs .entry)) (now (out .entry)) (now (sent .entry)) ⌝ }
+{
+    let k = tests::check_fault(p, weights, costs, out.len());
+    if k != 0 {
+        return Written::Refused(k);
+    }
+    let d = weights.len();
+    let w = num::index(field::size(p));
+    let m = d * w;
+    if sent.len() < m {
+        return Written::Refused(2);
+    }
+    let n = form::record_bytes(d, w);
+    record::messages_in(p, w, weights, costs, &mut out[..n], &mut sent[..m]);
     Written::Bytes(n)
 }
 

@@ -1,4 +1,5 @@
-// The record of an accepted check.
+// The record of an accepted check, and its messages: the record with the sent costs.
+use crate::expansion;
 use crate::minima;
 use crate::rows;
 use crate::search;
@@ -6,6 +7,7 @@ use crate::table;
 ghost use mathlib.Core.Path.{_≡_};
 ghost use Prim.Native.Nat.{_+_, _*_, _^_, _≤_};
 ghost use lib.ListN.{length};
+ghost use Rattle.trellis.specs.Check.{allSent};
 ghost use Rattle.trellis.specs.Record.{recordOf, recordLength};
 ghost use Rattle.trellis.specs.Rules.{ruleFor, columnsOf};
 ghost use Rattle.trellis.specs.Ready.{Ready};
@@ -169,4 +171,16 @@ pub fn record_in(p: u8, w: usize, weights: &[u8], costs: &[u8], out: &mut [u8])
         return;
     }
     with_room(p, w, weights, costs, weights, out);
+}
+
+// The record and the sent costs. The record is packed, and what it expands to is what the check sends.
+pub fn messages_in(p: u8, w: usize, weights: &[u8], costs: &[u8], out: &mut [u8], sent: &mut [u8])
+    requires { ⌜ Ready p (now weights) (now costs) ⌝ }
+    requires { ⌜ w ≤ 64 ⌝ }
+    requires { ⌜ (w ≡ 2 ^ p) × ((length (now out) ≡ recordLength (ruleFor p) (length (now weights))) × (length (now sent) ≡ length (now weights) * 2 ^ p)) ⌝ }
+    ensures { λ _. ⌜ now (out .exit) ≡ recordOf (ruleFor p) (columnsOf (2 ^ p) (now (weights .entry)) (now (costs .entry))) ⌝ }
+    ensures { λ _. ⌜ now (sent .exit) ≡ allSent (ruleFor p) (columnsOf (2 ^ p) (now (weights .entry)) (now (costs .entry))) ⌝ }
+{
+    record_in(p, w, weights, costs, out);
+    expansion::expand_in(p, w, weights, out, sent);
 }

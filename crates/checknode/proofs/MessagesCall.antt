@@ -1,0 +1,60 @@
+-- A call of messages by the number of the check's first refusal and the room for the sent costs: what it replies and what it leaves.
+use mathlib.Core.Path.{_≡_, ap, _∙_, sym}
+use mathlib.Core.Logic.{_≢_}
+use mathlib.Core.List.{List, _++_}
+use Prim.Native.Nat.{ℕ, _+_, _-_, _*_, _^_, _≤_, _<_}
+use native.Mathlib.Omega.{arith}
+use borrow.Author.Tests.{lt-ltb, le-ltb}
+use lib.ListN.{length, drop}
+use Rattle.trellis.specs.Lists.{pick}
+use Rattle.trellis.specs.Check.{allSent}
+use Rattle.trellis.specs.Record.{recordOf, recordLength}
+use Rattle.trellis.specs.Rules.{ruleFor, columnsOf}
+use Rattle.trellis.specs.Ready.{Ready}
+use Rattle.trellis.specs.Reply.{accepted, refusal}
+use Rattle.trellis.proofs.Messages.{ready-form}
+use Rattle.checknode.specs.Answers.{messagesCases, messagesReply, messagesLeaves, messagesSent}
+use Rattle.checknode.specs.Asks.{checkFault, Expandable}
+use Rattle.checknode.proofs.Refusals.{ready-weighed}
+use Rattle.checknode.proofs.CheckFault.{refused-case, passed-case}
+use Rattle.checknode.proofs.Expanding.{expandable}
+
+-- the record just written has the form that an expansion asks for
+pub record-expands : (p : ℕ) (ws cs : List ℕ) → Ready p ws cs → Expandable p ws (recordOf (ruleFor p) (columnsOf (2 ^ p) ws cs))
+record-expands p ws cs D = expandable p ws (recordOf (ruleFor p) (columnsOf (2 ^ p) ws cs)) (ready-weighed p ws cs D) (ready-form p ws cs D)
+
+module _ (p : ℕ) (ws cs out sent : List ℕ) where
+  -- a call that is refused by k
+  abbrev pub RefusedBy : ℕ → Type 0
+  RefusedBy k = (refusal k ≡ messagesReply p ws cs out sent) × ((out ≡ messagesLeaves p ws cs out sent) × (sent ≡ messagesSent p ws cs out sent))
+
+  module _ {k : ℕ} (f : k ≡ checkFault p ws cs (length out)) where
+    pub refused : k ≢ 0 → RefusedBy k
+    unfolding messagesReply messagesLeaves messagesSent
+    refused n =
+        (refused-case p ws cs (length out) f (λ k. refusal k) _ n, (refused-case p ws cs (length out) f (λ k. out) _ n, refused-case p ws cs (length out) f (λ k. sent) _ n))
+
+    module _ (z : k ≡ 0) {w : ℕ} (s : w ≡ 2 ^ p) where
+      short-case : {A : Type 0} (bad : ℕ → A) (good : A) → length sent < length ws * w → bad 2 ≡ messagesCases p ws cs (length out) (length sent) bad good
+      short-case bad good l =
+          let k : length sent < length ws * 2 ^ p = rw s at l in
+          sym (ap (λ b. pick b (bad 2) good) (lt-ltb _ _ k)) ∙ passed-case p ws cs (length out) f z bad _
+
+      pub refused-2 : length sent < length ws * w → RefusedBy 2
+      unfolding messagesReply messagesLeaves messagesSent
+      refused-2 l = (short-case (λ k. refusal k) _ l, (short-case (λ k. out) _ l, short-case (λ k. sent) _ l))
+
+      full-case : {A : Type 0} (bad : ℕ → A) (good : A) → length ws * w ≤ length sent → good ≡ messagesCases p ws cs (length out) (length sent) bad good
+      full-case bad good l =
+          let k : length ws * 2 ^ p ≤ length sent = rw s at l in
+          sym (ap (λ b. pick b (bad 2) good) (le-ltb _ _ k)) ∙ passed-case p ws cs (length out) f z bad _
+
+      pub written : length ws * w ≤ length sent → {n : ℕ} → n ≡ length ws + 5 * (w - 1)
+          → {x y : List ℕ} → x ≡ recordOf (ruleFor p) (columnsOf (2 ^ p) ws cs) → y ≡ allSent (ruleFor p) (columnsOf (2 ^ p) ws cs)
+          → (accepted n ≡ messagesReply p ws cs out sent) × ((x ++ drop n out ≡ messagesLeaves p ws cs out sent) × (y ++ drop (length ws * w) sent ≡ messagesSent p ws cs out sent))
+      unfolding messagesReply messagesLeaves messagesSent
+      written h {n} l e g =
+          let i : n ≡ recordLength (ruleFor p) (length ws) = omega arith in (
+            ap (λ n. accepted n) i ∙ full-case (λ k. refusal k) _ h,
+            (rw (e, i) (full-case (λ k. out) _ h), rw (g, s) (full-case (λ k. sent) _ h)),
+          )
