@@ -15,3 +15,5 @@ pub mod ExpandCall
 pub mod Values
 pub mod MessagesCall
 pub mod TwoCalls
+pub mod Messages
+pub mod Lining

@@ -11,8 +11,9 @@ use Rattle.trellis.specs.Lists.{upTo, tab, part, pick, allTo}
 use Rattle.trellis.specs.Field.{xor, product}
 use Rattle.trellis.specs.Check.{firstZero}
 use Rattle.trellis.specs.Record.{pairsOk, besideGroup, expandAt}
-use Rattle.trellis.specs.Rules.{ruleFor}
+use Rattle.trellis.specs.Rules.{ruleFor, costsAt}
 use Rattle.engine.specs.Fill.{scattered}
+use Rattle.engine.specs.Lines.{placed}
 use Rattle.engine.specs.Terms.{termOf, sumTo}
 use Rattle.checknode.specs.Answers.{weightCases, checkCases}
 use Rattle.checknode.specs.Table.{productTable}
@@ -140,3 +141,30 @@ pub record Expandable (p : ℕ) (ws r : List ℕ) : Type 0 where
 -- the bytes of column n in an expansion
 abbrev pub columnBytes : ℕ → List ℕ → List ℕ → ℕ → List ℕ
 columnBytes p ws r n = map (expandAt (ruleFor p) ws r n) (upTo (2 ^ p))
+
+-- each symbol's row is below 2 ^ p, and the line has these rows
+pub record PlaceRoom (costs row : List ℕ) (s : ℕ) (line : List ℕ) : Type 0 where
+  pub p : ℕ
+  pub wide : 2 ^ p ≤ length line
+  pub full : length costs ≤ length row
+  pub below : (x : ℕ) → x < length costs → getD row x 0 < 2 ^ p
+  pub s-below : s < 2 ^ p
+
+-- the products of column n's weight
+abbrev pub rowOf : ℕ → List ℕ → ℕ → List ℕ
+rowOf p ws n = tab (product p (getD ws n 0)) (2 ^ p)
+
+-- a line of l places, from a weight and costs; and column n's
+abbrev pub restsFrom : ℕ → ℕ → List ℕ → ℕ → List ℕ
+restsFrom p h costs l = placed costs (tab (product p h) (2 ^ p)) (product p h (firstZero costs)) (2 ^ p) (tab (λ a. 0) l)
+
+abbrev pub restsOf : ℕ → List ℕ → List ℕ → ℕ → ℕ → List ℕ
+restsOf p ws cs l n = restsFrom p (getD ws n 0) (costsAt (2 ^ p) cs n) l
+
+-- room for the products and lines of d columns
+pub record LinesRoom (p l d : ℕ) (rows lines out : List ℕ) : Type 0 where
+  pub wide : 2 ^ p ≤ l
+  pub narrow : l ≤ 64
+  pub of-rows : length rows ≡ d * 2 ^ p
+  pub of-lines : length lines ≡ d * l
+  pub of-out : length out ≡ d

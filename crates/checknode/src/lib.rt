@@ -2,6 +2,7 @@
 mod expansion;
 mod field;
 mod form;
+mod lines;
 mod minima;
 mod num;
 mod products;

@@ -2,3 +2,4 @@
 pub mod Keys
 pub mod Fill
 pub mod Terms
+pub mod Lines

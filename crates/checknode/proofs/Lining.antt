@@ -1,0 +1,85 @@
+-- Turns and ends of the loops that make the lines.
+use mathlib.Core.Path.{_≡_, refl, ap, _∙_, sym}
+use mathlib.Core.List.{List, _++_}
+use Prim.Native.Nat.{ℕ, zero, suc, _+_, _-_, _*_, _^_, _≤_, _<_}
+use native.Mathlib.Nat.{add-zero, add-suc, add-sub-cancel-left, suc-mul, mul-le-mul-right}
+use native.Mathlib.Omega.{arith}
+use lib.Bits.{xor-lt}
+use lib.ListN.{length, take, drop, getD, set, length-take, length-drop, length-set}
+use lib.Seq.{getD-take, getD-drop}
+use Rattle.trellis.specs.Lists.{tab, part, upto, blocks}
+use Rattle.trellis.specs.Field.{xor, product}
+use Rattle.trellis.specs.Check.{firstZero}
+use Rattle.trellis.specs.Ready.{Ready}
+use Rattle.engine.specs.Lines.{placed}
+use Rattle.checknode.specs.Asks.{PlaceRoom, LinesRoom, Times, rowOf, restsFrom, restsOf}
+use Rattle.trellis.proofs.Loops.{length-tab, getD-tab, block-more}
+use Rattle.checknode.proofs.Filling.{column-term}
+use Rattle.checknode.proofs.Turns.{part-is}
+
+pub rest-below : (costs row line : List ℕ) (s x : ℕ) → PlaceRoom costs row s line → x < length costs → xor (getD row x 0) s < length line
+unfolding xor
+rest-below costs row line s x P h = omega (arith, P .wide, xor-lt (P .p) _ _ (P .below x h) (P .s-below))
+
+-- some symbols of a column by themselves, from x on
+pub room-part : (costs row line l : List ℕ) (s x m : ℕ) → PlaceRoom costs row s line → x + m ≤ length costs → length l ≡ length line → PlaceRoom (part costs x m) (part row x m) s l
+room-part costs row line l s x m P h e =
+    let c : length (part costs x m) ≡ m = simp (length-take, length-drop) (omega arith) in
+    let r : length (part row x m) ≡ m = simp (length-take, length-drop) (omega (arith, P .full)) in
+    record { p = P .p; wide = omega (arith, P .wide); full = omega arith; below = λ i k. let j : i < m = omega arith in rw (getD-take, getD-drop) (P .below (x + i) (omega arith)); s-below = P .s-below }
+
+-- the first k of them placed after those before x
+place-more : (costs row : List ℕ) (s x m : ℕ) (l : List ℕ) (k : ℕ) → k ≤ m → placed (part costs x m) (part row x m) s k (placed costs row s x l) ≡ placed costs row s (x + k) l
+unfolding placed
+place-more costs row s x m l zero h = rw (add-zero x) refl
+place-more costs row s x m l (suc k) h =
+    rw (add-suc x k, getD-take m (drop x costs) k 0 h, getD-take m (drop x row) k 0 h, getD-drop x costs k 0, getD-drop x row k 0)
+    (ap (λ o. set o (xor (getD row (x + k) 0) s) (255 - getD costs (x + k) 0)) (place-more costs row s x m l k (omega arith)))
+
+pub place-turn : (costs row l line : List ℕ) (s x : ℕ) {o : List ℕ} → line ≡ placed costs row s x l → o ≡ placed (part costs x (x + 4 - x)) (part row x (x + 4 - x)) s 4 line
+    → o ≡ placed costs row s (x + 4) l
+place-turn costs row l line s x e h = rw (h, e, add-sub-cancel-left x 4) (place-more costs row s x 4 l 4 (omega arith))
+
+pub length-placed : (costs row : List ℕ) (s q : ℕ) (l : List ℕ) → length (placed costs row s q l) ≡ length l
+unfolding placed
+length-placed costs row s zero l = refl
+length-placed costs row s (suc q) l = simp length-set (length-placed costs row s q l)
+
+pub line-room : (p h : ℕ) (costs line : List ℕ) {row : List ℕ} {z : ℕ} → Times p h → row ≡ tab (product p h) (2 ^ p) → z ≡ firstZero costs → firstZero costs < 2 ^ p → length costs ≡ 2 ^ p → 2 ^ p ≤ length line
+    → PlaceRoom costs row (getD row z 0) line
+line-room p h costs line {row} {z} T e k l o u =
+    let at : (x : ℕ) → x < 2 ^ p → getD row x 0 < 2 ^ p = λ x i. rw (e, getD-tab (product p h) (2 ^ p) x i) (T .closed x i) in
+    record { p = p; wide = u; full = omega (arith, ap length e, length-tab (product p h) (2 ^ p)); below = λ x i. at x (omega arith); s-below = at z (omega arith) }
+
+pub line-done : (p h : ℕ) (costs : List ℕ) (l : ℕ) {row line o : List ℕ} {z : ℕ} → row ≡ tab (product p h) (2 ^ p) → z ≡ firstZero costs → firstZero costs < 2 ^ p → length costs ≡ 2 ^ p
+    → line ≡ tab (λ a. 0) l → o ≡ placed costs row (getD row z 0) (length costs) line → o ≡ restsFrom p h costs l
+line-done p h costs l e k u o c s = rw (s, c, column-term p h costs e k u, o, e) refl
+
+-- each column's part of the room
+pub row-full : (p : ℕ) (ws : List ℕ) (n : ℕ) → length (rowOf p ws n) ≡ 2 ^ p
+row-full p ws n = length-tab _ (2 ^ p)
+
+pub rests-full : (p : ℕ) (ws cs : List ℕ) (l n : ℕ) → length (restsOf p ws cs l n) ≡ l
+rests-full p ws cs l n = length-placed _ _ _ (2 ^ p) (tab (λ a. 0) l) ∙ length-tab _ l
+
+pub lines-room : (p l : ℕ) (ws cs rows lines out : List ℕ) → Ready p ws cs → LinesRoom p l (length ws) rows lines out → (n : ℕ) → n < length ws → (w : ℕ) → w ≡ 2 ^ p
+    → (n * w + w ≤ length cs) × (n * w + w ≤ length rows) × (n * l + l ≤ length lines) × (n < length out)
+lines-room p l ws cs rows lines out D R n h w e =
+    let a : n * w + w ≤ length ws * w = rw suc-mul at (mul-le-mul-right w h) in
+    let b : n * l + l ≤ length ws * l = rw suc-mul at (mul-le-mul-right l h) in
+    let c : length cs ≡ length ws * w = D .count ∙ ap (λ k. length ws * k) (sym e) in
+    let r : length rows ≡ length ws * w = R .of-rows ∙ ap (λ k. length ws * k) (sym e) in
+    (omega arith, omega arith, omega (arith, R .of-lines), omega (arith, R .of-out))
+
+-- a turn of the loop over the columns
+pub rows-turn : (p : ℕ) (ws : List ℕ) (n w : ℕ) (rows₀ rows : List ℕ) {r : List ℕ} → w ≡ 2 ^ p → rows ≡ blocks (rowOf p ws) n ++ drop (n * 2 ^ p) rows₀ → r ≡ tab (product p (getD ws n 0)) (2 ^ p)
+    → take (n * w) rows ++ (r ++ drop (n * w + w - n * w) (drop (n * w) rows)) ≡ blocks (rowOf p ws) (n + 1) ++ drop ((n + 1) * 2 ^ p) rows₀
+rows-turn p ws n w rows₀ rows e h k = rw e (block-more (rowOf p ws) (2 ^ p) (row-full p ws) rows₀ rows n h k)
+
+pub lines-turn : (p : ℕ) (ws cs : List ℕ) (l n : ℕ) → Ready p ws cs → n < length ws → (w : ℕ) (lines₀ lines : List ℕ) {r : List ℕ} → w ≡ 2 ^ p → lines ≡ blocks (restsOf p ws cs l) n ++ drop (n * l) lines₀
+    → length lines₀ ≡ length ws * l → length lines ≡ length lines₀ → r ≡ restsFrom p (getD ws n 0) (take (n * w + w - n * w) (drop (n * w) cs)) (length (take (n * l + l - n * l) (drop (n * l) lines)))
+    → take (n * l) lines ++ (r ++ drop (n * l + l - n * l) (drop (n * l) lines)) ≡ blocks (restsOf p ws cs l) (n + 1) ++ drop ((n + 1) * l) lines₀
+lines-turn p ws cs l n D i w lines₀ lines {r} e h f g k =
+    let b : n * l + l ≤ length ws * l = rw suc-mul at (mul-le-mul-right l i) in
+    let m : length (take (n * l + l - n * l) (drop (n * l) lines)) ≡ l = simp (length-take, length-drop) (omega arith) in
+    block-more (restsOf p ws cs l) l (rests-full p ws cs l) lines₀ lines n h (k ∙ rw (m, part-is p ws cs D n i w e) refl)

@@ -1,0 +1,153 @@
+// The lines of one check: for each column, what is left of 255 after the cost of the symbol in each row. Beside them each weight's products
+// with every symbol are kept, for the sent costs.
+use crate::field;
+use crate::num;
+use crate::products;
+ghost use mathlib.Core.Path.{_≡_};
+ghost use Prim.Native.Nat.{_-_, _*_, _%_, _^_, _≤_, _<_};
+ghost use lib.ListN.{length, getD};
+ghost use Rattle.trellis.specs.Lists.{tab, blocks};
+ghost use Rattle.trellis.specs.Field.{xor, product};
+ghost use Rattle.trellis.specs.Check.{firstZero};
+ghost use Rattle.trellis.specs.Ready.{Ready};
+ghost use Rattle.engine.specs.Terms.{termOf, sumTo};
+ghost use Rattle.engine.specs.Lines.{placed};
+ghost use Rattle.checknode.specs.Asks.{PlaceRoom, Times, TableFor, restsFrom, restsOf, rowOf, LinesRoom};
+
+fn clear(line: &mut [u8])
+    ensures { λ _. ⌜ now (line .exit) ≡ tab (λ a. 0) (length (now (line .entry))) ⌝ }
+{
+    let mut a = 0;
+    while a < line.len() {
+        line[a] = 0;
+        a += 1;
+    }
+}
+
+// The row of a symbol, from its product.
+fn row_of(product: u8, s: u8) -> usize
+    ensures { λ r. ⌜ (r ≡ xor product s) × (r < 256) ⌝ }
+{
+    num::index(product ^ s)
+}
+
+// What is left of 255.
+fn rest_of(cost: u8) -> u8
+    ensures { λ r. ⌜ r ≡ 255 - cost ⌝ }
+{
+    255 - cost
+}
+
+// The rests of four symbols, put into their rows. All are read before the first is written: a read behind a write may have to wait until the
+// row of that write is known.
+fn put_four(costs: &[u8], row: &[u8], s: u8, line: &mut [u8])
+    requires { ⌜ PlaceRoom (now costs) (now row) s (now line) ⌝ }
+    requires { ⌜ length (now costs) ≡ 4 ⌝ }
+    ensures { λ _. ⌜ now (line .exit) ≡ placed (now (costs .entry)) (now (row .entry)) s 4 (now (line .entry)) ⌝ }
+{
+    let a = row_of(row[0], s);
+    let b = row_of(row[1], s);
+    let c = row_of(row[2], s);
+    let d = row_of(row[3], s);
+    let t = rest_of(costs[0]);
+    let u = rest_of(costs[1]);
+    let v = rest_of(costs[2]);
+    let w = rest_of(costs[3]);
+    line[a] = t;
+    line[b] = u;
+    line[c] = v;
+    line[d] = w;
+}
+
+// One column's rests, put into their rows.
+fn place(costs: &[u8], row: &[u8], s: u8, line: &mut [u8])
+    requires { ⌜ PlaceRoom (now costs) (now row) s (now line) ⌝ }
+    requires { ⌜ length (now costs) % 4 ≡ 0 ⌝ }
+    ensures { λ _. ⌜ now (line .exit) ≡ placed (now (costs .entry)) (now (row .entry)) s (length (now (costs .entry))) (now (line .entry)) ⌝ }
+{
+    let mut x = 0;
+    while x < costs.len() {
+        let e = x + 4;
+        put_four(&costs[x..e], &row[x..e], s, line);
+        x = e;
+    }
+}
+
+// The smallest symbol of cost 0, or the number of costs where there is none.
+fn first_zero(costs: &[u8]) -> usize
+    ensures { λ r. ⌜ (r ≡ firstZero (now (costs .entry))) × (r ≤ length (now (costs .entry))) ⌝ }
+{
+    let mut i = 0;
+    loop {
+        if i == costs.len() {
+            break i;
+        }
+        if costs[i] == 0 {
+            break i;
+        }
+        i += 1;
+    }
+}
+
+// One column: its weight's products, and its line. Answers h times z.
+fn column(p: u8, h: u8, costs: &[u8], table: &[u8], row: &mut [u8], line: &mut [u8]) -> u8
+    requires { ⌜ Times p h ⌝ }
+    requires { ⌜ TableFor p (now table) ⌝ }
+    requires { ⌜ (length (now row) ≡ 2 ^ p) × ((2 ^ p ≤ length (now line)) × ((length (now costs) ≡ 2 ^ p) × (firstZero (now costs) < 2 ^ p))) ⌝ }
+    ensures { λ r. ⌜ r ≡ product p h (firstZero (now (costs .entry))) ⌝ }
+    ensures { λ _. ⌜ now (row .exit) ≡ tab (product p h) (2 ^ p) ⌝ }
+    ensures { λ _. ⌜ now (line .exit) ≡ restsFrom p h (now (costs .entry)) (length (now (line .entry))) ⌝ }
+{
+    products::fill(p, h, table, row);
+    let z = first_zero(costs);
+    let s = row[z];
+    clear(line);
+    place(costs, row, s, line);
+    s
+}
+
+// All columns: their products, their lines, l places each, and each h times z, whose sum is the answer.
+pub fn lines(
+    p: u8,
+    l: usize,
+    weights: &[u8],
+    costs: &[u8],
+    table: &[u8],
+    rows: &mut [u8],
+    lines: &mut [u8],
+    out: &mut [u8],
+) -> u8
+    requires { ⌜ Ready p (now weights) (now costs) ⌝ }
+    requires { ⌜ TableFor p (now table) ⌝ }
+    requires { ⌜ LinesRoom p l (length (now weights)) (now rows) (now lines) (now out) ⌝ }
+    ensures { λ r. ⌜ r ≡ sumTo (termOf p (now (weights .entry)) (now (costs .entry))) (length (now (weights .entry))) ⌝ }
+    ensures { λ _. ⌜ now (rows .exit) ≡ blocks (rowOf p (now (weights .entry))) (length (now (weights .entry))) ⌝ }
+    ensures { λ _. ⌜ now (lines .exit) ≡ blocks (restsOf p (now (weights .entry)) (now (costs .entry)) l) (length (now (weights .entry))) ⌝ }
+    ensures { λ _. ⌜ now (out .exit) ≡ tab (termOf p (now (weights .entry)) (now (costs .entry))) (length (now (weights .entry))) ⌝ }
+{
+    let w = num::index(field::size(p));
+    let mut sum: u8 = 0;
+    let mut n = 0;
+    while n < weights.len() {
+        let a = n * w;
+        let e = a + w;
+        let b = n * l;
+        let f = b + l;
+        let s = column(p, weights[n], &costs[a..e], table, &mut rows[a..e], &mut lines[b..f]);
+        out[n] = s;
+        sum = sum ^ s;
+        n += 1;
+    }
+    sum
+}
+
+// The shifts, from each h times z and their sum.
+pub fn shift_all(out: &mut [u8], sum: u8)
+    ensures { λ _. ⌜ now (out .exit) ≡ tab (λ i. xor sum (getD (now (out .entry)) i 0)) (length (now (out .entry))) ⌝ }
+{
+    let mut i = 0;
+    while i < out.len() {
+        out[i] = sum ^ out[i];
+        i += 1;
+    }
+}
