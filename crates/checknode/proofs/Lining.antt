@@ -4,7 +4,7 @@ use mathlib.Core.List.{List, _++_}
 use Prim.Native.Nat.{ℕ, zero, suc, _+_, _-_, _*_, _^_, _≤_, _<_}
 use native.Mathlib.Nat.{add-zero, add-suc, add-sub-cancel-left, suc-mul, mul-le-mul-right}
 use native.Mathlib.Omega.{arith}
-use lib.Bits.{xor-lt}
+use lib.Bits.{bitXor, xor-lt}
 use lib.ListN.{length, take, drop, getD, set, length-take, length-drop, length-set}
 use lib.Seq.{getD-take, getD-drop}
 use Rattle.trellis.specs.Lists.{tab, part, upto, blocks}
@@ -12,8 +12,8 @@ use Rattle.trellis.specs.Field.{xor, product}
 use Rattle.trellis.specs.Check.{firstZero}
 use Rattle.trellis.specs.Ready.{Ready}
 use Rattle.engine.specs.Lines.{placed}
-use Rattle.checknode.specs.Asks.{PlaceRoom, LinesRoom, Times, rowOf, restsFrom, restsOf}
-use Rattle.trellis.proofs.Loops.{length-tab, getD-tab, block-more}
+use Rattle.checknode.specs.Asks.{PlaceRoom, LinesRoom, Times, rowOf, restsFrom, restsOf, sentFrom, sentColumn, SendRoom, SendsRoom}
+use Rattle.trellis.proofs.Loops.{length-tab, getD-tab, tab-more, block-more}
 use Rattle.checknode.proofs.Filling.{column-term}
 use Rattle.checknode.proofs.Turns.{part-is}
 
@@ -83,3 +83,41 @@ lines-turn p ws cs l n D i w lines₀ lines {r} e h f g k =
     let b : n * l + l ≤ length ws * l = rw suc-mul at (mul-le-mul-right l i) in
     let m : length (take (n * l + l - n * l) (drop (n * l) lines)) ≡ l = simp (length-take, length-drop) (omega arith) in
     block-more (restsOf p ws cs l) l (rests-full p ws cs l) lines₀ lines n h (k ∙ rw (m, part-is p ws cs D n i w e) refl)
+
+-- one symbol's cost more
+pub send-turn : (row : List ℕ) (s : ℕ) (rests out₀ out : List ℕ) (x : ℕ) {i r : ℕ} → x < length out₀ → out ≡ tab (sentFrom row s rests) x ++ drop x out₀ → i ≡ bitXor (getD row x 0) s → r ≡ 255 - getD rests i 0
+    → set out x r ≡ tab (sentFrom row s rests) (x + 1) ++ drop (x + 1) out₀
+unfolding xor
+send-turn row s rests out₀ out x h e k o = rw (e, o, k) (tab-more (sentFrom row s rests) out₀ x h)
+
+-- the loop over the columns
+module _ (w l : ℕ) (rows shifts rests out : List ℕ) (R : SendsRoom w l rows shifts rests out) (n : ℕ) (h : n < length shifts) where
+  pub send-bounds : (n * w + w ≤ length rows) × (n * l + l ≤ length rests) × (n * w + w ≤ length out)
+  send-bounds =
+      let a : n * w + w ≤ length shifts * w = rw suc-mul at (mul-le-mul-right w h) in
+      let b : n * l + l ≤ length shifts * l = rw suc-mul at (mul-le-mul-right l h) in
+      (omega (arith, R .of-rows), omega (arith, R .of-rests), omega (arith, R .of-out))
+
+  module _ (now : List ℕ) (same : length now ≡ length out) where
+    part-long : length (take (n * w + w - n * w) (drop (n * w) now)) ≡ w
+    part-long = simp (length-take, length-drop) (omega (arith, send-bounds .2))
+
+    pub send-room : SendRoom (take (n * w + w - n * w) (drop (n * w) rows)) (getD shifts n 0) (take (n * l + l - n * l) (drop (n * l) rests)) (take (n * w + w - n * w) (drop (n * w) now))
+    send-room =
+        let r : length (take (n * w + w - n * w) (drop (n * w) rows)) ≡ w = simp (length-take, length-drop) (omega (arith, send-bounds .0)) in
+        let t : length (take (n * l + l - n * l) (drop (n * l) rests)) ≡ l = simp (length-take, length-drop) (omega (arith, send-bounds .1)) in
+        record {
+          same = r ∙ sym part-long;
+          below = λ x i.
+              let k : x < w = omega (arith, part-long) in
+              let m : x < n * w + w - n * w = omega arith in
+              let g : getD (take (n * w + w - n * w) (drop (n * w) rows)) x 0 ≡ getD rows (n * w + x) 0 = rw (getD-take, getD-drop) refl in
+              rw (t, g) (R .below n x h k);
+        }
+
+    pub send-done : {r : List ℕ} → r ≡ tab (sentFrom (take (n * w + w - n * w) (drop (n * w) rows)) (getD shifts n 0) (take (n * l + l - n * l) (drop (n * l) rests))) (length (take (n * w + w - n * w) (drop (n * w) now)))
+        → r ≡ sentColumn w l rows shifts rests n
+    send-done e = e ∙ rw (part-long, add-sub-cancel-left (n * w) w, add-sub-cancel-left (n * l) l) refl
+
+pub sent-full : (w l : ℕ) (rows shifts rests : List ℕ) (n : ℕ) → length (sentColumn w l rows shifts rests n) ≡ w
+sent-full w l rows shifts rests n = length-tab _ w

@@ -168,3 +168,25 @@ pub record LinesRoom (p l d : ℕ) (rows lines out : List ℕ) : Type 0 where
   pub of-rows : length rows ≡ d * 2 ^ p
   pub of-lines : length lines ≡ d * l
   pub of-out : length out ≡ d
+
+-- what symbol x is sent: what stands in its row, its product moved by the shift s
+abbrev pub sentFrom : List ℕ → ℕ → List ℕ → ℕ → ℕ
+sentFrom row s rests x = 255 - getD rests (xor (getD row x 0) s) 0
+
+-- each symbol's row is there
+pub record SendRoom (row : List ℕ) (s : ℕ) (rests out : List ℕ) : Type 0 where
+  pub same : length row ≡ length out
+  pub below : (x : ℕ) → x < length out → xor (getD row x 0) s < length rests
+
+-- column n of them, with w products and l rests a column
+abbrev pub sentColumn : ℕ → ℕ → List ℕ → List ℕ → List ℕ → ℕ → List ℕ
+sentColumn w l rows shifts rests n = tab (sentFrom (part rows (n * w) w) (getD shifts n 0) (part rests (n * l) l)) w
+
+pub record SendsRoom (w l : ℕ) (rows shifts rests out : List ℕ) : Type 0 where
+  pub few : length shifts ≤ 32
+  pub narrow : w ≤ 64
+  pub short : l ≤ 64
+  pub of-rows : length rows ≡ length shifts * w
+  pub of-rests : length rests ≡ length shifts * l
+  pub of-out : length out ≡ length shifts * w
+  pub below : (n x : ℕ) → n < length shifts → x < w → xor (getD rows (n * w + x) 0) (getD shifts n 0) < l

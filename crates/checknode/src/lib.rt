@@ -9,6 +9,7 @@ mod products;
 mod record;
 mod rows;
 mod search;
+mod send;
 mod table;
 mod tests;
 
