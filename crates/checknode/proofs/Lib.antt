@@ -3,9 +3,6 @@ pub mod Arithmetic
 pub mod Tables
 pub mod Filling
 pub mod Turns
-pub mod Steps
-pub mod Searching
-pub mod Recording
 pub mod Refusals
 pub mod CheckFault
 pub mod CheckCall
@@ -15,5 +12,4 @@ pub mod ExpandCall
 pub mod Values
 pub mod MessagesCall
 pub mod TwoCalls
-pub mod Messages
 pub mod Lining

@@ -1,5 +1,5 @@
 -- One turn of the loop over the columns.
-use mathlib.Core.Path.{_≡_, ap, _∙_, sym}
+use mathlib.Core.Path.{_≡_, ap, _∙_}
 use mathlib.Core.List.{List, _++_}
 use Prim.Native.Nat.{ℕ, _+_, _*_, _^_, _≤_, _<_, _-_}
 use native.Mathlib.Nat.{suc-mul, mul-le-mul-right, add-sub-cancel-left}
@@ -9,16 +9,13 @@ use lib.Bits.{bitXor}
 use lib.ListN.{length, take, drop, getD, set}
 use Rattle.trellis.specs.Lists.{tab}
 use Rattle.trellis.specs.Field.{xor, product}
-use Rattle.trellis.specs.Check.{Column, firstZero, column}
-use Rattle.trellis.specs.Rules.{ruleFor, columnsOf, costsAt}
+use Rattle.trellis.specs.Check.{firstZero}
+use Rattle.trellis.specs.Rules.{costsAt}
 use Rattle.trellis.specs.Ready.{Ready}
-use Rattle.engine.specs.Fill.{Rows, merged, filled, scattered}
-use Rattle.engine.specs.Terms.{termOf, sumTo, keysOf}
-use Rattle.checknode.specs.Asks.{Times, lineFrom}
+use Rattle.engine.specs.Terms.{termOf, sumTo}
+use Rattle.checknode.specs.Asks.{Times}
 use Rattle.trellis.proofs.FieldLaws.{fields-at, has-inverse}
-use Rattle.trellis.proofs.Loops.{tab-more, getD-tab}
-use Rattle.trellis.proofs.Ready.{column-at, length-columns, ready-proper}
-use Rattle.engine.proofs.Filled.{filled-more, scattered-keys}
+use Rattle.trellis.proofs.Loops.{tab-more}
 
 module _ (p : ℕ) (ws cs : List ℕ) (D : Ready p ws cs) (n : ℕ) (h : n < length ws) where
   pub ready-times : Times p (getD ws n 0)
@@ -35,17 +32,6 @@ module _ (p : ℕ) (ws cs : List ℕ) (D : Ready p ws cs) (n : ℕ) (h : n < len
 
   pub part-room : (w : ℕ) → w ≡ 2 ^ p → n * w + w ≤ length cs
   part-room w e = rw (e, D .count, ← suc-mul n (2 ^ p)) (mul-le-mul-right (2 ^ p) h)
-
-  line-is : (l : List ℕ) → length l ≡ 2 ^ p → lineFrom p (getD ws n 0) (costsAt (2 ^ p) cs n) n l ≡ tab (λ a. keysOf p ws cs a n) (2 ^ p)
-  line-is l e =
-      let c : Column = column (columnsOf (2 ^ p) ws cs) n in
-      let k : n < length (columnsOf (2 ^ p) ws cs) = omega (arith, length-columns (2 ^ p) ws cs) in
-      ap (λ (c : Column). scattered (c .costs) (tab (product p (c .weight)) (2 ^ p)) (product p (c .weight) (firstZero (c .costs))) n (2 ^ p) l) (sym (column-at (2 ^ p) ws cs n h))
-      ∙ scattered-keys (ruleFor p) (columnsOf (2 ^ p) ws cs) (ready-proper p ws cs D) n k (tab (product p (c .weight)) (2 ^ p)) l (λ x u. getD-tab (product p (c .weight)) (2 ^ p) x u) e
-
-  pub rows-turn : (w : ℕ) (l : List ℕ) {R R' : Rows} → w ≡ 2 ^ p → length l ≡ 2 ^ p → R ≡ filled (keysOf p ws cs) (2 ^ p) n
-      → R' ≡ merged (lineFrom p (getD ws n 0) (take (n * w + w - n * w) (drop (n * w) cs)) n l) R → R' ≡ filled (keysOf p ws cs) (2 ^ p) (n + 1)
-  rows-turn w l e u r o = o ∙ rw (part-is w e, line-is l u, r, add-one n) (sym (filled-more (keysOf p ws cs) (2 ^ p) n))
 
   pub term-turn : (w : ℕ) {s : ℕ} → w ≡ 2 ^ p → s ≡ product p (getD ws n 0) (firstZero (take (n * w + w - n * w) (drop (n * w) cs))) → s ≡ termOf p ws cs n
   term-turn w e o = o ∙ ap (λ l. product p (getD ws n 0) (firstZero l)) (part-is w e)

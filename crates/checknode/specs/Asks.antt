@@ -3,62 +3,18 @@ use mathlib.Core.Path.{_≡_}
 use mathlib.Core.Bool.{Bool, false}
 use mathlib.Core.Logic.{_≢_}
 use mathlib.Core.List.{List, map}
-use Prim.Native.Nat.{ℕ, _+_, _-_, _*_, _/_, _%_, _^_, _≤_, _<_}
-use lib.Bits.{bitAnd}
+use Prim.Native.Nat.{ℕ, _+_, _-_, _*_, _/_, _%_, _^_, _≤_, _<_, max}
 use lib.Dec.{eqb, ltb, leb}
 use lib.ListN.{length, getD, take, drop}
 use Rattle.trellis.specs.Lists.{upTo, tab, part, pick, allTo}
 use Rattle.trellis.specs.Field.{xor, product}
-use Rattle.trellis.specs.Check.{firstZero}
+use Rattle.trellis.specs.Check.{firstZero, sentAt}
 use Rattle.trellis.specs.Record.{pairsOk, besideGroup, expandAt}
-use Rattle.trellis.specs.Rules.{ruleFor, costsAt}
-use Rattle.engine.specs.Fill.{scattered}
+use Rattle.trellis.specs.Rules.{ruleFor, columnsOf, costsAt}
 use Rattle.engine.specs.Lines.{placed}
 use Rattle.engine.specs.Terms.{termOf, sumTo}
 use Rattle.checknode.specs.Answers.{weightCases, checkCases}
 use Rattle.checknode.specs.Table.{productTable}
-
--- the minima of each of 2 ^ p rows
-pub record Rowed (W : List ℕ) : Type 0 where
-  pub p : ℕ
-  pub power : length W ≡ 2 ^ p
-  pub limit : length W ≤ 64
-
--- t is the highest bit of a
-pub record Highest (a t : ℕ) : Type 0 where
-  pub k : ℕ
-  pub power : t ≡ 2 ^ k
-  pub low : t ≤ a
-  pub high : a < t + t
-
--- the row after b that has the bit t clear, where b has it clear
-abbrev pub nextClear : ℕ → ℕ → ℕ
-nextClear t b = b + 1 + bitAnd (b + 1) t
-
--- the minima of q rows without column m
-abbrev pub minimaAt : List ℕ → ℕ → ℕ → List ℕ
-minimaAt t q m = part t (m * q) q
-
--- two keys of 16 bits, in columns below d
-abbrev pub Inside : ℕ → ℕ → Type 0
-Inside d u = (u / 65536 < 65536) × ((u / 65536 % 256 < d) × (u % 65536 % 256 < d))
-
--- a table of minima without each of d columns and without none, whose keys stand in these columns
-pub record MinimaTable (q d : ℕ) (t : List ℕ) : Type 0 where
-  pub p : ℕ
-  pub power : q ≡ 2 ^ p
-  pub limit : q ≤ 64
-  pub few : d ≤ 32
-  pub long : length t ≡ (d + 1) * q
-  pub inside : (b : ℕ) → b < q → Inside d (getD (minimaAt t q d) b 0)
-
--- each symbol's row is below 2 ^ p
-pub record Placed (costs row : List ℕ) (s : ℕ) (line : List ℕ) : Type 0 where
-  pub p : ℕ
-  pub size : length line ≡ 2 ^ p
-  pub full : length costs ≤ length row
-  pub below : (x : ℕ) → x < length costs → getD row x 0 < 2 ^ p
-  pub s-below : s < 2 ^ p
 
 -- h is an element of the field, p is 2 to 6, and the products of h are elements
 pub record Times (p h : ℕ) : Type 0 where
@@ -70,18 +26,6 @@ pub record Times (p h : ℕ) : Type 0 where
 -- a slice of 4,096 is the product table, and p is 6; any other slice stands for no table
 abbrev pub TableFor : ℕ → List ℕ → Type 0
 TableFor p t = length t ≡ 4096 → (p ≡ 6) × (t ≡ productTable)
-
--- one column's costs in their rows
-abbrev pub lineFrom : ℕ → ℕ → List ℕ → ℕ → List ℕ → List ℕ
-lineFrom p h costs n l = scattered costs (tab (product p h) (2 ^ p)) (product p h (firstZero costs)) n (2 ^ p) l
-
--- room for 2 ^ p products, keys and rows
-pub record Sizes (p : ℕ) (row line X Y Z : List ℕ) : Type 0 where
-  pub of-row : length row ≡ 2 ^ p
-  pub of-line : length line ≡ 2 ^ p
-  pub of-x : length X ≡ 2 ^ p
-  pub of-y : length Y ≡ 2 ^ p
-  pub of-z : length Z ≡ 2 ^ p
 
 -- the shifts, from each h times z and their sum
 unfoldable pub shiftsOf : ℕ → List ℕ → List ℕ → List ℕ
@@ -190,3 +134,18 @@ pub record SendsRoom (w l : ℕ) (rows shifts rests out : List ℕ) : Type 0 whe
   pub of-rests : length rests ≡ length shifts * l
   pub of-out : length out ≡ length shifts * w
   pub below : (n x : ℕ) → n < length shifts → x < w → xor (getD rows (n * w + x) 0) (getD shifts n 0) < l
+
+-- the places of a column's line: the field's rows, and sixteen at least
+abbrev pub sideOf : ℕ → ℕ
+sideOf p = max 16 (2 ^ p)
+
+-- room for the products, rests and shifts of d columns
+pub record RestsRoom (p d : ℕ) (rows rests shifts : List ℕ) : Type 0 where
+  pub of-rows : length rows ≡ d * 2 ^ p
+  pub of-rests : length rests ≡ d * sideOf p
+  pub of-shifts : length shifts ≡ d
+
+-- what is left of 255 after the cost sent to column n at a, for each column and each a
+pub record Rests (p : ℕ) (ws cs rests : List ℕ) : Type 0 where
+  pub full : length rests ≡ length ws * sideOf p
+  pub at : (n a : ℕ) → n < length ws → a < 2 ^ p → getD rests (n * sideOf p + a) 0 ≡ 255 - sentAt (ruleFor p) (columnsOf (2 ^ p) ws cs) n a

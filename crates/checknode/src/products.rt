@@ -9,7 +9,7 @@ ghost use lib.Dec.{eqb};
 ghost use lib.ListN.{length};
 ghost use Rattle.trellis.specs.Lists.{tab};
 ghost use Rattle.trellis.specs.Field.{product};
-ghost use Rattle.engine.specs.Fill.{bitsOf};
+ghost use Rattle.engine.specs.Terms.{bitsOf};
 ghost use Rattle.checknode.specs.Asks.{Times, TableFor};
 
 // "it is added where the dropped bit was one".

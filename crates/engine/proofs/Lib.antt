@@ -1,10 +1,8 @@
--- The engine's mathematics: rows of three keys, the choices they give, and the record.
-pub mod Form
-pub mod Rows
-pub mod Pairs
-pub mod Few
-pub mod Held
-pub mod Filled
+-- The engine's mathematics: lines, tables of rests, the shifts and groups of the record.
 pub mod Products
-pub mod Best
+pub mod BestRests
+pub mod Rests
+pub mod RestTables
+pub mod RestGroups
+pub mod Lines
 pub mod Record

@@ -1,0 +1,100 @@
+use Rattle.tables.proofs.Blocks.{copy-turn, raise-turn}
+use Rattle.tables.proofs.Turns.{tab-end, copied}
+use Rattle.trellis.specs.Lists.{tab}
+use Prim.Native.Nat.{max}
+use mathlib.Core.Path.{_≡_, refl, ap, _∙_, sym}
+use mathlib.Core.List.{List, [], _∷_, _++_}
+use mathlib.Core.Logic.{⊎-elim}
+use Prim.Native.Nat.{ℕ, zero, suc, _+_, _-_, _*_, _/_, _%_, _^_, _≤_, _<_}
+use native.Mathlib.Numerals.{add-one}
+use native.Mathlib.Omega.{arith}
+use borrow.Author.Needs.{needs}
+use borrow.Author.Tests.{eq-eqb, ne-eqb, lt-ltb, le-ltb, le-leb, lt-leb}
+use lib.ListN.{length, take, drop, getD, set, replicate, length-set, length-append, length-take, length-drop, length-replicate}
+use lib.Seq.{length-take-le}
+use Rattle.tables.proofs.block.raise.Statement.{statement}
+use Rattle.tables.proofs.block.raise.Tie as tie
+use Rattle.tables.proofs.block.raise.Reads as reads
+use Rattle.tables.proofs.block.raise.Lts as lts
+use Rattle.tables.proofs.block.raise_block.Reads as raise-block-reads
+use Rattle.tables.proofs.num.next.Reads as next-reads
+
+abbrev Inv-loop : tie.InvT-loop
+Inv-loop w e₀ n v₀ e v = ((v ≤ length e₀) × (v % 16 ≡ 0)) × ((length e ≡ length e₀) × (e ≡ tab (λ (k : ℕ). max (getD e₀ k 0) (getD w k 0)) v ++ drop v e₀))
+
+abbrev μ-loop : tie.MeasureT-loop
+μ-loop w e₀ n v₀ e v = length e₀ - v
+
+-- src/block.rt:47:5
+loop-holds : tie.Need-loop-holds Inv-loop μ-loop
+loop-holds c = search needs
+
+-- src/block.rt:48:13
+next-requires : tie.Need-next-requires Inv-loop μ-loop
+next-requires c κs = search needs
+
+-- src/block.rt:49:21
+sub-raise-block : tie.Need-sub-raise-block Inv-loop μ-loop
+sub-raise-block c = search needs
+
+-- src/block.rt:49:21
+part-raise-block-start : tie.Need-part-raise-block-start Inv-loop μ-loop
+part-raise-block-start c = search needs
+
+-- src/block.rt:49:21
+part-raise-block-end : tie.Need-part-raise-block-end Inv-loop μ-loop
+part-raise-block-end c = search needs
+
+-- src/block.rt:49:31
+sub-raise-block-2 : tie.Need-sub-raise-block-2 Inv-loop μ-loop
+sub-raise-block-2 c = search needs
+
+-- src/block.rt:49:31
+part-raise-block-start-2 : tie.Need-part-raise-block-start-2 Inv-loop μ-loop
+part-raise-block-start-2 c = search needs
+
+-- src/block.rt:49:31
+part-raise-block-end-2 : tie.Need-part-raise-block-end-2 Inv-loop μ-loop
+part-raise-block-end-2 c = search needs
+
+-- src/block.rt:49:9
+raise-block-requires : tie.Need-raise-block-requires Inv-loop μ-loop
+raise-block-requires c κs = search needs
+
+-- src/block.rt:47:5
+loop-less : tie.Need-loop-less Inv-loop μ-loop
+loop-less c = search needs
+
+-- src/block.rt:47:5
+loop-again : tie.Need-loop-again Inv-loop μ-loop
+loop-again c = let l = c .before .before .before .before .before .before .before in let a = c .before .before .before .before .before .before .before .before .before .before .args in let x = c .before .before .before .before .before .next .ensures in
+    ((omega (arith, x), omega (arith, x)), raise-turn (a .w .now) (a .e .now) (l .loop .e) (l .loop .v) _ (x .0) (omega (arith, x)) (omega arith) (l .loop .inv .1 .1) (c .before .before .raise-block .ensures))
+
+-- src/block.rt:41:1
+same-length : tie.Need-same-length Inv-loop μ-loop
+same-length c = search needs
+
+-- src/block.rt:41:1
+returns : tie.Need-returns Inv-loop μ-loop
+returns c = let l = c .before in let a = c .before .before .before .before .args in
+    tab-end (λ (k : ℕ). max (getD (a .e .now) k 0) (getD (a .w .now) k 0)) (l .loop .e) (a .e .now) (l .loop .v) (length (a .e .now)) (l .loop .inv .1 .1) (omega arith) refl
+
+pub raise-spec : {M : Type 1} → statement M
+raise-spec =
+    tie.close
+    (tie.spec
+    Inv-loop
+    μ-loop
+    loop-holds
+    next-requires
+    sub-raise-block
+    part-raise-block-start
+    part-raise-block-end
+    sub-raise-block-2
+    part-raise-block-start-2
+    part-raise-block-end-2
+    raise-block-requires
+    loop-less
+    loop-again
+    same-length
+    returns)

@@ -1,0 +1,74 @@
+use Rattle.tables.proofs.Flipping.{bit-small, flip-value}
+use Rattle.tables.proofs.Turns.{tab-turn, lanes-end}
+use Rattle.tables.specs.inner.Lanes.{lanes}
+use Rattle.trellis.specs.Field.{xor}
+use Rattle.trellis.specs.Lists.{tab}
+use mathlib.Core.Path.{_≡_, refl, ap, _∙_, sym}
+use mathlib.Core.List.{List, [], _∷_, _++_}
+use mathlib.Core.Logic.{⊎-elim}
+use Prim.Native.Nat.{ℕ, zero, suc, _+_, _-_, _*_, _/_, _%_, _^_, _≤_, _<_}
+use native.Mathlib.Numerals.{add-one}
+use native.Mathlib.Omega.{arith}
+use borrow.Author.Needs.{needs}
+use borrow.Author.Tests.{eq-eqb, ne-eqb, lt-ltb, le-ltb, le-leb, lt-leb}
+use lib.ListN.{length, take, drop, getD, set, replicate, length-set, length-append, length-take, length-drop, length-replicate}
+use lib.Seq.{length-take-le}
+use Rattle.tables.proofs.copies.flip8.Statement.{statement}
+use Rattle.tables.proofs.copies.flip8.Tie as tie
+use Rattle.tables.proofs.copies.flip8.Reads as reads
+use Rattle.tables.proofs.copies.flip8.Lts as lts
+
+abbrev Inv-loop : tie.InvT-loop
+Inv-loop t o₀ i₀ o i = (i ≤ 16) × ((length o ≡ length o₀) × (o ≡ tab (λ (j : ℕ). getD t (xor j 8) 0) i ++ drop i o₀))
+
+abbrev μ-loop : tie.MeasureT-loop
+μ-loop t o₀ i₀ o i = 16 - i
+
+-- src/copies.rt:49:5
+loop-holds : tie.Need-loop-holds Inv-loop μ-loop
+loop-holds c = search needs
+
+-- src/copies.rt:50:16
+shared-slice-read-o : tie.Need-shared-slice-read-o Inv-loop μ-loop
+shared-slice-read-o c = omega (arith, bit-small (c .before .before .loop .i) 8 (omega arith) (omega arith))
+
+-- src/copies.rt:50:9
+slice-write-o : tie.Need-slice-write-o Inv-loop μ-loop
+slice-write-o c = search needs
+
+-- src/copies.rt:51:9
+add-i : tie.Need-add-i Inv-loop μ-loop
+add-i c = search needs
+
+-- src/copies.rt:49:5
+loop-less : tie.Need-loop-less Inv-loop μ-loop
+loop-less c = search needs
+
+-- src/copies.rt:49:5
+loop-again : tie.Need-loop-again Inv-loop μ-loop
+loop-again c = let l = c .before .before in let a = l .before .args in
+    (omega arith, (simp length-set (omega arith), tab-turn (λ (j : ℕ). getD (a .t .now) (xor j 8) 0) (l .loop .o) (a .o .now) (l .loop .i) (omega arith) (l .loop .inv .1 .1) (flip-value (a .t .now) (l .loop .i) 8)))
+
+-- src/copies.rt:44:1
+same-length : tie.Need-same-length Inv-loop μ-loop
+same-length c = search needs
+
+-- src/copies.rt:44:1
+returns : tie.Need-returns Inv-loop μ-loop
+returns c = let l = c .before in let a = l .before .args in
+    lanes-end (λ (j : ℕ). getD (a .t .now) (xor j 8) 0) (l .loop .o) (a .o .now) (l .loop .i) (l .loop .inv .1 .1) (omega arith) (omega arith)
+
+pub flip8-spec : {M : Type 1} → statement M
+flip8-spec =
+    tie.close
+    (tie.spec
+    Inv-loop
+    μ-loop
+    loop-holds
+    shared-slice-read-o
+    slice-write-o
+    add-i
+    loop-less
+    loop-again
+    same-length
+    returns)

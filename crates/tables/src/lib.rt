@@ -1,0 +1,100 @@
+// A second engine for one check: tables of rests over the columns before and after each one, sixteen rows at a time.
+mod block;
+mod copies;
+mod grow;
+mod join;
+mod lane;
+mod list;
+mod num;
+mod rows;
+
+use crate::num::Shape;
+ghost use mathlib.Core.Path.{_≡_};
+ghost use Prim.Native.Nat.{_^_, _≤_};
+ghost use Rattle.tables.specs.inner.Tables.{Shaped};
+ghost use Rattle.tables.specs.Calls.{side, inRange, shapeFor, sentLeaves, groupsLeave};
+
+// The rule that travels inside the code: q is 2 ^ p, at most k deviations, costs joined to their sum or to their greatest.
+pub struct Rule {
+    pub p: u8,
+    pub k: u8,
+    pub greatest: bool,
+}
+
+// Whether rule and degree are in range.
+fn fits(rule: Rule, d: usize) -> bool
+    ensures { λ r. ⌜ r ≡ inRange (rule .p) (rule .k) d ⌝ }
+{
+    if rule.p < 2 {
+        return false;
+    }
+    if 6 < rule.p {
+        return false;
+    }
+    if rule.k < 2 {
+        return false;
+    }
+    if 3 < rule.k {
+        return false;
+    }
+    if d < 2 {
+        return false;
+    }
+    d <= 32
+}
+
+// The shape of the tables: at least sixteen rows, for that many are taken at a time.
+fn shape_of(rule: Rule) -> Shape
+    requires { ⌜ ((2 ≤ rule .p) × (rule .p ≤ 6)) × ((2 ≤ rule .k) × (rule .k ≤ 3)) ⌝ }
+    ensures { λ r. ⌜ r ≡ shapeFor (rule .p) (rule .k) (rule .greatest) ⌝ }
+    ensures { λ r. ⌜ Shaped (r .q) (r .l) (r .k) × (4 ≤ r .q) ⌝ }
+{
+    let q = 1usize << rule.p;
+    let l = num::greater(16, q);
+    Shape {
+        q: q,
+        l: l,
+        k: rule.k as usize,
+        greatest: rule.greatest,
+    }
+}
+
+// The rests of the costs sent to d columns, from the columns' lines: line n and row n start at n times the rows of a table, which are 2 ^ p and
+// at least 16. A line has in row a the rest of the symbol whose weighted difference from the decision is a, and 0 in rows from 2 ^ p on. Nothing
+// changes where p is not 2 to 6, k not 2 to 3, d not 2 to 32, or a slice too short.
+pub fn sent(rule: Rule, d: usize, lines: &[u8], out: &mut [u8])
+    ensures { λ _. ⌜ now (out .exit) ≡ sentLeaves (rule .p) (rule .k) (rule .greatest) d (now (lines .entry)) (now (out .entry)) ⌝ }
+{
+    if !fits(rule, d) {
+        return;
+    }
+    let shape = shape_of(rule);
+    let n = d * shape.l;
+    if lines.len() < n {
+        return;
+    }
+    if out.len() < n {
+        return;
+    }
+    rows::rows(shape, d, &lines[..n], &mut out[..n]);
+}
+
+// The groups of a record from the rests that `sent` writes: for each a from 1 to 2 ^ p - 1, E, then k pairs of column and cost. Nothing changes
+// where p is not 2 to 6, k not 2 to 3, d not 2 to 32, or a slice too short.
+pub fn groups(rule: Rule, d: usize, sent: &[u8], out: &mut [u8])
+    ensures { λ _. ⌜ now (out .exit) ≡ groupsLeave (rule .p) (rule .k) d (now (sent .entry)) (now (out .entry)) ⌝ }
+{
+    if !fits(rule, d) {
+        return;
+    }
+    let shape = shape_of(rule);
+    let n = d * shape.l;
+    if sent.len() < n {
+        return;
+    }
+    let m = (shape.q - 1) * (shape.k * 2 + 1);
+    if out.len() < m {
+        return;
+    }
+    list::groups_in(shape, d, &sent[..n], &mut out[..m]);
+}
