@@ -31,7 +31,7 @@ module _ (p : ℕ) (ws r out : List ℕ) where
     refused-16 u = (case-16 p ws W (length out) (λ k. refusal k) _ r (form u), case-16 p ws W (length out) (λ k. out) _ r (form u))
 
     module _ (u : o ≡ true) where
-      pub accepts : Expandable p ws r
+      pub accepts : Expandable p 2 ws r
       accepts = expandable p ws r W (form u)
 
       pub refused-2 : length out < length ws * w → RefusedBy 2

@@ -1,82 +1,92 @@
--- What the loops of an expansion read is what the definition reads: a group is five bytes, and a column's bytes are its products moved by its shift.
+-- What the loops of an expansion read from the lists is what the definition reads from the record, and a column's bytes are its products moved by its shift.
 use mathlib.Core.Path.{_≡_, refl, ap, _∙_, sym}
 use mathlib.Core.Bool.{Bool, true, false}
-use mathlib.Core.Logic.{_≢_}
-use mathlib.Core.List.{List, [], _∷_, _++_}
-use Prim.Native.Nat.{ℕ, zero, suc, _+_, _-_, _*_, _^_, _≤_, _<_}
-use native.Mathlib.Nat.{zero-add, suc-mul, mul-le-mul-right, mul-le-mul}
+use mathlib.Core.List.{List}
+use Prim.Native.Nat.{ℕ, zero, suc, _+_, _-_, _*_, _%_, _^_, _≤_, _<_}
+use native.Mathlib.Nat.{zero-add, suc-mul, mul-suc, mul-le-mul-left, mul-le-mul-right, mul-le-mul}
 use native.Mathlib.Omega.{arith}
-use borrow.Author.Tests.{eq-eqb, ne-eqb}
+use borrow.Author.Tests.{ne-eqb}
 use lib.Bits.{bitXor, xor-lt}
 use lib.Dec.{eqb, ltb, ltb→lt, eqb→eq}
-use lib.ListN.{length, getD, take, drop, set}
-use lib.Seq.{drop-cons}
-use Rattle.trellis.specs.Lists.{tab, allTo, blocks, pick}
+use lib.ListN.{length, getD, take, drop}
+use lib.Pow.{pow-pos}
+use lib.Seq.{drop-cons, getD-take, getD-drop}
+use Rattle.trellis.specs.Lists.{tab, allTo, blocks, part, pick}
 use Rattle.trellis.specs.Field.{xor, product}
-use Rattle.trellis.specs.Record.{besideGroup, groupOk, recordOk, readAt, expandAt, expansion}
-use Rattle.trellis.specs.Rules.{ruleFor}
+use Rattle.trellis.specs.Record.{beside, besideGroup, groupOk, recordOk, readAt, expandAt, expansion}
+use Rattle.trellis.specs.Rules.{ruleOf, ruleFor}
 use Rattle.trellis.proofs.Tests.{of-true, all-at}
 use Rattle.trellis.proofs.Recurrence.{size-64}
 use Rattle.trellis.proofs.FieldLaws.{fields-at, has-inverse}
-use Rattle.trellis.proofs.Loops.{tab-more, length-tab, getD-tab, tab-ext, map-tab, each-blocks, blocks-ext}
-use Rattle.checknode.specs.Asks.{Times, formOk, readFrom, columnFrom, Readable, Expandable, columnBytes}
+use Rattle.trellis.proofs.Loops.{length-tab, getD-tab, tab-ext, map-tab, each-blocks, blocks-ext}
+use Rattle.checknode.specs.Asks.{Times, formOk, Expandable, columnBytes}
+use Rattle.checknode.specs.Transposed.{zeroRow, everyAt, listOf, unpacked, byteIn, besideFrom, valueIn, bySymbol, Unpackable, Shifted}
+use Rattle.checknode.proofs.Recording.{block-at}
 use Rattle.checknode.proofs.Refusals.{Weighed, weight-at}
 
--- five elements from place i on
-five-of : (l : List ℕ) (i : ℕ) → i + 5 ≤ length l → take 5 (drop i l) ≡ getD l i 0 ∷ getD l (i + 1) 0 ∷ getD l (i + 2) 0 ∷ getD l (i + 3) 0 ∷ getD l (i + 4) 0 ∷ []
-five-of l i h =
-    let a : i + 1 ≡ suc i = omega arith in
-    let b : i + 2 ≡ suc (suc i) = omega arith in
-    let c : i + 3 ≡ suc (suc (suc i)) = omega arith in
-    let d : i + 4 ≡ suc (suc (suc (suc i))) = omega arith in
-    rw (
-      a,
-      b,
-      c,
-      d,
-      drop-cons l i 0 (omega arith),
-      drop-cons l (suc i) 0 (omega arith),
-      drop-cons l (suc (suc i)) 0 (omega arith),
-      drop-cons l (suc (suc (suc i))) 0 (omega arith),
-      drop-cons l (suc (suc (suc (suc i)))) 0 (omega arith),
-    )
+-- only the row's own bytes count
+beside-ext : (f g : ℕ → ℕ) (n k : ℕ) → ((i : ℕ) → i < 1 + 2 * k → f i ≡ g i) → (m j : ℕ) → j + m ≤ k → besideFrom f n j m ≡ besideFrom g n j m
+unfolding besideFrom
+beside-ext f g n k h zero j l = h 0 (omega arith)
+beside-ext f g n k h (suc m) j l = rw (h (1 + 2 * j) (omega arith), h (2 + 2 * j) (omega arith), beside-ext f g n k h m (suc j) (omega arith))
 
-module _ (r : List ℕ) (at n : ℕ) (h : at + 5 ≤ length r) where
-  pub beside-first : getD r (at + 1) 0 ≡ n → getD r (at + 2) 0 ≡ besideGroup n (take 5 (drop at r))
-  beside-first e = rw (five-of r at h, eq-eqb (getD r (at + 1) 0) n e)
+-- row 0 lists no column
+beside-zero : (n : ℕ) → n < 0xFF → (m j : ℕ) → besideFrom zeroRow n j m ≡ 0
+unfolding besideFrom zeroRow
+beside-zero n h zero j = refl
+beside-zero n h (suc m) j =
+    let o : (1 + 2 * j) % 2 ≡ 1 = omega arith in
+    rw (o, ne-eqb 0xFF n (λ e. omega arith)) (beside-zero n h m (suc j))
 
-  pub beside-second : getD r (at + 1) 0 ≢ n → getD r (at + 3) 0 ≡ n → getD r (at + 4) 0 ≡ besideGroup n (take 5 (drop at r))
-  beside-second u e = rw (five-of r at h, ne-eqb (getD r (at + 1) 0) n u, eq-eqb (getD r (at + 3) 0) n e)
+-- a group's pairs, from its bytes
+beside-group : (r : List ℕ) (at n : ℕ) (m j : ℕ) → at + (1 + 2 * (j + m)) ≤ length r
+    → besideFrom (λ i. getD r (at + i) 0) n j m ≡ beside n (getD r (at + 0) 0) (take (2 * m) (drop (at + (1 + 2 * j)) r))
+unfolding besideFrom
+beside-group r at n zero j h = refl
+beside-group r at n (suc m) j h =
+    let two : 2 * suc m ≡ suc (suc (2 * m)) = omega arith in
+    let x : ℕ = at + (1 + 2 * j) in
+    let y : at + (2 + 2 * j) ≡ suc x = omega arith in
+    let z : at + (1 + 2 * suc j) ≡ suc (suc x) = omega arith in
+    rw (two, drop-cons r x 0 (omega arith), drop-cons r (suc x) 0 (omega arith), y, beside-group r at n m (suc j) (omega arith), z)
 
-  pub beside-none : getD r (at + 1) 0 ≢ n → getD r (at + 3) 0 ≢ n → getD r at 0 ≡ besideGroup n (take 5 (drop at r))
-  beside-none u v = rw (five-of r at h, ne-eqb (getD r (at + 1) 0) n u, ne-eqb (getD r (at + 3) 0) n v)
+-- the group itself
+beside-open : (r : List ℕ) (at n k : ℕ) → at < length r → beside n (getD r (at + 0) 0) (take (2 * k) (drop (at + (1 + 2 * 0)) r)) ≡ besideGroup n (take (1 + 2 * k) (drop at r))
+beside-open r at n k h =
+    let z : at + 0 ≡ at = omega arith in
+    let y : at + (1 + 2 * 0) ≡ suc at = omega arith in
+    let one : 1 + 2 * k ≡ suc (2 * k) = omega arith in
+    rw (z, y, one, drop-cons r at 0 h)
 
-pub read-zero : (d : ℕ) (r : List ℕ) (n a : ℕ) → a ≡ 0 → 0 ≡ readFrom d r n a
-unfolding readFrom
-read-zero d r n a e = rw (eq-eqb a 0 e)
+-- the lists hold the record's bytes
+module _ (k d q : ℕ) (r t : List ℕ) (e : take ((1 + 2 * k) * q) t ≡ unpacked k d q r) where
+  byte-is : (a i : ℕ) → a < q → i < 1 + 2 * k → byteIn t q a i ≡ everyAt r (d + i) (1 + 2 * k) (zeroRow i) a
+  unfolding unpacked
+  byte-is a i h l =
+      let m : i * q + a < (1 + 2 * k) * q = omega (arith, suc-mul i q, mul-le-mul-right {m = suc i} {n = 1 + 2 * k} q l) in
+      let u : getD t (i * q + a) 0 ≡ getD (take ((1 + 2 * k) * q) t) (i * q + a) 0 = sym (getD-take ((1 + 2 * k) * q) t (i * q + a) 0 m) in
+      let v : getD (part (blocks (listOf k d q r) (1 + 2 * k)) (i * q) q) a 0 ≡ getD (blocks (listOf k d q r) (1 + 2 * k)) (i * q + a) 0 =
+      getD-take q (drop (i * q) (blocks (listOf k d q r) (1 + 2 * k))) a 0 h ∙ getD-drop (i * q) (blocks (listOf k d q r) (1 + 2 * k)) a 0 in
+      u
+      ∙ ap (λ l. getD l (i * q + a) 0) e
+      ∙ sym v
+      ∙ ap (λ l. getD l a 0) (block-at (listOf k d q r) q (λ j. length-tab _ q) (1 + 2 * k) i l)
+      ∙ getD-tab (everyAt r (d + i) (1 + 2 * k) (zeroRow i)) q a h
 
-pub read-some : (d : ℕ) (r : List ℕ) (n a : ℕ) {v : ℕ} → a ≢ 0 → v ≡ besideGroup n (take 5 (drop (d + 5 * (a - 1)) r)) → v ≡ readFrom d r n a
-unfolding readFrom
-read-some d r n a u e = rw (ne-eqb a 0 u) e
+  -- what a row says is document 01's reading
+  pub value-is : (p n a : ℕ) → q ≡ 2 ^ p → length r ≡ d + (1 + 2 * k) * (2 ^ p - 1) → n < 0xFF → a < q → valueIn k t q n a ≡ readAt (ruleOf p _+_ k) d r n a
+  unfolding everyAt readAt
+  value-is p n zero s l h o = beside-ext (byteIn t q zero) zeroRow n k (λ i m. byte-is zero i o m) k 0 (omega arith) ∙ beside-zero n h k 0
+  value-is p n (suc b) s l h o =
+      let g : ℕ = 1 + 2 * k in
+      let at : ℕ = d + g * b in
+      let w : g * suc b ≤ g * (2 ^ p - 1) = mul-le-mul-left g (omega arith) in
+      let room : at + (1 + 2 * (0 + k)) ≤ length r = omega (arith, l, w, mul-suc g b) in
+      beside-ext (byteIn t q (suc b)) (λ i. getD r (at + i) 0) n k (λ i m. byte-is (suc b) i o m ∙ ap (λ j. getD r j 0) (omega arith)) k 0 (omega arith)
+      ∙ beside-group r at n k 0 room
+      ∙ beside-open r at n k (omega arith)
 
--- a place read is in the record
-pub read-room : (p d : ℕ) (r row : List ℕ) (s x : ℕ) → Readable p d r row s → x < 2 ^ p → {a : ℕ} → a ≡ bitXor (getD row x 0) s → d + 5 * a ≤ length r
-read-room p d r row s x R h e = omega (arith, R .long, e, xor-lt p (getD row x 0) s (R .below x h) (R .s-below))
-
-pub column-turn : (d n s x : ℕ) (r row l out : List ℕ) → x < length l → out ≡ tab (columnFrom d r n row s) x ++ drop x l → {a v : ℕ} → a ≡ bitXor (getD row x 0) s → v ≡ readFrom d r n a
-    → set out x v ≡ tab (columnFrom d r n row s) (x + 1) ++ drop (x + 1) l
-unfolding xor
-column-turn d n s x r row l out h e a v = rw (e, v, a) (tab-more (columnFrom d r n row s) l x h)
-
--- readFrom is document 01's reading
-pub read-is : (p d : ℕ) (r : List ℕ) (n a : ℕ) → readFrom d r n a ≡ readAt (ruleFor p) d r n a
-unfolding readFrom readAt
-read-is p d r n zero = refl
-read-is p d r n (suc a) =
-    let e : suc a - 1 ≡ a = omega arith in
-    rw (e, ne-eqb (suc a) 0 (omega arith))
-
-module _ (p : ℕ) (ws r : List ℕ) (X : Expandable p ws r) where
+module _ {p k : ℕ} {ws r : List ℕ} (X : Expandable p k ws r) where
   pub times-at : (n : ℕ) → n < length ws → Times p (getD ws n 0)
   times-at n h =
       record {
@@ -86,14 +96,18 @@ module _ (p : ℕ) (ws r : List ℕ) (X : Expandable p ws r) where
         closed = has-inverse p (fields-at p (X .low) (X .high)) (getD ws n 0) (X .weight-small n h) (X .weight-some n h) .closed;
       }
 
-  pub readable-at : (n : ℕ) → n < length ws → {row : List ℕ} → row ≡ tab (product p (getD ws n 0)) (2 ^ p) → Readable p (length ws) r row (getD r n 0)
-  readable-at n h e =
+  pub shifted-at : (n : ℕ) → n < length ws → {row : List ℕ} → row ≡ tab (product p (getD ws n 0)) (2 ^ p) → Shifted row (getD r n 0)
+  shifted-at n h {row} e =
+      let l : length row ≡ 2 ^ p = ap length e ∙ length-tab _ (2 ^ p) in
       record {
-        long = X .long;
-        full = ap length e ∙ length-tab _ (2 ^ p);
-        below = λ x l. rw (e, getD-tab (product p (getD ws n 0)) (2 ^ p) x l) (times-at n h .closed x l);
+        p = p;
+        size = l;
+        below = λ x i. let j : x < 2 ^ p = omega arith in rw (e, getD-tab (product p (getD ws n 0)) (2 ^ p) x j) (times-at n h .closed x j);
         s-below = X .shift-small n h;
       }
+
+  pub unpackable : (w : ℕ) (out : List ℕ) → w ≡ 2 ^ p → w ≤ 64 → length out ≡ (1 + 2 * k) * w → Unpackable k (length ws) w r out
+  unpackable w out e h l = record { pairs = X .pairs; some = rw e (pow-pos p); most = h; few = X .few; long = rw e (X .long); room = l }
 
   -- column n's place in the buffer
   pub column-fits : (w : ℕ) → w ≡ 2 ^ p → (n : ℕ) → n < length ws → n * w + w ≤ length ws * 2 ^ p
@@ -102,39 +116,45 @@ module _ (p : ℕ) (ws r : List ℕ) (X : Expandable p ws r) where
   pub column-room : (w : ℕ) → w ≡ 2 ^ p → (n : ℕ) → n < length ws → n * w + w ≤ 2048
   column-room w e n h = omega (arith, column-fits w e n h, mul-le-mul (X .few) (size-64 p (X .high)))
 
-  pub column-is : (n : ℕ) {row out : List ℕ} → row ≡ tab (product p (getD ws n 0)) (2 ^ p) → out ≡ tab (columnFrom (length ws) r n row (getD r n 0)) (2 ^ p) → out ≡ columnBytes p ws r n
-  unfolding expandAt
-  column-is n {row} e o =
+  pub column-is : (n q : ℕ) (t : List ℕ) → n < length ws → q ≡ 2 ^ p → take ((1 + 2 * k) * q) t ≡ unpacked k (length ws) q r → {row out : List ℕ} → row ≡ tab (product p (getD ws n 0)) (2 ^ p)
+      → out ≡ tab (bySymbol (tab (valueIn k t q n) q) row (getD r n 0)) q → out ≡ columnBytes p k ws r n
+  unfolding expandAt xor
+  column-is n q t h s u {row} e o =
       o
-      ∙ tab-ext _ _ (2 ^ p) (λ x l.
-      let g : getD row x 0 ≡ product p (getD ws n 0) x = ap (λ y. getD y x 0) e ∙ getD-tab (product p (getD ws n 0)) (2 ^ p) x l in
-      rw (g, zero-add x) (read-is p (length ws) r n _))
-      ∙ sym (map-tab (expandAt (ruleFor p) ws r n) 0 (2 ^ p))
+      ∙ tab-ext _ (λ x. expandAt (ruleOf p _+_ k) ws r n (0 + x)) q (λ x l.
+      let i : x < 2 ^ p = omega arith in
+      let g : getD row x 0 ≡ product p (getD ws n 0) x = ap (λ y. getD y x 0) e ∙ getD-tab (product p (getD ws n 0)) (2 ^ p) x i in
+      let a : ℕ = bitXor (product p (getD ws n 0) x) (getD r n 0) in
+      let m : a < q = rw s (xor-lt p (product p (getD ws n 0) x) (getD r n 0) (times-at n h .closed x i) (X .shift-small n h)) in
+      rw (g, zero-add x) (getD-tab (valueIn k t q n) q a m ∙ value-is k (length ws) q r t u p n a s (X .long) (omega (arith, X .few)) m))
+      ∙ ap (tab _) s
+      ∙ sym (map-tab (expandAt (ruleOf p _+_ k) ws r n) 0 (2 ^ p))
 
-  pub bytes-full : (n : ℕ) → length (columnBytes p ws r n) ≡ 2 ^ p
-  bytes-full n = ap length (map-tab (expandAt (ruleFor p) ws r n) 0 (2 ^ p)) ∙ length-tab _ (2 ^ p)
+  pub bytes-full : (n : ℕ) → length (columnBytes p k ws r n) ≡ 2 ^ p
+  bytes-full n = ap length (map-tab (expandAt (ruleOf p _+_ k) ws r n) 0 (2 ^ p)) ∙ length-tab _ (2 ^ p)
 
-  pub expansion-is : blocks (columnBytes p ws r) (length ws) ≡ expansion (ruleFor p) ws r
+  pub expansion-is : blocks (columnBytes p k ws r) (length ws) ≡ expansion (ruleOf p _+_ k) ws r
   unfolding expansion
-  expansion-is = sym (each-blocks (columnBytes p ws r) 0 (length ws) ∙ blocks-ext _ _ (length ws) (λ n l. ap (columnBytes p ws r) (zero-add n)))
+  expansion-is = sym (each-blocks (columnBytes p k ws r) 0 (length ws) ∙ blocks-ext _ _ (length ws) (λ n l. ap (columnBytes p k ws r) (zero-add n)))
 
 -- formOk is document 01's form
 pub form-is : (p d : ℕ) (r : List ℕ) {q : ℕ} → q ≡ 2 ^ p → formOk q d r ≡ recordOk (ruleFor p) d r
 unfolding formOk recordOk
 form-is p d r e = rw e
 
-pub expandable : (p : ℕ) (ws r : List ℕ) → Weighed p ws → recordOk (ruleFor p) (length ws) r ≡ true → Expandable p ws r
+pub expandable : (p : ℕ) (ws r : List ℕ) → Weighed p ws → recordOk (ruleFor p) (length ws) r ≡ true → Expandable p 2 ws r
 unfolding recordOk
 expandable p ws r W o = go (eqb (length r) (length ws + 5 * (2 ^ p - 1))) refl (allTo (λ n. ltb (getD r n 0) (2 ^ p)) (length ws)) refl o
   where
     go : (a : Bool) → eqb (length r) (length ws + 5 * (2 ^ p - 1)) ≡ a → (b : Bool) → allTo (λ n. ltb (getD r n 0) (2 ^ p)) (length ws) ≡ b
-        → pick a (pick b (allTo (groupOk (ruleFor p) (length ws) r) (2 ^ p - 1)) false) false ≡ true → Expandable p ws r
+        → pick a (pick b (allTo (groupOk (ruleFor p) (length ws) r) (2 ^ p - 1)) false) false ≡ true → Expandable p 2 ws r
     go false u b v o = let z : _≡_ {A = ℕ} 0 1 = cc in absurd (omega arith)
     go true u false v o = let z : _≡_ {A = ℕ} 0 1 = cc in absurd (omega arith)
     go true u true v o =
         record {
           low = W .low;
           high = W .high;
+          pairs = omega arith;
           few = W .few;
           weight-some = λ n h. weight-at p ws W n h .0;
           weight-small = λ n h. weight-at p ws W n h .1;

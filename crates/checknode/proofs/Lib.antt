@@ -6,6 +6,7 @@ pub mod Turns
 pub mod Refusals
 pub mod CheckFault
 pub mod CheckCall
+pub mod Transposing
 pub mod Expanding
 pub mod Forming
 pub mod ExpandCall

@@ -12,7 +12,8 @@ use Rattle.trellis.specs.Field.{xor, product}
 use Rattle.trellis.specs.Check.{firstZero}
 use Rattle.trellis.specs.Ready.{Ready}
 use Rattle.engine.specs.Lines.{placed}
-use Rattle.checknode.specs.Asks.{PlaceRoom, LinesRoom, Times, rowOf, restsFrom, restsOf, sentFrom, sentColumn, SendRoom, SendsRoom}
+use Rattle.checknode.specs.Asks.{Times}
+use Rattle.checknode.specs.Lines.{PlaceRoom, LinesRoom, rowOf, restsFrom, restsOf, sentFrom, sentColumn, SendRoom, SendsRoom}
 use Rattle.trellis.proofs.Loops.{length-tab, getD-tab, tab-more, block-more}
 use Rattle.checknode.proofs.Filling.{column-term}
 use Rattle.checknode.proofs.Turns.{part-is}

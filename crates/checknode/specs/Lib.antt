@@ -1,4 +1,7 @@
+-- What a reader must believe: Answers, the replies of the calls, and Demand, demand 2 in their words. The rest mirrors loops.
 pub mod Answers
-pub mod Asks
-pub mod Table
 pub mod Demand
+pub mod Asks
+pub mod Lines
+pub mod Table
+pub mod Transposed

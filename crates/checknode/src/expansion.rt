@@ -1,60 +1,167 @@
-// The expansion of a record.
+// The expansion of a record. Its groups are unpacked once into lists over the rows a: E, then column and S of each pair. A column goes through
+// the lists, with no jump that depends on what they hold.
 use crate::num;
 use crate::products;
 use crate::table;
 ghost use mathlib.Core.Path.{_≡_};
-ghost use Prim.Native.Nat.{_+_, _-_, _*_, _^_, _≤_, _<_};
-ghost use lib.ListN.{length, take, drop};
+ghost use mathlib.Core.Bool.{cond};
+ghost use Prim.Native.Nat.{ℕ, _+_, _-_, _*_, _^_, _≤_, _<_};
+ghost use lib.Dec.{eqb};
+ghost use lib.ListN.{length, take, getD};
 ghost use Rattle.trellis.specs.Lists.{tab};
-ghost use Rattle.trellis.specs.Record.{besideGroup, expansion};
-ghost use Rattle.trellis.specs.Rules.{ruleFor};
-ghost use Rattle.checknode.specs.Asks.{TableFor, readFrom, columnFrom, Readable, Expandable};
+ghost use Rattle.trellis.specs.Record.{expansion};
+ghost use Rattle.trellis.specs.Rules.{ruleOf, ruleFor};
+ghost use Rattle.checknode.specs.Asks.{TableFor, Expandable};
+ghost use Rattle.checknode.specs.Transposed.{zeroRow, everyAt, unpacked, besideIn, valueIn, bySymbol, Unpackable, Listed, Shifted};
 
-// "the S beside n if a's pairs list n, else E(a)", of the group that starts at place at.
-fn beside(r: &[u8], at: usize, n: u8) -> u8
-    requires { ⌜ at + 5 ≤ length (now r) ⌝ }
-    ensures { λ v. ⌜ v ≡ besideGroup n (take 5 (drop at (now (r .entry)))) ⌝ }
+// What list i has in row 0: "the byte is 0 if a is 0", and no column is FF.
+fn zero_row(i: usize) -> u8
+    ensures { λ r. ⌜ r ≡ zeroRow i ⌝ }
 {
-    if r[at + 1] == n {
-        return r[at + 2];
-    }
-    if r[at + 3] == n {
-        return r[at + 4];
-    }
-    r[at]
+    if i % 2 == 1 { 0xFF } else { 0x00 }
 }
 
-// "the byte is 0 if a is 0".
-fn read(r: &[u8], d: usize, n: u8, a: usize) -> u8
-    requires { ⌜ (d ≤ 32) × ((a ≤ 64) × (d + 5 * a ≤ length (now r))) ⌝ }
-    ensures { λ v. ⌜ v ≡ readFrom d (now (r .entry)) n a ⌝ }
+// One byte of each row: first for row 0, then every g-th of the record from place at on.
+fn every(r: &[u8], at: usize, g: usize, first: u8, out: &mut [u8])
+    requires { ⌜ 1 ≤ length (now out) ⌝ }
+    requires { ⌜ ((b : ℕ) → b + 1 < length (now out) → at + g * b < length (now r)) ⌝ }
+    ensures { λ _. ⌜ now (out .exit) ≡ tab (everyAt (now (r .entry)) at g first) (length (now (out .entry))) ⌝ }
 {
-    if a == 0 {
-        return 0;
+    out[0] = first;
+    let mut a = 1;
+    while a < out.len() {
+        out[a] = r[at + g * (a - 1)];
+        a += 1;
     }
-    beside(r, d + 5 * (a - 1), n)
 }
 
-// One column, by x.
-fn column(p: u8, r: &[u8], d: usize, n: u8, row: &[u8], s: u8, out: &mut [u8])
-    requires { ⌜ Readable p d (now r) (now row) s ⌝ }
-    requires { ⌜ (p ≤ 6) × ((d ≤ 32) × (length (now out) ≡ 2 ^ p)) ⌝ }
-    ensures { λ _. ⌜ now (out .exit) ≡ tab (columnFrom d (now (r .entry)) n (now (row .entry)) s) (2 ^ p) ⌝ }
+// The lists of w rows, end to end, from groups of k pairs.
+fn unpack(r: &[u8], d: usize, w: usize, k: usize, out: &mut [u8])
+    requires { ⌜ Unpackable k d w (now r) (now out) ⌝ }
+    ensures { λ _. ⌜ now (out .exit) ≡ unpacked k d w (now (r .entry)) ⌝ }
+{
+    let g = 1 + 2 * k;
+    let mut i = 0;
+    while i < g {
+        let a = i * w;
+        let e = a + w;
+        every(r, d + i, g, zero_row(i), &mut out[a..e]);
+        i += 1;
+    }
+}
+
+fn copy(e: &[u8], v: &mut [u8])
+    requires { ⌜ length (now v) ≤ length (now e) ⌝ }
+    ensures { λ _. ⌜ now (v .exit) ≡ tab (λ a. getD (now (e .entry)) a 0) (length (now (v .entry))) ⌝ }
+{
+    let mut a = 0;
+    while a < v.len() {
+        v[a] = e[a];
+        a += 1;
+    }
+}
+
+// S of a pair whose column is n, else what stood there.
+fn chosen(c: u8, n: u8, s: u8, v: u8) -> u8
+    ensures { λ r. ⌜ r ≡ cond (eqb c n) s v ⌝ }
+{
+    if c == n { s } else { v }
+}
+
+// One pair of all rows in v.
+fn pair(c: &[u8], s: &[u8], n: u8, v: &mut [u8])
+    requires { ⌜ (length (now v) ≤ length (now c)) × (length (now v) ≤ length (now s)) ⌝ }
+    ensures { λ _. ⌜ now (v .exit) ≡ tab (besideIn (now (c .entry)) (now (s .entry)) n (now (v .entry))) (length (now (v .entry))) ⌝ }
+{
+    let mut a = 0;
+    while a < v.len() {
+        v[a] = chosen(c[a], n, s[a], v[a]);
+        a += 1;
+    }
+}
+
+// "the S beside n if a's pairs list n, else E(a)", for the rows from row at on. The first pair that lists n has the last word.
+fn rows_from(t: &[u8], w: usize, k: usize, n: u8, at: usize, v: &mut [u8])
+    requires { ⌜ (k ≤ 3) × ((w ≤ 64) × (2 * k * w + (at + length (now v)) ≤ length (now t))) ⌝ }
+    ensures { λ _. ⌜ now (v .exit) ≡ tab (λ a. valueIn k (now (t .entry)) w n (at + a)) (length (now (v .entry))) ⌝ }
+{
+    copy(&t[at..], v);
+    let mut j = k;
+    while 0 < j {
+        j -= 1;
+        let c = (1 + 2 * j) * w + at;
+        let s = c + w;
+        pair(&t[c..], &t[s..], n, v);
+    }
+}
+
+// The values of one column, row by row, sixteen rows at a time: with fewer than sixteen the rest is read and not used.
+fn values(t: &[u8], w: usize, k: usize, n: u8, v: &mut [u8])
+    requires { ⌜ Listed k w (now t) ⌝ }
+    requires { ⌜ length (now v) ≡ 64 ⌝ }
+    ensures { λ _. ⌜ take w (now (v .exit)) ≡ tab (valueIn k (now (t .entry)) w n) w ⌝ }
+{
+    let mut a = 0;
+    while a < w {
+        let e = a + 16;
+        rows_from(t, w, k, n, a, &mut v[a..e]);
+        a = e;
+    }
+}
+
+// What stands in rows, by symbols: x has the value of its row, its product moved by the shift.
+fn by_symbol(v: &[u8], row: &[u8], s: u8, out: &mut [u8])
+    requires { ⌜ Shifted (now row) s ⌝ }
+    requires { ⌜ (length (now v) ≡ length (now row)) × (length (now out) ≡ length (now row)) ⌝ }
+    ensures { λ _. ⌜ now (out .exit) ≡ tab (bySymbol (now (v .entry)) (now (row .entry)) s) (length (now (out .entry))) ⌝ }
 {
     let mut x = 0;
     while x < out.len() {
-        let a = num::index(row[x] ^ s);
-        out[x] = read(r, d, n, a);
+        out[x] = v[num::index(row[x] ^ s)];
         x += 1;
     }
 }
 
-// All columns, in room of the caller's for one column's products.
-fn columns(p: u8, w: usize, weights: &[u8], r: &[u8], table: &[u8], row: &mut [u8], out: &mut [u8])
-    requires { ⌜ Expandable p (now weights) (now r) ⌝ }
+// One column, by symbols, in room of the caller's for its values.
+fn column_in(t: &[u8], w: usize, k: usize, n: u8, row: &[u8], s: u8, v: &mut [u8], out: &mut [u8])
+    requires { ⌜ Listed k w (now t) ⌝ }
+    requires { ⌜ Shifted (now row) s ⌝ }
+    requires { ⌜ (length (now v) ≡ 64) × ((length (now row) ≡ w) × (length (now out) ≡ w)) ⌝ }
+    ensures { λ _. ⌜ now (out .exit) ≡ tab (bySymbol (tab (valueIn k (now (t .entry)) w n) w) (now (row .entry)) s) w ⌝ }
+{
+    values(t, w, k, n, v);
+    by_symbol(&v[..w], row, s, out);
+}
+
+// The room is an array of the column's own: the compiler then knows that it is apart from the lists.
+fn column(t: &[u8], w: usize, k: usize, n: u8, row: &[u8], s: u8, out: &mut [u8])
+    requires { ⌜ Listed k w (now t) ⌝ }
+    requires { ⌜ Shifted (now row) s ⌝ }
+    requires { ⌜ (length (now row) ≡ w) × (length (now out) ≡ w) ⌝ }
+    ensures { λ _. ⌜ now (out .exit) ≡ tab (bySymbol (tab (valueIn k (now (t .entry)) w n) w) (now (row .entry)) s) w ⌝ }
+{
+    let mut v = [0u8; 64];
+    column_in(t, w, k, n, row, s, &mut v, out);
+}
+
+// All columns, from the lists, in room of the caller's for one column's products.
+fn columns(
+    p: u8,
+    w: usize,
+    k: usize,
+    weights: &[u8],
+    r: &[u8],
+    t: &[u8],
+    table: &[u8],
+    row: &mut [u8],
+    out: &mut [u8],
+)
+    requires { ⌜ Expandable p k (now weights) (now r) ⌝ }
     requires { ⌜ TableFor p (now table) ⌝ }
+    requires { ⌜ Listed k w (now t) ⌝ }
+    requires { ⌜ take ((1 + 2 * k) * w) (now t) ≡ unpacked k (length (now weights)) w (now r) ⌝ }
     requires { ⌜ (w ≡ 2 ^ p) × ((length (now row) ≡ 2 ^ p) × (length (now out) ≡ length (now weights) * 2 ^ p)) ⌝ }
-    ensures { λ _. ⌜ now (out .exit) ≡ expansion (ruleFor p) (now (weights .entry)) (now (r .entry)) ⌝ }
+    ensures { λ _. ⌜ now (out .exit) ≡ expansion (ruleOf p _+_ k) (now (weights .entry)) (now (r .entry)) ⌝ }
 {
     let d = weights.len();
     let mut n = 0;
@@ -62,33 +169,48 @@ fn columns(p: u8, w: usize, weights: &[u8], r: &[u8], table: &[u8], row: &mut [u
         let a = n * w;
         let e = a + w;
         products::fill(p, weights[n], table, row);
-        column(p, r, d, n as u8, row, r[n], &mut out[a..e]);
+        column(t, w, k, n as u8, row, r[n], &mut out[a..e]);
         n += 1;
     }
 }
 
-// The part of the room that an expansion takes.
-fn in_room(p: u8, w: usize, weights: &[u8], r: &[u8], table: &[u8], row: &mut [u8], out: &mut [u8])
-    requires { ⌜ Expandable p (now weights) (now r) ⌝ }
+// The lists, and the columns from them, in the parts of the room that they take.
+fn in_room(
+    p: u8,
+    w: usize,
+    k: usize,
+    weights: &[u8],
+    r: &[u8],
+    table: &[u8],
+    row: &mut [u8],
+    t: &mut [u8],
+    out: &mut [u8],
+)
+    requires { ⌜ Expandable p k (now weights) (now r) ⌝ }
     requires { ⌜ TableFor p (now table) ⌝ }
-    requires { ⌜ (w ≤ length (now row)) × ((w ≡ 2 ^ p) × (length (now out) ≡ length (now weights) * 2 ^ p)) ⌝ }
-    ensures { λ _. ⌜ now (out .exit) ≡ expansion (ruleFor p) (now (weights .entry)) (now (r .entry)) ⌝ }
+    requires { ⌜ (64 ≤ length (now row)) × ((1 + 2 * k) * 64 ≤ length (now t)) ⌝ }
+    requires { ⌜ (w ≤ 64) × ((w ≡ 2 ^ p) × (length (now out) ≡ length (now weights) * 2 ^ p)) ⌝ }
+    ensures { λ _. ⌜ now (out .exit) ≡ expansion (ruleOf p _+_ k) (now (weights .entry)) (now (r .entry)) ⌝ }
 {
-    columns(p, w, weights, r, table, &mut row[..w], out);
+    let m = (1 + 2 * k) * w;
+    unpack(r, weights.len(), w, k, &mut t[..m]);
+    columns(p, w, k, weights, r, t, table, &mut row[..w], out);
 }
 
-// The expansion, with the room that it takes. To have the table at hand it is copied, once for all columns, from 8 columns on;
-// weights, at most 32, stand for no table.
+// The expansion, with the room that it takes: a group has two pairs. To have the table at hand it is copied, once for all columns, from 8
+// columns on; weights, at most 32, stand for no table.
 pub fn expand_in(p: u8, w: usize, weights: &[u8], r: &[u8], out: &mut [u8])
-    requires { ⌜ Expandable p (now weights) (now r) ⌝ }
+    requires { ⌜ Expandable p 2 (now weights) (now r) ⌝ }
     requires { ⌜ (w ≤ 64) × ((w ≡ 2 ^ p) × (length (now out) ≡ length (now weights) * 2 ^ p)) ⌝ }
     ensures { λ _. ⌜ now (out .exit) ≡ expansion (ruleFor p) (now (weights .entry)) (now (r .entry)) ⌝ }
 {
+    let k = 2;
     let mut row = [0u8; 64];
+    let mut t = [0u8; 320];
     if table::taken(p, weights.len()) {
         let products = table::products();
-        in_room(p, w, weights, r, &products, &mut row, out);
+        in_room(p, w, k, weights, r, &products, &mut row, &mut t, out);
         return;
     }
-    in_room(p, w, weights, r, weights, &mut row, out);
+    in_room(p, w, k, weights, r, weights, &mut row, &mut t, out);
 }

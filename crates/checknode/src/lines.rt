@@ -12,7 +12,8 @@ ghost use Rattle.trellis.specs.Check.{firstZero};
 ghost use Rattle.trellis.specs.Ready.{Ready};
 ghost use Rattle.engine.specs.Terms.{termOf, sumTo};
 ghost use Rattle.engine.specs.Lines.{placed};
-ghost use Rattle.checknode.specs.Asks.{PlaceRoom, Times, TableFor, restsFrom, restsOf, rowOf, LinesRoom};
+ghost use Rattle.checknode.specs.Asks.{Times, TableFor};
+ghost use Rattle.checknode.specs.Lines.{PlaceRoom, restsFrom, restsOf, rowOf, LinesRoom};
 
 fn clear(line: &mut [u8])
     ensures { λ _. ⌜ now (line .exit) ≡ tab (λ a. 0) (length (now (line .entry))) ⌝ }

@@ -15,7 +15,8 @@ ghost use Rattle.trellis.specs.Check.{allSent};
 ghost use Rattle.trellis.specs.Record.{recordOf, recordLength};
 ghost use Rattle.trellis.specs.Rules.{ruleFor, columnsOf};
 ghost use Rattle.trellis.specs.Ready.{Ready};
-ghost use Rattle.checknode.specs.Asks.{TableFor, rowOf, shiftsOf, RestsRoom, Rests};
+ghost use Rattle.checknode.specs.Asks.{TableFor, shiftsOf};
+ghost use Rattle.checknode.specs.Lines.{rowOf, RestsRoom, Rests};
 
 // Document 01's rule: at most two deviations, and a choice costs the sum.
 fn rule_of(p: u8) -> Rule

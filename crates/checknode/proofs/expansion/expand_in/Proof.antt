@@ -1,4 +1,4 @@
--- Where the table is taken p is 6; weights are too few to be taken for it. An array of 64 has room for w at most 64.
+-- Where the table is taken p is 6; weights are too few to be taken for it. The arrays have room for 64 rows.
 use native.Mathlib.Omega.{arith}
 use borrow.Author.Needs.{needs}
 use Rattle.checknode.proofs.expansion.expand_in.Statement.{statement}
@@ -16,10 +16,16 @@ slice-aggregate-in-room c = search needs
 slice-aggregate-in-room-2 : tie.Need-slice-aggregate-in-room-2
 slice-aggregate-in-room-2 c = search needs
 
+slice-aggregate-in-room-3 : tie.Need-slice-aggregate-in-room-3
+slice-aggregate-in-room-3 c = search needs
+
 in-room-requires : tie.Need-in-room-requires
 in-room-requires c κs =
-    let s = c .before .before .before .before .before .before .before .before .before in
-    (s .pre .0, (λ l. (c .before .before .before .before .before .taken .ensures (c .before .before .before .before .if1 .taken), c .before .before .before .products .ensures), (omega arith, s .pre .1 .1)))
+    let at-products = c .before .before .before .before in
+    let at-if1 = at-products .before in
+    let at-taken = at-if1 .before in
+    let start = at-taken .before .before .before .before in
+    (start .pre .0, (λ l. (at-taken .taken .ensures (at-if1 .if1 .taken), at-products .products .ensures), ((omega arith, omega arith), start .pre .1)))
 
 same-length : tie.Need-same-length
 same-length c = search needs
@@ -27,13 +33,16 @@ same-length c = search needs
 returns : tie.Need-returns
 returns c = search needs
 
-slice-aggregate-in-room-3 : tie.Need-slice-aggregate-in-room-3
-slice-aggregate-in-room-3 c = search needs
+slice-aggregate-in-room-4 : tie.Need-slice-aggregate-in-room-4
+slice-aggregate-in-room-4 c = search needs
+
+slice-aggregate-in-room-5 : tie.Need-slice-aggregate-in-room-5
+slice-aggregate-in-room-5 c = search needs
 
 in-room-requires-2 : tie.Need-in-room-requires-2
 in-room-requires-2 c κs =
-    let s = c .before .before .before .before .before .before .before in
-    (s .pre .0, (λ l. absurd (omega (arith, s .pre .0 .few)), (omega arith, s .pre .1 .1)))
+    let start = c .before .before .before .before .before .before .before .before in
+    (start .pre .0, (λ l. absurd (omega (arith, start .pre .0 .few)), ((omega arith, omega arith), start .pre .1)))
 
 same-length-2 : tie.Need-same-length-2
 same-length-2 c = search needs
@@ -49,10 +58,12 @@ expand-in-spec =
     products-requires
     slice-aggregate-in-room
     slice-aggregate-in-room-2
+    slice-aggregate-in-room-3
     in-room-requires
     same-length
     returns
-    slice-aggregate-in-room-3
+    slice-aggregate-in-room-4
+    slice-aggregate-in-room-5
     in-room-requires-2
     same-length-2
     returns-2)

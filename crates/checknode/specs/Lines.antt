@@ -1,0 +1,74 @@
+-- What the loops leave that make the lines, and those that read the sent costs from the rests; what these ask of their slices.
+use mathlib.Core.Path.{_≡_}
+use mathlib.Core.List.{List}
+use Prim.Native.Nat.{ℕ, _+_, _-_, _*_, _^_, _≤_, _<_, max}
+use lib.ListN.{length, getD}
+use Rattle.trellis.specs.Lists.{tab, part}
+use Rattle.trellis.specs.Field.{xor, product}
+use Rattle.trellis.specs.Check.{firstZero, sentAt}
+use Rattle.trellis.specs.Rules.{ruleFor, columnsOf, costsAt}
+use Rattle.engine.specs.Lines.{placed}
+
+-- each symbol's row is below 2 ^ p, and the line has these rows
+pub record PlaceRoom (costs row : List ℕ) (s : ℕ) (line : List ℕ) : Type 0 where
+  pub p : ℕ
+  pub wide : 2 ^ p ≤ length line
+  pub full : length costs ≤ length row
+  pub below : (x : ℕ) → x < length costs → getD row x 0 < 2 ^ p
+  pub s-below : s < 2 ^ p
+
+-- the products of column n's weight
+abbrev pub rowOf : ℕ → List ℕ → ℕ → List ℕ
+rowOf p ws n = tab (product p (getD ws n 0)) (2 ^ p)
+
+-- a line of l places, from a weight and costs; and column n's
+abbrev pub restsFrom : ℕ → ℕ → List ℕ → ℕ → List ℕ
+restsFrom p h costs l = placed costs (tab (product p h) (2 ^ p)) (product p h (firstZero costs)) (2 ^ p) (tab (λ a. 0) l)
+
+abbrev pub restsOf : ℕ → List ℕ → List ℕ → ℕ → ℕ → List ℕ
+restsOf p ws cs l n = restsFrom p (getD ws n 0) (costsAt (2 ^ p) cs n) l
+
+-- room for the products and lines of d columns
+pub record LinesRoom (p l d : ℕ) (rows lines out : List ℕ) : Type 0 where
+  pub wide : 2 ^ p ≤ l
+  pub narrow : l ≤ 64
+  pub of-rows : length rows ≡ d * 2 ^ p
+  pub of-lines : length lines ≡ d * l
+  pub of-out : length out ≡ d
+
+-- what symbol x is sent: what stands in its row, its product moved by the shift s
+abbrev pub sentFrom : List ℕ → ℕ → List ℕ → ℕ → ℕ
+sentFrom row s rests x = 255 - getD rests (xor (getD row x 0) s) 0
+
+-- each symbol's row is there
+pub record SendRoom (row : List ℕ) (s : ℕ) (rests out : List ℕ) : Type 0 where
+  pub same : length row ≡ length out
+  pub below : (x : ℕ) → x < length out → xor (getD row x 0) s < length rests
+
+-- column n of them, with w products and l rests a column
+abbrev pub sentColumn : ℕ → ℕ → List ℕ → List ℕ → List ℕ → ℕ → List ℕ
+sentColumn w l rows shifts rests n = tab (sentFrom (part rows (n * w) w) (getD shifts n 0) (part rests (n * l) l)) w
+
+pub record SendsRoom (w l : ℕ) (rows shifts rests out : List ℕ) : Type 0 where
+  pub few : length shifts ≤ 32
+  pub narrow : w ≤ 64
+  pub short : l ≤ 64
+  pub of-rows : length rows ≡ length shifts * w
+  pub of-rests : length rests ≡ length shifts * l
+  pub of-out : length out ≡ length shifts * w
+  pub below : (n x : ℕ) → n < length shifts → x < w → xor (getD rows (n * w + x) 0) (getD shifts n 0) < l
+
+-- the places of a column's line: the field's rows, and sixteen at least
+abbrev pub sideOf : ℕ → ℕ
+sideOf p = max 16 (2 ^ p)
+
+-- room for the products, rests and shifts of d columns
+pub record RestsRoom (p d : ℕ) (rows rests shifts : List ℕ) : Type 0 where
+  pub of-rows : length rows ≡ d * 2 ^ p
+  pub of-rests : length rests ≡ d * sideOf p
+  pub of-shifts : length shifts ≡ d
+
+-- what is left of 255 after the cost sent to column n at a, for each column and each a
+pub record Rests (p : ℕ) (ws cs rests : List ℕ) : Type 0 where
+  pub full : length rests ≡ length ws * sideOf p
+  pub at : (n a : ℕ) → n < length ws → a < 2 ^ p → getD rests (n * sideOf p + a) 0 ≡ 255 - sentAt (ruleFor p) (columnsOf (2 ^ p) ws cs) n a
