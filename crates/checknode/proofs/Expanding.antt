@@ -21,7 +21,7 @@ use Rattle.trellis.proofs.FieldLaws.{fields-at, has-inverse}
 use Rattle.trellis.proofs.Loops.{length-tab, getD-tab, tab-ext, map-tab, each-blocks, blocks-ext}
 use Rattle.checknode.specs.Asks.{Times, formOk, Expandable, columnBytes}
 use Rattle.checknode.specs.Transposed.{zeroRow, everyAt, listOf, unpacked, byteIn, besideFrom, valueIn, bySymbol, Unpackable, Shifted}
-use Rattle.checknode.proofs.Recording.{block-at}
+use Rattle.checknode.proofs.Blocks.{block-at}
 use Rattle.checknode.proofs.Refusals.{Weighed, weight-at}
 
 -- only the row's own bytes count
@@ -70,7 +70,7 @@ module _ (k d q : ℕ) (r t : List ℕ) (e : take ((1 + 2 * k) * q) t ≡ unpack
       u
       ∙ ap (λ l. getD l (i * q + a) 0) e
       ∙ sym v
-      ∙ ap (λ l. getD l a 0) (block-at (listOf k d q r) q (λ j. length-tab _ q) (1 + 2 * k) i l)
+      ∙ ap (λ l. getD l a 0) (block-at q (listOf k d q r) (λ j. length-tab _ q) (1 + 2 * k) i l)
       ∙ getD-tab (everyAt r (d + i) (1 + 2 * k) (zeroRow i)) q a h
 
   -- what a row says is document 01's reading

@@ -1,6 +1,7 @@
 -- Laws by topic; a function's own proof stands in a folder of its name.
 pub mod Arithmetic
 pub mod Tables
+pub mod Blocks
 pub mod Filling
 pub mod Turns
 pub mod Refusals
@@ -14,3 +15,4 @@ pub mod Values
 pub mod MessagesCall
 pub mod TwoCalls
 pub mod Lining
+pub mod Resting

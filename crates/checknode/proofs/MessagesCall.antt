@@ -10,18 +10,10 @@ use Rattle.trellis.specs.Lists.{pick}
 use Rattle.trellis.specs.Check.{allSent}
 use Rattle.trellis.specs.Record.{recordOf, recordLength}
 use Rattle.trellis.specs.Rules.{ruleFor, columnsOf}
-use Rattle.trellis.specs.Ready.{Ready}
 use Rattle.trellis.specs.Reply.{accepted, refusal}
-use Rattle.trellis.proofs.Messages.{ready-form}
 use Rattle.checknode.specs.Answers.{messagesCases, messagesReply, messagesLeaves, messagesSent}
-use Rattle.checknode.specs.Asks.{checkFault, Expandable}
-use Rattle.checknode.proofs.Refusals.{ready-weighed}
+use Rattle.checknode.specs.Asks.{checkFault}
 use Rattle.checknode.proofs.CheckFault.{refused-case, passed-case}
-use Rattle.checknode.proofs.Expanding.{expandable}
-
--- the record just written has the form that an expansion asks for
-pub record-expands : (p : ℕ) (ws cs : List ℕ) → Ready p ws cs → Expandable p ws (recordOf (ruleFor p) (columnsOf (2 ^ p) ws cs))
-record-expands p ws cs D = expandable p ws (recordOf (ruleFor p) (columnsOf (2 ^ p) ws cs)) (ready-weighed p ws cs D) (ready-form p ws cs D)
 
 module _ (p : ℕ) (ws cs out sent : List ℕ) where
   -- a call that is refused by k

@@ -134,7 +134,14 @@ pub fn lines(
         let e = a + w;
         let b = n * l;
         let f = b + l;
-        let s = column(p, weights[n], &costs[a..e], table, &mut rows[a..e], &mut lines[b..f]);
+        let s = column(
+            p,
+            weights[n],
+            &costs[a..e],
+            table,
+            &mut rows[a..e],
+            &mut lines[b..f],
+        );
         out[n] = s;
         sum = sum ^ s;
         n += 1;

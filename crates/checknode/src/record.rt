@@ -63,7 +63,14 @@ fn rests_with(
 }
 
 // The same with room for the lines. The table is copied once for all columns, where it is taken; weights, at most 32, stand for no table.
-fn rests_in(p: u8, weights: &[u8], costs: &[u8], rows: &mut [u8], rests: &mut [u8], shifts: &mut [u8])
+fn rests_in(
+    p: u8,
+    weights: &[u8],
+    costs: &[u8],
+    rows: &mut [u8],
+    rests: &mut [u8],
+    shifts: &mut [u8],
+)
     requires { ⌜ Ready p (now weights) (now costs) ⌝ }
     requires { ⌜ RestsRoom p (length (now weights)) (now rows) (now rests) (now shifts) ⌝ }
     ensures { λ _. ⌜ now (rows .exit) ≡ blocks (rowOf p (now (weights .entry))) (length (now (weights .entry))) ⌝ }
@@ -78,14 +85,30 @@ fn rests_in(p: u8, weights: &[u8], costs: &[u8], rows: &mut [u8], rests: &mut [u
     let mut lines = [0u8; 2048];
     if table::taken(p, weights.len()) {
         let products = table::products();
-        rests_with(p, weights, costs, &products, rows, &mut lines, rests, shifts);
+        rests_with(
+            p,
+            weights,
+            costs,
+            &products,
+            rows,
+            &mut lines,
+            rests,
+            shifts,
+        );
         return;
     }
     rests_with(p, weights, costs, weights, rows, &mut lines, rests, shifts);
 }
 
 // The record: the shifts, then the groups. Products and rests are left in their room.
-fn record_with(p: u8, weights: &[u8], costs: &[u8], rows: &mut [u8], rests: &mut [u8], out: &mut [u8])
+fn record_with(
+    p: u8,
+    weights: &[u8],
+    costs: &[u8],
+    rows: &mut [u8],
+    rests: &mut [u8],
+    out: &mut [u8],
+)
     requires { ⌜ Ready p (now weights) (now costs) ⌝ }
     requires { ⌜ (length (now rows) ≡ length (now weights) * 2 ^ p) × ((length (now rests) ≡ length (now weights) * max 16 (2 ^ p)) × (length (now out) ≡ recordLength (ruleFor p) (length (now weights)))) ⌝ }
     ensures { λ _. ⌜ now (rows .exit) ≡ blocks (rowOf p (now (weights .entry))) (length (now (weights .entry))) ⌝ }
@@ -99,7 +122,15 @@ fn record_with(p: u8, weights: &[u8], costs: &[u8], rows: &mut [u8], rests: &mut
 }
 
 // The record, in parts of the room.
-fn record_room(p: u8, w: usize, weights: &[u8], costs: &[u8], rows: &mut [u8], rests: &mut [u8], out: &mut [u8])
+fn record_room(
+    p: u8,
+    w: usize,
+    weights: &[u8],
+    costs: &[u8],
+    rows: &mut [u8],
+    rests: &mut [u8],
+    out: &mut [u8],
+)
     requires { ⌜ Ready p (now weights) (now costs) ⌝ }
     requires { ⌜ (w ≡ 2 ^ p) × ((length (now weights) * w ≤ length (now rows)) × ((length (now weights) * max 16 w ≤ length (now rests)) × (length (now out) ≡ recordLength (ruleFor p) (length (now weights))))) ⌝ }
     ensures { λ _. ⌜ now (out .exit) ≡ recordOf (ruleFor p) (columnsOf (2 ^ p) (now (weights .entry)) (now (costs .entry))) ⌝ }
@@ -128,7 +159,15 @@ pub fn record_in(p: u8, w: usize, weights: &[u8], costs: &[u8], out: &mut [u8])
 }
 
 // The record and the sent costs, in room of the caller's.
-fn messages_with(p: u8, weights: &[u8], costs: &[u8], rows: &mut [u8], rests: &mut [u8], out: &mut [u8], sent: &mut [u8])
+fn messages_with(
+    p: u8,
+    weights: &[u8],
+    costs: &[u8],
+    rows: &mut [u8],
+    rests: &mut [u8],
+    out: &mut [u8],
+    sent: &mut [u8],
+)
     requires { ⌜ Ready p (now weights) (now costs) ⌝ }
     requires { ⌜ (length (now rows) ≡ length (now weights) * 2 ^ p) × ((length (now rests) ≡ length (now weights) * max 16 (2 ^ p)) × ((length (now out) ≡ recordLength (ruleFor p) (length (now weights))) × (length (now sent) ≡ length (now weights) * 2 ^ p))) ⌝ }
     ensures { λ _. ⌜ now (out .exit) ≡ recordOf (ruleFor p) (columnsOf (2 ^ p) (now (weights .entry)) (now (costs .entry))) ⌝ }
@@ -140,7 +179,16 @@ fn messages_with(p: u8, weights: &[u8], costs: &[u8], rows: &mut [u8], rests: &m
     send::columns(w, side(w), rows, &out[..d], rests, sent);
 }
 
-fn messages_room(p: u8, w: usize, weights: &[u8], costs: &[u8], rows: &mut [u8], rests: &mut [u8], out: &mut [u8], sent: &mut [u8])
+fn messages_room(
+    p: u8,
+    w: usize,
+    weights: &[u8],
+    costs: &[u8],
+    rows: &mut [u8],
+    rests: &mut [u8],
+    out: &mut [u8],
+    sent: &mut [u8],
+)
     requires { ⌜ Ready p (now weights) (now costs) ⌝ }
     requires { ⌜ (w ≡ 2 ^ p) × ((length (now weights) * w ≤ length (now rows)) × ((length (now weights) * max 16 w ≤ length (now rests)) × ((length (now out) ≡ recordLength (ruleFor p) (length (now weights))) × (length (now sent) ≡ length (now weights) * 2 ^ p)))) ⌝ }
     ensures { λ _. ⌜ now (out .exit) ≡ recordOf (ruleFor p) (columnsOf (2 ^ p) (now (weights .entry)) (now (costs .entry))) ⌝ }
@@ -148,7 +196,15 @@ fn messages_room(p: u8, w: usize, weights: &[u8], costs: &[u8], rows: &mut [u8],
 {
     let a = weights.len() * w;
     let b = weights.len() * side(w);
-    messages_with(p, weights, costs, &mut rows[..a], &mut rests[..b], out, sent);
+    messages_with(
+        p,
+        weights,
+        costs,
+        &mut rows[..a],
+        &mut rests[..b],
+        out,
+        sent,
+    );
 }
 
 // The record and the sent costs, with the room that they take.

@@ -150,7 +150,7 @@ listed-turn k l d v n a b sent e columns rests {c} {r} h ea eb L C D =
           ∙ pushed-same (ltb (restAt l sent (v + i) (d - suc (d - suc n))) (getD e i 0)) n (d - suc (d - suc n)) (pairAt columns i)
           (listedColumn (restAt l sent (v + i)) (getD e i 0) d (d - suc n)) k j x z (λ i' w. L .column i' i w y);
       rest = λ j i x y.
-          D .at j i x y ∙ ap (λ b. pushed b (getD (take (b' ) (drop a sent)) i 0) (pairAt rests i) j) (low i y z)
+          D .at j i x y ∙ ap (λ b. pushed b (getD (take (b') (drop a sent)) i 0) (pairAt rests i) j) (low i y z)
           ∙ pushed-same (ltb (restAt l sent (v + i) (d - suc (d - suc n))) (getD e i 0)) (getD (take (b') (drop a sent)) i 0)
           (restAt l sent (v + i) (d - suc (d - suc n))) (pairAt rests i)
           (listedRest (restAt l sent (v + i)) (getD e i 0) d (d - suc n)) k j x (rest-at i y ∙ ap (restAt l sent (v + i)) z) (λ i' w. L .rest i' i w y);

@@ -79,8 +79,10 @@ module _ (p k d : ℕ) (greatest : Bool) (times : ℕ → ℕ → ℕ) (cs : Lis
       let full : length (take (d * l) lines) ≡ d * l = length-take (d * l) lines ∙ omega arith in
       rw (range, le-leb (d * l) (length lines) h, le-leb (d * l) (length out) m)
       (row-at (sentRow greatest q l k (take (d * l) lines) d) (row-length greatest q l k (take (d * l) lines) d (r .1 .1 .0) full (omega (arith, r .1 .0))) (drop (d * l) out) n a i j
-      ∙ row-has R cs P greatest (by-meets greatest) (r .1 .0 .0) l within (take (d * l) lines) d size full (λ n i. record { at = λ a j.
-      ap (λ y. getD y a 0) (part-twice lines (n * l) l (d * l) (part-room n d l i)) ∙ part-is lines (n * l) l a (omega (arith, within)) ∙ L n a i j }) n i .at a j)
+      ∙ row-has R cs P greatest (by-meets greatest) (r .1 .0 .0) l within (take (d * l) lines) d size full (λ n i. record {
+        at = λ a j.
+            ap (λ y. getD y a 0) (part-twice lines (n * l) l (d * l) (part-room n d l i)) ∙ part-is lines (n * l) l a (omega (arith, within)) ∙ L n a i j;
+      }) n i .at a j)
 
   -- a cost sent is a byte: one deviation is enough
   sent-byte : ((n y : ℕ) → n < length cs → getD (column cs n .costs) y 0 ≤ 255) → (a : ℕ) → a < q → (n : ℕ) → n < length cs → sentAt R cs n a ≤ 255

@@ -153,5 +153,6 @@ fill-many f w full D out i m x y {r} ex ey h e o =
     ∙ ap₂ {C = List ℕ} (λ p q. blocks f i ++ (p ++ q)) o v ∙ sym (append-assoc (blocks f i) (blocks (λ b. f (i + b)) m) (drop ((i + m) * w) D))
     ∙ ap {B = List ℕ} (λ p. p ++ drop ((i + m) * w) D) (sym (blocks-plus f i m)) in
     (ap length s ∙ length-append (blocks f (i + m)) _ ∙ omega (arith, blocks-length f w full (i + m), length-drop ((i + m) * w) D), s)
+
 pub seam : (A D r : List ℕ) (n : ℕ) → length A ≡ n → r ≡ A ++ drop n D → r ≡ A ++ drop n r
 seam A D r n e o = o ∙ ap {B = List ℕ} (λ y. A ++ y) (sym (ap (drop n) o ∙ drop-at A (drop n D) n e))

@@ -96,8 +96,7 @@ in-range p k d e =
     let b = both-true (leb p 6) _ (a .1) in
     let c = both-true (leb 2 k) _ (b .1) in
     let f = both-true (leb k 3) _ (c .1) in
-    let g = both-true (leb 2 d) _ (f .1) in
-    (
+    let g = both-true (leb 2 d) _ (f .1) in (
       (leb-true 2 p (a .0), leb-true p 6 (b .0)),
       ((leb-true 2 k (c .0), leb-true k 3 (f .0)), (leb-true 2 d (g .0), leb-true d 32 (g .1))),
     )

@@ -95,7 +95,14 @@ fn after_first(shape: Shape, d: usize, lines: &[u8], table: &mut [u8])
 }
 
 // Block i of after: the tables over the last i + 1 columns, which stand after column d - 2 - i.
-pub fn after_all(shape: Shape, d: usize, lines: &[u8], table: &mut [u8], c: &mut [u8], after: &mut [u8])
+pub fn after_all(
+    shape: Shape,
+    d: usize,
+    lines: &[u8],
+    table: &mut [u8],
+    c: &mut [u8],
+    after: &mut [u8],
+)
     requires { ⌜ Shaped (shape .q) (shape .l) (shape .k) ⌝ }
     requires { ⌜ ((2 ≤ d) × (d ≤ 32)) × ((length (now lines) ≡ d * shape .l) × (length (now c) ≡ 16 * shape .l)) ⌝ }
     requires { ⌜ (length (now table) ≡ shape .k * shape .l) × (length (now after) ≡ (d - 1) * (shape .k * shape .l)) ⌝ }

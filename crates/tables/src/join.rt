@@ -53,7 +53,13 @@ fn four_of(greatest: bool, u: &[u8], b: usize) -> Four
     let y = num::take(greatest, u[b + 1]);
     let z = num::take(greatest, u[b + 2]);
     let w = num::take(greatest, u[b + 3]);
-    Four { greatest, x, y, z, w }
+    Four {
+        greatest,
+        x,
+        y,
+        z,
+        w,
+    }
 }
 
 // e: the best of e and each of the q rows of u joined with the table whose copies s holds. Four rows at a time, so that e is read and written a

@@ -111,7 +111,15 @@ fn best(shape: Shape, d: usize, v: usize, sent: &[u8], e: &mut [u8])
 }
 
 // The pairs of each row from v on: from the last column to the first, each below the best put before those found already.
-fn list(shape: Shape, d: usize, v: usize, sent: &[u8], e: &[u8], columns: &mut [u8], rests: &mut [u8])
+fn list(
+    shape: Shape,
+    d: usize,
+    v: usize,
+    sent: &[u8],
+    e: &[u8],
+    columns: &mut [u8],
+    rests: &mut [u8],
+)
     requires { ⌜ Shaped (shape .q) (shape .l) (shape .k) ⌝ }
     requires { ⌜ ((2 ≤ d) × (d ≤ 32)) × ((v % 16 ≡ 0) × (v < shape .l)) ⌝ }
     requires { ⌜ (length (now sent) ≡ d * shape .l) × (length (now e) ≡ 16) ⌝ }

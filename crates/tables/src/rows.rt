@@ -25,7 +25,15 @@ fn apart(shape: Shape, before: &[u8], after: &[u8], out: &mut [u8])
 }
 
 // Some deviations on either side; and table j before takes the line in. Both want the copies of table j - 1 before, so they are made once.
-fn rise_both(shape: Shape, j: usize, after: &[u8], line: &[u8], before: &mut [u8], c: &mut [u8], out: &mut [u8])
+fn rise_both(
+    shape: Shape,
+    j: usize,
+    after: &[u8],
+    line: &[u8],
+    before: &mut [u8],
+    c: &mut [u8],
+    out: &mut [u8],
+)
     requires { ⌜ Shaped (shape .q) (shape .l) (shape .k) ⌝ }
     requires { ⌜ ((1 ≤ j) × (j < shape .k)) × ((length (now before) ≡ shape .k * shape .l) × (length (now after) ≡ shape .k * shape .l)) ⌝ }
     requires { ⌜ (length (now line) ≡ shape .l) × ((length (now c) ≡ 16 * shape .l) × (length (now out) ≡ shape .l)) ⌝ }
@@ -61,7 +69,16 @@ fn pass(shape: Shape, after: &[u8], line: &[u8], before: &mut [u8], c: &mut [u8]
 }
 
 // S of column n, which has columns before and after it.
-fn pass_at(shape: Shape, d: usize, n: usize, after: &[u8], lines: &[u8], before: &mut [u8], c: &mut [u8], out: &mut [u8])
+fn pass_at(
+    shape: Shape,
+    d: usize,
+    n: usize,
+    after: &[u8],
+    lines: &[u8],
+    before: &mut [u8],
+    c: &mut [u8],
+    out: &mut [u8],
+)
     requires { ⌜ Shaped (shape .q) (shape .l) (shape .k) ⌝ }
     requires { ⌜ ((1 ≤ n) × (n + 1 < d)) × ((d ≤ 32) × (length (now lines) ≡ d * shape .l)) ⌝ }
     requires { ⌜ (length (now before) ≡ shape .k * shape .l) × (length (now after) ≡ (d - 1) * (shape .k * shape .l)) ⌝ }
@@ -109,7 +126,15 @@ fn first(shape: Shape, d: usize, lines: &[u8], after: &[u8], before: &mut [u8], 
 }
 
 // All rows, where the tables after each column are there.
-fn all(shape: Shape, d: usize, lines: &[u8], after: &[u8], before: &mut [u8], c: &mut [u8], out: &mut [u8])
+fn all(
+    shape: Shape,
+    d: usize,
+    lines: &[u8],
+    after: &[u8],
+    before: &mut [u8],
+    c: &mut [u8],
+    out: &mut [u8],
+)
     requires { ⌜ Shaped (shape .q) (shape .l) (shape .k) ⌝ }
     requires { ⌜ ((2 ≤ d) × (d ≤ 32)) × ((length (now lines) ≡ d * shape .l) × (length (now out) ≡ d * shape .l)) ⌝ }
     requires { ⌜ (length (now before) ≡ shape .k * shape .l) × (length (now c) ≡ 16 * shape .l) ⌝ }
@@ -126,7 +151,15 @@ fn all(shape: Shape, d: usize, lines: &[u8], after: &[u8], before: &mut [u8], c:
 }
 
 // The tables after each column, from the last to the first; then the tables before, and all rows.
-fn sent_in(shape: Shape, d: usize, lines: &[u8], after: &mut [u8], table: &mut [u8], c: &mut [u8], out: &mut [u8])
+fn sent_in(
+    shape: Shape,
+    d: usize,
+    lines: &[u8],
+    after: &mut [u8],
+    table: &mut [u8],
+    c: &mut [u8],
+    out: &mut [u8],
+)
     requires { ⌜ Shaped (shape .q) (shape .l) (shape .k) ⌝ }
     requires { ⌜ ((2 ≤ d) × (d ≤ 32)) × ((length (now lines) ≡ d * shape .l) × (length (now out) ≡ d * shape .l)) ⌝ }
     requires { ⌜ (length (now table) ≡ shape .k * shape .l) × (length (now c) ≡ 16 * shape .l) ⌝ }
@@ -138,7 +171,15 @@ fn sent_in(shape: Shape, d: usize, lines: &[u8], after: &mut [u8], table: &mut [
 }
 
 // The parts of the room that are taken.
-fn with_room(shape: Shape, d: usize, lines: &[u8], after: &mut [u8], table: &mut [u8], c: &mut [u8], out: &mut [u8])
+fn with_room(
+    shape: Shape,
+    d: usize,
+    lines: &[u8],
+    after: &mut [u8],
+    table: &mut [u8],
+    c: &mut [u8],
+    out: &mut [u8],
+)
     requires { ⌜ Shaped (shape .q) (shape .l) (shape .k) ⌝ }
     requires { ⌜ ((2 ≤ d) × (d ≤ 32)) × ((length (now lines) ≡ d * shape .l) × (length (now out) ≡ d * shape .l)) ⌝ }
     requires { ⌜ (93 * shape .l ≤ length (now after)) × ((3 * shape .l ≤ length (now table)) × (16 * shape .l ≤ length (now c))) ⌝ }
@@ -147,7 +188,15 @@ fn with_room(shape: Shape, d: usize, lines: &[u8], after: &mut [u8], table: &mut
     let w = shape.k * shape.l;
     let n = (d - 1) * w;
     let m = 16 * shape.l;
-    sent_in(shape, d, lines, &mut after[..n], &mut table[..w], &mut c[..m], out);
+    sent_in(
+        shape,
+        d,
+        lines,
+        &mut after[..n],
+        &mut table[..w],
+        &mut c[..m],
+        out,
+    );
 }
 
 // Tables of 16 rows: p up to 4. The room is for k = 3 and 32 columns.

@@ -41,9 +41,10 @@ returns c =
     let at-clear = at-place .before .before .before .before .before in
     let at-first-zero = at-clear .before .before .before in
     let at-fill = at-first-zero .before .before .before in
-    let start = at-fill .before .before .before .before .before .before in
-    (column-term (start .args .p) (start .args .h) (start .args .costs .now) (at-fill .fill .ensures) (at-first-zero .first-zero .ensures .0) (start .pre .1 .1 .1 .1 .1),
-    (at-fill .fill .ensures, line-done (start .args .p) (start .args .h) (start .args .costs .now) (length (start .args .line .now)) (at-fill .fill .ensures) (at-first-zero .first-zero .ensures .0) (start .pre .1 .1 .1 .1 .1) (start .pre .1 .1 .1 .1 .0) (at-clear .clear .ensures) (at-place .place .ensures)))
+    let start = at-fill .before .before .before .before .before .before in (
+      column-term (start .args .p) (start .args .h) (start .args .costs .now) (at-fill .fill .ensures) (at-first-zero .first-zero .ensures .0) (start .pre .1 .1 .1 .1 .1),
+      (at-fill .fill .ensures, line-done (start .args .p) (start .args .h) (start .args .costs .now) (length (start .args .line .now)) (at-fill .fill .ensures) (at-first-zero .first-zero .ensures .0) (start .pre .1 .1 .1 .1 .1) (start .pre .1 .1 .1 .1 .0) (at-clear .clear .ensures) (at-place .place .ensures)),
+    )
 
 pub column-spec : {M : Type 1} → statement M
 column-spec =

@@ -134,11 +134,19 @@ column-requires c κs =
     let start = at-loop .before .before .before .before .before .before .before .before .before in
     let b = lines-room (start .args .p) (start .args .l) (start .args .weights .now) (start .args .costs .now) (start .args .rows .now) (start .args .lines .now) (start .args .out .now) (start .pre .0) (start .pre .1 .1) (at-loop .loop .n) (omega arith) (at-loop .before .index .result) (at-loop .before .index .ensures .0 ∙ at-loop .before .before .size .ensures .0) in
     let e : at-loop .before .index .result ≡ 2 ^ start .args .p = at-loop .before .index .ensures .0 ∙ at-loop .before .before .size .ensures .0 in
-    let q = part-is (start .args .p) (start .args .weights .now) (start .args .costs .now) (start .pre .0) (at-loop .loop .n) (omega arith) _ e in
-    (ready-times (start .args .p) (start .args .weights .now) (start .args .costs .now) (start .pre .0) (at-loop .loop .n) (omega arith), (start .pre .1 .0,
-    (simp (length-take, length-drop) (omega (arith, b .1, e, at-loop .loop .inv .1 .0 .0)),
-    (simp (length-take, length-drop) (omega (arith, b .2, at-loop .loop .inv .1 .0 .1 .0, start .pre .1 .1 .wide)),
-    (ap length q ∙ costs-length (start .args .p) (start .args .weights .now) (start .args .costs .now) (start .pre .0) (at-loop .loop .n) (omega arith), rw q (start .pre .0 .zeros (at-loop .loop .n) (omega arith)))))))
+    let q = part-is (start .args .p) (start .args .weights .now) (start .args .costs .now) (start .pre .0) (at-loop .loop .n) (omega arith) _ e in (
+      ready-times (start .args .p) (start .args .weights .now) (start .args .costs .now) (start .pre .0) (at-loop .loop .n) (omega arith),
+      (
+        start .pre .1 .0,
+        (
+          simp (length-take, length-drop) (omega (arith, b .1, e, at-loop .loop .inv .1 .0 .0)),
+          (
+            simp (length-take, length-drop) (omega (arith, b .2, at-loop .loop .inv .1 .0 .1 .0, start .pre .1 .1 .wide)),
+            (ap length q ∙ costs-length (start .args .p) (start .args .weights .now) (start .args .costs .now) (start .pre .0) (at-loop .loop .n) (omega arith), rw q (start .pre .0 .zeros (at-loop .loop .n) (omega arith))),
+          ),
+        ),
+      ),
+    )
 
 slice-write-out : tie.Need-slice-write-out Inv-loop μ-loop
 slice-write-out c = search needs
@@ -160,12 +168,22 @@ loop-again c =
     let n = at-loop .loop .n in
     let e : at-loop .before .index .result ≡ 2 ^ p = at-loop .before .index .ensures .0 ∙ at-loop .before .before .size .ensures .0 in
     let h : n < length ws = omega arith in
-    let t = term-turn p ws cs (start .pre .0) n h _ e (at-column .column .ensures .0) in
-    (omega arith, ((search needs, (search needs, search needs)),
-    (rows-turn p ws n _ (start .args .rows .now) (at-loop .loop .rows) e (at-loop .loop .inv .1 .1 .0) (at-column .column .ensures .1 .0),
-    (lines-turn p ws cs (start .args .l) n (start .pre .0) h _ (start .args .lines .now) (at-loop .loop .lines) e (at-loop .loop .inv .1 .1 .1 .0) (start .pre .1 .1 .of-lines) (at-loop .loop .inv .1 .0 .1 .0) (at-column .column .ensures .1 .1),
-    (out-turn p ws cs (start .pre .0) n h (at-loop .loop .out) (start .args .out .now) (omega (arith, start .pre .1 .1 .of-out)) (at-loop .loop .inv .1 .1 .1 .1 .0) t,
-    sum-turn p ws cs (start .pre .0) n h (at-loop .loop .inv .1 .1 .1 .1 .1) t)))))
+    let t = term-turn p ws cs (start .pre .0) n h _ e (at-column .column .ensures .0) in (
+      omega arith,
+      (
+        (search needs, (search needs, search needs)),
+        (
+          rows-turn p ws n _ (start .args .rows .now) (at-loop .loop .rows) e (at-loop .loop .inv .1 .1 .0) (at-column .column .ensures .1 .0),
+          (
+            lines-turn p ws cs (start .args .l) n (start .pre .0) h _ (start .args .lines .now) (at-loop .loop .lines) e (at-loop .loop .inv .1 .1 .1 .0) (start .pre .1 .1 .of-lines) (at-loop .loop .inv .1 .0 .1 .0) (at-column .column .ensures .1 .1),
+            (
+              out-turn p ws cs (start .pre .0) n h (at-loop .loop .out) (start .args .out .now) (omega (arith, start .pre .1 .1 .of-out)) (at-loop .loop .inv .1 .1 .1 .1 .0) t,
+              sum-turn p ws cs (start .pre .0) n h (at-loop .loop .inv .1 .1 .1 .1 .1) t,
+            ),
+          ),
+        ),
+      ),
+    )
 
 same-length : tie.Need-same-length Inv-loop μ-loop
 same-length c = search needs
@@ -185,10 +203,16 @@ returns c =
     let cs = start .args .costs .now in
     let l = start .args .l in
     let e : at-loop .loop .n ≡ length ws = omega arith in
-    let f = start .pre .1 .1 .of-out in
-    (cc, (rw e at (block-end (rowOf p ws) (2 ^ p) (row-full p ws) (start .args .rows .now) (at-loop .loop .rows) (at-loop .loop .n) (at-loop .loop .inv .1 .1 .0) (rw e (start .pre .1 .1 .of-rows))),
-    (rw e at (block-end (restsOf p ws cs l) l (rests-full p ws cs l) (start .args .lines .now) (at-loop .loop .lines) (at-loop .loop .n) (at-loop .loop .inv .1 .1 .1 .0) (rw e (start .pre .1 .1 .of-lines))),
-    at-loop .loop .inv .1 .1 .1 .1 .0 ∙ rw (e, ← f) (tab-whole (termOf p ws cs) (start .args .out .now)))))
+    let f = start .pre .1 .1 .of-out in (
+      cc,
+      (
+        rw e at (block-end (rowOf p ws) (2 ^ p) (row-full p ws) (start .args .rows .now) (at-loop .loop .rows) (at-loop .loop .n) (at-loop .loop .inv .1 .1 .0) (rw e (start .pre .1 .1 .of-rows))),
+        (
+          rw e at (block-end (restsOf p ws cs l) l (rests-full p ws cs l) (start .args .lines .now) (at-loop .loop .lines) (at-loop .loop .n) (at-loop .loop .inv .1 .1 .1 .0) (rw e (start .pre .1 .1 .of-lines))),
+          at-loop .loop .inv .1 .1 .1 .1 .0 ∙ rw (e, ← f) (tab-whole (termOf p ws cs) (start .args .out .now)),
+        ),
+      ),
+    )
 
 pub lines-spec : {M : Type 1} → statement M
 lines-spec =

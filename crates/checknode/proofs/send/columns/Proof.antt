@@ -135,9 +135,14 @@ loop-again c =
     let at-column = c .before .before in
     let at-loop = at-column .before .before .before .before .before .before in
     let start = at-loop .before .before .before .before .before in
-    let w = start .args .w in
-    (omega arith, (search needs, block-more (sentColumn w (start .args .l) (start .args .rows .now) (start .args .shifts .now) (start .args .rests .now)) w (sent-full w (start .args .l) (start .args .rows .now) (start .args .shifts .now) (start .args .rests .now)) (start .args .out .now) (at-loop .loop .out) (at-loop .loop .n) (at-loop .loop .inv .1 .1)
-    (send-done w (start .args .l) (start .args .rows .now) (start .args .shifts .now) (start .args .rests .now) (start .args .out .now) (start .pre) (at-loop .loop .n) (omega arith) (at-loop .loop .out) (at-loop .loop .inv .1 .0) (at-column .column .ensures))))
+    let w = start .args .w in (
+      omega arith,
+      (
+        search needs,
+        block-more (sentColumn w (start .args .l) (start .args .rows .now) (start .args .shifts .now) (start .args .rests .now)) w (sent-full w (start .args .l) (start .args .rows .now) (start .args .shifts .now) (start .args .rests .now)) (start .args .out .now) (at-loop .loop .out) (at-loop .loop .n) (at-loop .loop .inv .1 .1)
+            (send-done w (start .args .l) (start .args .rows .now) (start .args .shifts .now) (start .args .rests .now) (start .args .out .now) (start .pre) (at-loop .loop .n) (omega arith) (at-loop .loop .out) (at-loop .loop .inv .1 .0) (at-column .column .ensures)),
+      ),
+    )
 
 same-length : tie.Need-same-length Inv-loop μ-loop
 same-length c = search needs

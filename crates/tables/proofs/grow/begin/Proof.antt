@@ -51,10 +51,10 @@ loop-again c =
     let at-loop = at-part-at .before .before in
     let start = at-loop .before .before .before in
     let x = at-part-at .part-at .ensures in (
-  omega arith,
-  fill-turn (λ (i : ℕ). start .args .line .now) (start .args .shape .l) (λ (j : ℕ). start .pre .1 .0) (start .args .d .now) (at-loop .loop .d) (at-loop .loop .j) _ _ (x .0) refl (omega (arith, x, start .pre .1))
-  (at-loop .loop .inv .1 .1) (at-copy .copy .ensures),
-  )
+      omega arith,
+      fill-turn (λ (i : ℕ). start .args .line .now) (start .args .shape .l) (λ (j : ℕ). start .pre .1 .0) (start .args .d .now) (at-loop .loop .d) (at-loop .loop .j) _ _ (x .0) refl (omega (arith, x, start .pre .1))
+          (at-loop .loop .inv .1 .1) (at-copy .copy .ensures),
+    )
 
 same-length : tie.Need-same-length Inv-loop μ-loop
 same-length c = search needs

@@ -60,10 +60,10 @@ loop-again c =
     let at-loop = at-place .before .before in
     let start = at-loop .before .before .before in
     let a = start .args in (
-  (omega arith, omega arith),
-  four-turn (a .f) (a .s .now) (a .at) (a .turn) (a .l) (a .e .now) (at-loop .loop .e) (at-loop .loop .v) (start .pre .0) (at-loop .loop .inv .0 .1) (omega arith) (omega arith) (at-loop .loop .inv .1 .1)
-  _ _ _ refl (at-place .place .ensures .0) refl (at-step .step .ensures),
-  )
+      (omega arith, omega arith),
+      four-turn (a .f) (a .s .now) (a .at) (a .turn) (a .l) (a .e .now) (at-loop .loop .e) (at-loop .loop .v) (start .pre .0) (at-loop .loop .inv .0 .1) (omega arith) (omega arith) (at-loop .loop .inv .1 .1)
+          _ _ _ refl (at-place .place .ensures .0) refl (at-step .step .ensures),
+    )
 
 same-length : tie.Need-same-length Inv-loop μ-loop
 same-length c = search needs

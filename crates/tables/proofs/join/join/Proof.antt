@@ -36,9 +36,9 @@ four-requires c κs =
     let at-loop = at-copy-at .before .before .before in
     let start = at-loop .before .before .before .before in
     let x = at-copy-at .copy-at .ensures in (
-  wide-of (start .args .shape .q) (start .args .shape .l) (start .args .shape .k) (at-loop .loop .b) (start .pre .0) (omega arith),
-  (omega arith, (start .pre .0 .table .limit, (omega (arith, x), omega (arith, x, copies-room (start .args .shape .q) (start .args .shape .l) _ (start .pre .1 .1 .0))))),
-  )
+      wide-of (start .args .shape .q) (start .args .shape .l) (start .args .shape .k) (at-loop .loop .b) (start .pre .0) (omega arith),
+      (omega arith, (start .pre .0 .table .limit, (omega (arith, x), omega (arith, x, copies-room (start .args .shape .q) (start .args .shape .l) _ (start .pre .1 .1 .0))))),
+    )
 
 add-b : tie.Need-add-b Inv-loop μ-loop
 add-b c = search needs

@@ -78,13 +78,13 @@ loop-again c =
     let at-loop = at-two .before .before .before .before in
     let start = at-loop .before .before .before .before in
     let a = start .args in (
-  omega arith,
-  (
-    simp length-set (omega arith),
-    tab-turn (laneAt (a .f) (a .s .now) (a .l) (a .e .now)) (at-loop .loop .t) (a .t .now) (at-loop .loop .i) (omega arith) (at-loop .loop .inv .1 .1)
-    (lane-value (a .f) (a .s .now) (a .l) (a .e .now) (at-loop .loop .i) (at-two .two .ensures) (at-two2 .two2 .ensures) (at-upper .upper .ensures) (c .upper2 .ensures)),
-  ),
-  )
+      omega arith,
+      (
+        simp length-set (omega arith),
+        tab-turn (laneAt (a .f) (a .s .now) (a .l) (a .e .now)) (at-loop .loop .t) (a .t .now) (at-loop .loop .i) (omega arith) (at-loop .loop .inv .1 .1)
+            (lane-value (a .f) (a .s .now) (a .l) (a .e .now) (at-loop .loop .i) (at-two .two .ensures) (at-two2 .two2 .ensures) (at-upper .upper .ensures) (c .upper2 .ensures)),
+      ),
+    )
 
 same-length : tie.Need-same-length Inv-loop μ-loop
 same-length c = search needs

@@ -68,11 +68,10 @@ loop-again c =
     let at-raise-block = c .before .before in
     let at-row-at2 = at-raise-block .before .before .before in
     let at-loop = at-row-at2 .before .before in
-    let start = at-loop .before .before .before .before .before .before .before .before .before in
-    (
-  (omega arith, omega arith),
-  (omega arith, best-turn (start .args .shape .l) (start .args .v) (at-loop .loop .n) _ _ (start .args .sent .now) (at-loop .loop .e) (at-row-at2 .row-at2 .ensures .0) refl (at-loop .loop .inv .1 .1) (at-raise-block .raise-block .ensures)),
-  )
+    let start = at-loop .before .before .before .before .before .before .before .before .before in (
+      (omega arith, omega arith),
+      (omega arith, best-turn (start .args .shape .l) (start .args .v) (at-loop .loop .n) _ _ (start .args .sent .now) (at-loop .loop .e) (at-row-at2 .row-at2 .ensures .0) refl (at-loop .loop .inv .1 .1) (at-raise-block .raise-block .ensures)),
+    )
 
 same-length : tie.Need-same-length Inv-loop μ-loop
 same-length c = search needs

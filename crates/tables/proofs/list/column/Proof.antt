@@ -48,13 +48,12 @@ returns c =
     let at-copy = at-push2 .before .before .before .before in
     let at-push = at-copy .before .before .before .before in
     let at-fill = at-push .before .before .before .before in
-    let start = at-fill .before .before .before .before .before .before in
-    (
-  push-in (start .args .k) (start .args .s .now) (start .args .e .now) (start .args .columns .now) (lanes (λ (i : ℕ). start .args .n)) (λ (i : ℕ). start .args .n) (lanes-length (λ (i : ℕ). start .args .n)) (λ i h. lanes-at (λ (i : ℕ). start .args .n) i h)
-  (ap (λ y. y ++ drop 16 (start .args .columns .now)) (at-fill .fill .ensures)) (at-push .push .ensures),
-  push-in (start .args .k) (start .args .s .now) (start .args .e .now) (start .args .rests .now) (start .args .s .now) (λ i. getD (start .args .s .now) i 0) (start .pre .0 .0) (λ i h. refl)
-  (ap (λ y. y ++ drop 16 (start .args .rests .now)) (at-copy .copy .ensures)) (at-push2 .push2 .ensures),
-  )
+    let start = at-fill .before .before .before .before .before .before in (
+      push-in (start .args .k) (start .args .s .now) (start .args .e .now) (start .args .columns .now) (lanes (λ (i : ℕ). start .args .n)) (λ (i : ℕ). start .args .n) (lanes-length (λ (i : ℕ). start .args .n)) (λ i h. lanes-at (λ (i : ℕ). start .args .n) i h)
+          (ap (λ y. y ++ drop 16 (start .args .columns .now)) (at-fill .fill .ensures)) (at-push .push .ensures),
+      push-in (start .args .k) (start .args .s .now) (start .args .e .now) (start .args .rests .now) (start .args .s .now) (λ i. getD (start .args .s .now) i 0) (start .pre .0 .0) (λ i h. refl)
+          (ap (λ y. y ++ drop 16 (start .args .rests .now)) (at-copy .copy .ensures)) (at-push2 .push2 .ensures),
+    )
 
 pub column-spec : {M : Type 1} → statement M
 column-spec =

@@ -83,20 +83,19 @@ block-requires c κs =
     let at-written2 = at-edge .before in
     let at-written = at-written2 .before in
     let at-loop = at-written .before .before in
-    let start = at-loop .before .before .before .before in
-    (
-  start .pre .0,
-  (
-    (start .pre .1 .0 .0, (at-loop .loop .inv .0 .0, omega (arith, start .pre .0 .within))),
-    (
-      start .pre .1 .0 .1 .1,
+    let start = at-loop .before .before .before .before in (
+      start .pre .0,
       (
-        omega (arith, at-written .written .ensures, at-written2 .written2 .ensures, at-loop .loop .inv .0),
-        span-length (at-written .written .result) (at-written2 .written2 .result) (start .args .shape .k * 2 + 1) _ _ (at-loop .loop .out) (omega (arith, at-written .written .ensures, at-written2 .written2 .ensures)) (at-edge .edge .ensures .0) (at-edge2 .edge2 .ensures .0) (omega (arith, at-edge2 .edge2 .ensures, start .pre .1 .1, at-loop .loop .inv .1 .0)),
+        (start .pre .1 .0 .0, (at-loop .loop .inv .0 .0, omega (arith, start .pre .0 .within))),
+        (
+          start .pre .1 .0 .1 .1,
+          (
+            omega (arith, at-written .written .ensures, at-written2 .written2 .ensures, at-loop .loop .inv .0),
+            span-length (at-written .written .result) (at-written2 .written2 .result) (start .args .shape .k * 2 + 1) _ _ (at-loop .loop .out) (omega (arith, at-written .written .ensures, at-written2 .written2 .ensures)) (at-edge .edge .ensures .0) (at-edge2 .edge2 .ensures .0) (omega (arith, at-edge2 .edge2 .ensures, start .pre .1 .1, at-loop .loop .inv .1 .0)),
+          ),
+        ),
       ),
-    ),
-  ),
-  )
+    )
 
 add-v : tie.Need-add-v Inv-loop μ-loop
 add-v c = search needs
@@ -116,11 +115,10 @@ loop-again c =
     let at-written2 = at-edge .before in
     let at-written = at-written2 .before in
     let at-loop = at-written .before .before in
-    let start = at-loop .before .before .before .before in
-    (
-  (omega arith, omega arith),
-  groups-turn (groupOf (start .args .shape .l) (start .args .shape .k) (start .args .sent .now) (start .args .d)) (start .args .shape .k * 2 + 1) (group-length (start .args .shape .k) (start .args .shape .l) (start .args .d) (start .args .sent .now)) _ (at-loop .loop .out) (start .args .shape .q) (at-loop .loop .v) (at-written .written .result) (at-written2 .written2 .result) _ _ (omega arith) (at-written .written .ensures) (at-written2 .written2 .ensures) (at-edge .edge .ensures .0) (at-edge2 .edge2 .ensures .0) (start .pre .1 .1) (at-loop .loop .inv .1 .1) (at-block .block .ensures),
-  )
+    let start = at-loop .before .before .before .before in (
+      (omega arith, omega arith),
+      groups-turn (groupOf (start .args .shape .l) (start .args .shape .k) (start .args .sent .now) (start .args .d)) (start .args .shape .k * 2 + 1) (group-length (start .args .shape .k) (start .args .shape .l) (start .args .d) (start .args .sent .now)) _ (at-loop .loop .out) (start .args .shape .q) (at-loop .loop .v) (at-written .written .result) (at-written2 .written2 .result) _ _ (omega arith) (at-written .written .ensures) (at-written2 .written2 .ensures) (at-edge .edge .ensures .0) (at-edge2 .edge2 .ensures .0) (start .pre .1 .1) (at-loop .loop .inv .1 .1) (at-block .block .ensures),
+    )
 
 same-length : tie.Need-same-length Inv-loop μ-loop
 same-length c = search needs

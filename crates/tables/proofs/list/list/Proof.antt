@@ -18,12 +18,12 @@ loop-holds : tie.Need-loop-holds Inv-loop μ-loop
 loop-holds c =
     let start = c .before .before .before .before in
     let z : start .args .d - start .args .d ≡ 0 = omega arith in (
-  omega arith,
-  (
-    (ap length (start .pre .1 .1 .1 .0), ap length (start .pre .1 .1 .1 .1)),
-    rw z (listed-none (start .args .shape .k) (start .args .shape .l) (start .args .d) (start .args .v) (start .args .sent .now) (start .args .e .now) (start .args .columns .now) (start .args .rests .now) (start .pre .0 .few) (start .pre .1 .1 .1 .0) (start .pre .1 .1 .1 .1)),
-  ),
-  )
+      omega arith,
+      (
+        (ap length (start .pre .1 .1 .1 .0), ap length (start .pre .1 .1 .1 .1)),
+        rw z (listed-none (start .args .shape .k) (start .args .shape .l) (start .args .d) (start .args .v) (start .args .sent .now) (start .args .e .now) (start .args .columns .now) (start .args .rests .now) (start .pre .0 .few) (start .pre .1 .1 .1 .0) (start .pre .1 .1 .1 .1)),
+      ),
+    )
 
 sub-n : tie.Need-sub-n Inv-loop μ-loop
 sub-n c = search needs
@@ -59,13 +59,13 @@ loop-again c =
     let at-loop = at-row-at .before .before in
     let start = at-loop .before .before .before .before .before in
     let z : start .args .d - at-loop .loop .n ≡ start .args .d - suc (at-loop .loop .n - 1) = omega arith in (
-  omega arith,
-  (
-    (omega arith, omega arith),
-    listed-turn (start .args .shape .k) (start .args .shape .l) (start .args .d) (start .args .v) (at-loop .loop .n - 1) _ _ (start .args .sent .now) (start .args .e .now) (at-loop .loop .columns) (at-loop .loop .rests) (omega arith) (at-row-at .row-at .ensures .0) refl (rw z at (at-loop .loop .inv .1 .1))
-    (at-column .column .ensures .0) (at-column .column .ensures .1),
-  ),
-  )
+      omega arith,
+      (
+        (omega arith, omega arith),
+        listed-turn (start .args .shape .k) (start .args .shape .l) (start .args .d) (start .args .v) (at-loop .loop .n - 1) _ _ (start .args .sent .now) (start .args .e .now) (at-loop .loop .columns) (at-loop .loop .rests) (omega arith) (at-row-at .row-at .ensures .0) refl (rw z at (at-loop .loop .inv .1 .1))
+            (at-column .column .ensures .0) (at-column .column .ensures .1),
+      ),
+    )
 
 same-length : tie.Need-same-length Inv-loop μ-loop
 same-length c = search needs

@@ -31,11 +31,10 @@ loop-again : tie.Need-loop-again Inv-loop μ-loop
 loop-again c =
     let at-shift = c .before .before in
     let at-loop = at-shift .before .before .before in
-    let start = at-loop .before .before .before .before in
-    (
-  omega arith,
-  (omega arith, pushing-turn (start .args .k) (at-loop .loop .j) (start .args .s .now) (start .args .e .now) (start .args .t .now) (at-loop .loop .t) (omega arith) (omega arith) (omega arith) (at-loop .loop .inv .1 .1) (at-shift .shift .ensures)),
-  )
+    let start = at-loop .before .before .before .before in (
+      omega arith,
+      (omega arith, pushing-turn (start .args .k) (at-loop .loop .j) (start .args .s .now) (start .args .e .now) (start .args .t .now) (at-loop .loop .t) (omega arith) (omega arith) (omega arith) (at-loop .loop .inv .1 .1) (at-shift .shift .ensures)),
+    )
 
 same-length : tie.Need-same-length Inv-loop μ-loop
 same-length c = search needs

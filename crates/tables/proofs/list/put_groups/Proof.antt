@@ -62,9 +62,9 @@ loop-again c =
     let at-loop = at-part-at .before .before in
     let start = at-loop .before .before .before .before .before in
     let x = at-part-at .part-at .ensures in (
-  omega arith,
-  fill-turn (λ b. bytesAt (start .args .k) (start .args .e .now) (start .args .columns .now) (start .args .rests .now) (start .args .i + b)) (start .args .k * 2 + 1) (λ b. bytes-length (start .args .k) (start .args .e .now) (start .args .columns .now) (start .args .rests .now) (start .args .i + b)) (start .args .out .now) (at-loop .loop .out) (at-loop .loop .b) _ _ (x .0) refl (omega (arith, x, start .pre .1)) (at-loop .loop .inv .1 .1) (at-put-group .put-group .ensures),
-  )
+      omega arith,
+      fill-turn (λ b. bytesAt (start .args .k) (start .args .e .now) (start .args .columns .now) (start .args .rests .now) (start .args .i + b)) (start .args .k * 2 + 1) (λ b. bytes-length (start .args .k) (start .args .e .now) (start .args .columns .now) (start .args .rests .now) (start .args .i + b)) (start .args .out .now) (at-loop .loop .out) (at-loop .loop .b) _ _ (x .0) refl (omega (arith, x, start .pre .1)) (at-loop .loop .inv .1 .1) (at-put-group .put-group .ensures),
+    )
 
 same-length : tie.Need-same-length Inv-loop μ-loop
 same-length c = search needs

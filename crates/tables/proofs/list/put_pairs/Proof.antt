@@ -64,12 +64,14 @@ loop-less c = search needs
 loop-again : tie.Need-loop-again Inv-loop μ-loop
 loop-again c =
     let at-loop = c .before .before .before .before in
-    let start = at-loop .before .before .before .before in
-    (
-  omega arith,
-  (simp length-set (omega arith), pair-turn (pairBytes (start .args .columns .now) (start .args .rests .now) (start .args .i)) (start .args .out .now) (at-loop .loop .out) (at-loop .loop .j) _ _ (omega arith) (λ (i : ℕ). refl)
-  (pair-bytes (start .args .columns .now) (start .args .rests .now) (start .args .i) (at-loop .loop .j) (omega arith) (c .cost .ensures)) (at-loop .loop .inv .1 .1)),
-  )
+    let start = at-loop .before .before .before .before in (
+      omega arith,
+      (
+        simp length-set (omega arith),
+        pair-turn (pairBytes (start .args .columns .now) (start .args .rests .now) (start .args .i)) (start .args .out .now) (at-loop .loop .out) (at-loop .loop .j) _ _ (omega arith) (λ (i : ℕ). refl)
+            (pair-bytes (start .args .columns .now) (start .args .rests .now) (start .args .i) (at-loop .loop .j) (omega arith) (c .cost .ensures)) (at-loop .loop .inv .1 .1),
+      ),
+    )
 
 same-length : tie.Need-same-length Inv-loop μ-loop
 same-length c = search needs

@@ -63,12 +63,11 @@ returns c =
     let at-begin = c .before .before in
     let at-end = at-begin .before .before .before .before .before in
     let at-part-at = at-end .before .before .before in
-    let start = at-part-at .before .before .before .before .before in
-    (
-  before-start (start .args .shape .greatest) (start .args .shape .q) (start .args .shape .l) (start .args .shape .k) (start .args .lines .now) (start .args .d) (omega arith) (start .pre .1 .0 .1 .0) (omega arith) (at-begin .begin .ensures),
-  at-end .end .ensures ∙ ap (λ z. patch (start .args .out .now) (0 * (start .args .shape .l)) (start .args .shape .l) (lastTable (start .args .shape .l) (start .args .shape .k) z))
-  (part-of (start .args .after .now) _ _ (start .args .d - 2) (length (start .args .before .now)) (at-part-at .part-at .ensures .0) refl ∙ ap (λ z. part (start .args .after .now) ((start .args .d - 2) * z) z) (start .pre .1 .1 .0)),
-  )
+    let start = at-part-at .before .before .before .before .before in (
+      before-start (start .args .shape .greatest) (start .args .shape .q) (start .args .shape .l) (start .args .shape .k) (start .args .lines .now) (start .args .d) (omega arith) (start .pre .1 .0 .1 .0) (omega arith) (at-begin .begin .ensures),
+      at-end .end .ensures ∙ ap (λ z. patch (start .args .out .now) (0 * (start .args .shape .l)) (start .args .shape .l) (lastTable (start .args .shape .l) (start .args .shape .k) z))
+          (part-of (start .args .after .now) _ _ (start .args .d - 2) (length (start .args .before .now)) (at-part-at .part-at .ensures .0) refl ∙ ap (λ z. part (start .args .after .now) ((start .args .d - 2) * z) z) (start .pre .1 .1 .0)),
+    )
 
 pub first-spec : {M : Type 1} → statement M
 first-spec =

@@ -28,14 +28,13 @@ sub-j c = search needs
 loop-holds : tie.Need-loop-holds Inv-loop μ-loop
 loop-holds c =
     let at-apart = c .before .before .before in
-    let start = at-apart .before .before .before .before .before .before .before .before in
-    (
-  omega arith,
-  (
-    (refl, (refl, refl)),
-    (half-start (start .args .shape .greatest) (start .args .shape .q) (start .args .shape .l) (start .args .shape .k) (start .args .line .now) (start .args .before .now) (start .pre .1 .0 .0) (start .args .shape .k - 1) (omega arith), at-apart .apart .ensures ∙ ap (sentTo (start .args .shape .greatest) (start .args .shape .q) (start .args .shape .l) (start .args .shape .k) (start .args .before .now) (start .args .after .now)) (let z : 0 ≡ start .args .shape .k - 1 - (start .args .shape .k - 1) = omega arith in z)),
-  ),
-  )
+    let start = at-apart .before .before .before .before .before .before .before .before in (
+      omega arith,
+      (
+        (refl, (refl, refl)),
+        (half-start (start .args .shape .greatest) (start .args .shape .q) (start .args .shape .l) (start .args .shape .k) (start .args .line .now) (start .args .before .now) (start .pre .1 .0 .0) (start .args .shape .k - 1) (omega arith), at-apart .apart .ensures ∙ ap (sentTo (start .args .shape .greatest) (start .args .shape .q) (start .args .shape .l) (start .args .shape .k) (start .args .before .now) (start .args .after .now)) (let z : 0 ≡ start .args .shape .k - 1 - (start .args .shape .k - 1) = omega arith in z)),
+      ),
+    )
 
 rise-both-requires : tie.Need-rise-both-requires Inv-loop μ-loop
 rise-both-requires c κs =
@@ -90,11 +89,11 @@ returns c =
     let at-loop = at-raise .before .before .before in
     let start = at-loop .before .before .before .before .before .before .before .before .before .before .before .before in
     let z : at-loop .loop .j ≡ 0 = omega arith in (
-  half-end (start .args .shape .greatest) (start .args .shape .q) (start .args .shape .l) (start .args .shape .k) (start .args .line .now) (start .args .before .now) (start .pre .1 .0 .0) (at-loop .loop .before) (omega arith)
-  (at-loop .loop .inv .1 .1 .0 ∙ ap (λ y. take (suc y * (start .args .shape .l)) (start .args .before .now) ++ drop (suc y * (start .args .shape .l)) (grownList (start .args .shape .greatest) (start .args .shape .q) (start .args .shape .l) (start .args .shape .k) (start .args .line .now) (start .args .before .now))) z)
-  (at-raise .raise .ensures),
-  at-loop .loop .inv .1 .1 .1 ∙ ap (sentTo (start .args .shape .greatest) (start .args .shape .q) (start .args .shape .l) (start .args .shape .k) (start .args .before .now) (start .args .after .now)) (let y : start .args .shape .k - 1 - at-loop .loop .j ≡ start .args .shape .k - 1 = omega arith in y),
-  )
+      half-end (start .args .shape .greatest) (start .args .shape .q) (start .args .shape .l) (start .args .shape .k) (start .args .line .now) (start .args .before .now) (start .pre .1 .0 .0) (at-loop .loop .before) (omega arith)
+          (at-loop .loop .inv .1 .1 .0 ∙ ap (λ y. take (suc y * (start .args .shape .l)) (start .args .before .now) ++ drop (suc y * (start .args .shape .l)) (grownList (start .args .shape .greatest) (start .args .shape .q) (start .args .shape .l) (start .args .shape .k) (start .args .line .now) (start .args .before .now))) z)
+          (at-raise .raise .ensures),
+      at-loop .loop .inv .1 .1 .1 ∙ ap (sentTo (start .args .shape .greatest) (start .args .shape .q) (start .args .shape .l) (start .args .shape .k) (start .args .before .now) (start .args .after .now)) (let y : start .args .shape .k - 1 - at-loop .loop .j ≡ start .args .shape .k - 1 = omega arith in y),
+    )
 
 pub pass-spec : {M : Type 1} → statement M
 pass-spec =

@@ -66,17 +66,16 @@ pass-requires : tie.Need-pass-requires
 pass-requires c κs =
     let at-part-at2 = c .before .before .before .before .before in
     let at-part-at = at-part-at2 .before in
-    let start = at-part-at .before .before .before .before .before .before in
-    (
-  start .pre .0,
-  (
-    (start .pre .1 .1 .0 .0, part-length (start .args .after .now) _ _ _ refl (omega (arith, at-part-at2 .part-at2 .ensures, (ap (λ z. (start .args .d - 1) * z) (start .pre .1 .1 .0 .0)), start .pre .1 .1 .0)) ∙ start .pre .1 .1 .0 .0),
-    (
-      part-length (start .args .lines .now) _ _ (start .args .shape .l) refl (omega (arith, at-part-at .part-at .ensures, start .pre .1 .0 .1)),
-      (start .pre .1 .1 .1 .0, part-length (start .args .out .now) _ _ (start .args .shape .l) refl (omega (arith, at-part-at .part-at .ensures, start .pre .1 .1 .1))),
-    ),
-  ),
-  )
+    let start = at-part-at .before .before .before .before .before .before in (
+      start .pre .0,
+      (
+        (start .pre .1 .1 .0 .0, part-length (start .args .after .now) _ _ _ refl (omega (arith, at-part-at2 .part-at2 .ensures, (ap (λ z. (start .args .d - 1) * z) (start .pre .1 .1 .0 .0)), start .pre .1 .1 .0)) ∙ start .pre .1 .1 .0 .0),
+        (
+          part-length (start .args .lines .now) _ _ (start .args .shape .l) refl (omega (arith, at-part-at .part-at .ensures, start .pre .1 .0 .1)),
+          (start .pre .1 .1 .1 .0, part-length (start .args .out .now) _ _ (start .args .shape .l) refl (omega (arith, at-part-at .part-at .ensures, start .pre .1 .1 .1))),
+        ),
+      ),
+    )
 
 same-length : tie.Need-same-length
 same-length c = search needs
@@ -92,13 +91,12 @@ returns c =
     let at-pass = c .before .before .before .before .before .before in
     let at-part-at2 = at-pass .before .before .before .before .before .before in
     let at-part-at = at-part-at2 .before in
-    let start = at-part-at .before .before .before .before .before .before in
-    (
-  at-pass .pass .ensures .0 ∙ ap (λ z. grownList (start .args .shape .greatest) (start .args .shape .q) (start .args .shape .l) (start .args .shape .k) z (start .args .before .now)) (part-of (start .args .lines .now) _ _ (start .args .n) (start .args .shape .l) (at-part-at .part-at .ensures .0) refl),
-  patched (start .args .out .now) (start .args .n) (start .args .shape .l) _ _ (at-part-at .part-at .ensures .0) refl
-  (at-pass .pass .ensures .1 ∙ ap (λ z. sentTo (start .args .shape .greatest) (start .args .shape .q) (start .args .shape .l) (start .args .shape .k) (start .args .before .now) z (start .args .shape .k - 1))
-  (part-of (start .args .after .now) _ _ (start .args .d - 2 - start .args .n) (length (start .args .before .now)) (at-part-at2 .part-at2 .ensures .0) refl ∙ ap (λ z. part (start .args .after .now) ((start .args .d - 2 - start .args .n) * z) z) (start .pre .1 .1 .0 .0))),
-  )
+    let start = at-part-at .before .before .before .before .before .before in (
+      at-pass .pass .ensures .0 ∙ ap (λ z. grownList (start .args .shape .greatest) (start .args .shape .q) (start .args .shape .l) (start .args .shape .k) z (start .args .before .now)) (part-of (start .args .lines .now) _ _ (start .args .n) (start .args .shape .l) (at-part-at .part-at .ensures .0) refl),
+      patched (start .args .out .now) (start .args .n) (start .args .shape .l) _ _ (at-part-at .part-at .ensures .0) refl
+          (at-pass .pass .ensures .1 ∙ ap (λ z. sentTo (start .args .shape .greatest) (start .args .shape .q) (start .args .shape .l) (start .args .shape .k) (start .args .before .now) z (start .args .shape .k - 1))
+          (part-of (start .args .after .now) _ _ (start .args .d - 2 - start .args .n) (length (start .args .before .now)) (at-part-at2 .part-at2 .ensures .0) refl ∙ ap (λ z. part (start .args .after .now) ((start .args .d - 2 - start .args .n) * z) z) (start .pre .1 .1 .0 .0))),
+    )
 
 pub pass-at-spec : {M : Type 1} → statement M
 pass-at-spec =

@@ -93,12 +93,11 @@ returns c =
     let at-copies = at-join .before .before .before .before .before .before in
     let at-part-at2 = at-copies .before .before .before .before in
     let at-part-at = at-part-at2 .before .before in
-    let start = at-part-at .before .before .before .before .before .before in
-    (
-  rise-in-is (start .args .shape .greatest) (start .args .shape .q) (start .args .shape .l) (start .args .shape .k) (start .args .line .now) (start .args .before .now) _ (start .args .j) _ _ (omega arith) (at-part-at .part-at .ensures .0) refl (start .pre .0 .table) (start .pre .0 .within) (at-copies .copies .ensures) (at-join2 .join2 .ensures),
-  met-is (start .args .shape .greatest) (start .args .shape .q) (start .args .shape .l) (start .args .shape .k) (start .args .before .now) (start .args .after .now) (start .args .out .now) _ (start .args .j) _ _ _ (omega arith) (at-part-at .part-at .ensures .0) (at-part-at2 .part-at2 .ensures .0) refl (start .pre .0 .table) (start .pre .0 .within) (at-copies .copies .ensures)
-  (at-join .join .ensures),
-  )
+    let start = at-part-at .before .before .before .before .before .before in (
+      rise-in-is (start .args .shape .greatest) (start .args .shape .q) (start .args .shape .l) (start .args .shape .k) (start .args .line .now) (start .args .before .now) _ (start .args .j) _ _ (omega arith) (at-part-at .part-at .ensures .0) refl (start .pre .0 .table) (start .pre .0 .within) (at-copies .copies .ensures) (at-join2 .join2 .ensures),
+      met-is (start .args .shape .greatest) (start .args .shape .q) (start .args .shape .l) (start .args .shape .k) (start .args .before .now) (start .args .after .now) (start .args .out .now) _ (start .args .j) _ _ _ (omega arith) (at-part-at .part-at .ensures .0) (at-part-at2 .part-at2 .ensures .0) refl (start .pre .0 .table) (start .pre .0 .within) (at-copies .copies .ensures)
+          (at-join .join .ensures),
+    )
 
 pub rise-both-spec : {M : Type 1} → statement M
 rise-both-spec =

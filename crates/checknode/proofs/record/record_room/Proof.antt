@@ -1,0 +1,87 @@
+-- The parts of the room that the columns take.
+use mathlib.Core.Path.{_≡_, refl, sym, ap, _∙_}
+use Prim.Native.Nat.{_+_, _-_, _*_, _^_, _≤_, _<_, max}
+use native.Mathlib.Omega.{arith}
+use lib.Pow.{pow-mono}
+use lib.ListN.{length, take, drop, length-take, length-drop, length-append}
+use lib.Seq.{take-at}
+use borrow.Author.Needs.{needs}
+use Rattle.checknode.proofs.record.record_room.Statement.{statement}
+use Rattle.checknode.proofs.record.record_room.Tie as tie
+
+mul-a : tie.Need-mul-a
+mul-a c = search needs
+
+side-requires : tie.Need-side-requires
+side-requires c κs = search needs
+
+mul-b : tie.Need-mul-b
+mul-b c =
+    let at-side = c in
+    let start = at-side .before .before .before .before .before .before in
+    let m : length (start .args .weights .now) * at-side .side .result ≤ length (start .args .rests .now) = rw (at-side .side .ensures) (start .pre .1 .1 .1 .0) in
+    omega (arith, m)
+
+slice-relend-prefix-record-with : tie.Need-slice-relend-prefix-record-with
+slice-relend-prefix-record-with c = search needs
+
+slice-aggregate-record-with : tie.Need-slice-aggregate-record-with
+slice-aggregate-record-with c =
+    let at-side = c .before in
+    let start = at-side .before .before .before .before .before .before in
+    let m : length (start .args .weights .now) * at-side .side .result ≤ length (start .args .rests .now) = rw (at-side .side .ensures) (start .pre .1 .1 .1 .0) in
+    simp length-take (omega (arith, start .pre .1 .1 .0))
+
+slice-relend-prefix-record-with-2 : tie.Need-slice-relend-prefix-record-with-2
+slice-relend-prefix-record-with-2 c =
+    let at-side = c .before in
+    let start = at-side .before .before .before .before .before .before in
+    let m : length (start .args .weights .now) * at-side .side .result ≤ length (start .args .rests .now) = rw (at-side .side .ensures) (start .pre .1 .1 .1 .0) in
+    m
+
+slice-aggregate-record-with-2 : tie.Need-slice-aggregate-record-with-2
+slice-aggregate-record-with-2 c =
+    let at-side = c .before .before in
+    let start = at-side .before .before .before .before .before .before in
+    let m : length (start .args .weights .now) * at-side .side .result ≤ length (start .args .rests .now) = rw (at-side .side .ensures) (start .pre .1 .1 .1 .0) in
+    simp length-take (omega (arith, m))
+
+record-with-requires : tie.Need-record-with-requires
+record-with-requires c κs =
+    let at-side = c .before .before .before in
+    let start = at-side .before .before .before .before .before .before in
+    let m : length (start .args .weights .now) * at-side .side .result ≤ length (start .args .rests .now) = rw (at-side .side .ensures) (start .pre .1 .1 .1 .0) in
+    let e = start .pre .1 .0 in
+    let d = length (start .args .weights .now) in
+    let f : length (take (d * start .args .w) (start .args .rows .now)) ≡ d * start .args .w = simp length-take (omega (arith, start .pre .1 .1 .0)) in
+    let g : length (take (d * at-side .side .result) (start .args .rests .now)) ≡ d * at-side .side .result = simp length-take (omega (arith, m)) in
+    (start .pre .0, (f ∙ ap (λ y. d * y) e, (g ∙ ap (λ y. d * y) (at-side .side .ensures ∙ ap (max 16) e), start .pre .1 .1 .1 .1)))
+
+same-length : tie.Need-same-length
+same-length c = search needs
+
+same-length-2 : tie.Need-same-length-2
+same-length-2 c = search needs
+
+same-length-3 : tie.Need-same-length-3
+same-length-3 c = search needs
+
+returns : tie.Need-returns
+returns c = search needs
+
+pub record-room-spec : {M : Type 1} → statement M
+record-room-spec =
+    tie.close
+    (tie.spec
+    mul-a
+    side-requires
+    mul-b
+    slice-relend-prefix-record-with
+    slice-aggregate-record-with
+    slice-relend-prefix-record-with-2
+    slice-aggregate-record-with-2
+    record-with-requires
+    same-length
+    same-length-2
+    same-length-3
+    returns)

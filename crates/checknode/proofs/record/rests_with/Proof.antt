@@ -1,0 +1,145 @@
+-- The lines, the shifts, and what the tables make of the lines.
+use mathlib.Core.Path.{_≡_, refl, sym, ap, _∙_}
+use Prim.Native.Nat.{_+_, _-_, _*_, _^_, _≤_, _<_, max}
+use native.Mathlib.Omega.{arith}
+use lib.Pow.{pow-mono}
+use lib.ListN.{length, take, drop, length-take, length-drop, length-append}
+use lib.Seq.{take-at}
+use Rattle.checknode.specs.Lines.{restsOf, sideOf}
+use Rattle.trellis.specs.Lists.{blocks}
+use Rattle.checknode.proofs.Resting.{rests-law, shifts-law, sent-same}
+use borrow.Author.Needs.{needs}
+use Rattle.checknode.proofs.record.rests_with.Statement.{statement}
+use Rattle.checknode.proofs.record.rests_with.Tie as tie
+
+size-requires : tie.Need-size-requires
+size-requires c κs = search needs
+
+index-requires : tie.Need-index-requires
+index-requires c κs = search needs
+
+side-requires : tie.Need-side-requires
+side-requires c κs = search needs
+
+mul-n : tie.Need-mul-n
+mul-n c =
+    let at-side = c in
+    let start = at-side .before .before .before .before .before .before .before .before .before .before in
+    let e : at-side .side .result ≡ sideOf (start .args .p) = at-side .side .ensures ∙ ap (max 16) (at-side .before .index .ensures .0 ∙ at-side .before .before .size .ensures .0) in
+    let m : length (start .args .weights .now) * at-side .side .result ≤ length (start .args .lines .now) = rw e (start .pre .1 .1 .1) in
+    omega (arith, m)
+
+slice-relend-prefix-lines : tie.Need-slice-relend-prefix-lines
+slice-relend-prefix-lines c =
+    let at-side = c .before in
+    let start = at-side .before .before .before .before .before .before .before .before .before .before in
+    let e : at-side .side .result ≡ sideOf (start .args .p) = at-side .side .ensures ∙ ap (max 16) (at-side .before .index .ensures .0 ∙ at-side .before .before .size .ensures .0) in
+    let m : length (start .args .weights .now) * at-side .side .result ≤ length (start .args .lines .now) = rw e (start .pre .1 .1 .1) in
+    m
+
+slice-aggregate-lines : tie.Need-slice-aggregate-lines
+slice-aggregate-lines c =
+    let at-side = c .before .before in
+    let start = at-side .before .before .before .before .before .before .before .before .before .before in
+    let e : at-side .side .result ≡ sideOf (start .args .p) = at-side .side .ensures ∙ ap (max 16) (at-side .before .index .ensures .0 ∙ at-side .before .before .size .ensures .0) in
+    let m : length (start .args .weights .now) * at-side .side .result ≤ length (start .args .lines .now) = rw e (start .pre .1 .1 .1) in
+    simp length-take (omega (arith, m))
+
+lines-requires : tie.Need-lines-requires
+lines-requires c κs =
+    let at-side = c .before .before .before in
+    let start = at-side .before .before .before .before .before .before .before .before .before .before in
+    let e : at-side .side .result ≡ sideOf (start .args .p) = at-side .side .ensures ∙ ap (max 16) (at-side .before .index .ensures .0 ∙ at-side .before .before .size .ensures .0) in
+    let m : length (start .args .weights .now) * at-side .side .result ≤ length (start .args .lines .now) = rw e (start .pre .1 .1 .1) in (
+      start .pre .0,
+      (
+        start .pre .1 .0,
+        record {
+          wide = omega (arith, e);
+          narrow = omega (arith, e, pow-mono {i = start .args .p} {j = 6} (start .pre .0 .high));
+          of-rows = start .pre .1 .1 .0 .of-rows;
+          of-lines = simp length-take (omega (arith, m));
+          of-out = start .pre .1 .1 .0 .of-shifts;
+        },
+      ),
+    )
+
+shift-all-requires : tie.Need-shift-all-requires
+shift-all-requires c κs = search needs
+
+rule-of-requires : tie.Need-rule-of-requires
+rule-of-requires c κs = search needs
+
+slice-reshare-prefix-sent : tie.Need-slice-reshare-prefix-sent
+slice-reshare-prefix-sent c =
+    let at-side = c .before .before .before .before .before .before .before .before .before .before .before .before .before .before .before in
+    let start = at-side .before .before .before .before .before .before .before .before .before .before in
+    let e : at-side .side .result ≡ sideOf (start .args .p) = at-side .side .ensures ∙ ap (max 16) (at-side .before .index .ensures .0 ∙ at-side .before .before .size .ensures .0) in
+    let m : length (start .args .weights .now) * at-side .side .result ≤ length (start .args .lines .now) = rw e (start .pre .1 .1 .1) in
+    let k : length (take (length (start .args .weights .now) * at-side .side .result) (start .args .lines .now)) ≡ length (start .args .weights .now) * at-side .side .result = simp length-take (omega (arith, m)) in
+    simp length-append (omega (arith, m, k, c .before .before .before .before .before .before .before .before .before .before .before .lines .kept))
+
+slice-aggregate-sent : tie.Need-slice-aggregate-sent
+slice-aggregate-sent c =
+    let at-side = c .before .before .before .before .before .before .before .before .before .before .before .before .before .before .before .before in
+    let start = at-side .before .before .before .before .before .before .before .before .before .before in
+    let e : at-side .side .result ≡ sideOf (start .args .p) = at-side .side .ensures ∙ ap (max 16) (at-side .before .index .ensures .0 ∙ at-side .before .before .size .ensures .0) in
+    let m : length (start .args .weights .now) * at-side .side .result ≤ length (start .args .lines .now) = rw e (start .pre .1 .1 .1) in
+    let k : length (take (length (start .args .weights .now) * at-side .side .result) (start .args .lines .now)) ≡ length (start .args .weights .now) * at-side .side .result = simp length-take (omega (arith, m)) in
+    simp (length-take, length-append) (omega (arith, m, k, c .before .before .before .before .before .before .before .before .before .before .before .before .lines .kept))
+
+sent-requires : tie.Need-sent-requires
+sent-requires c κs = search needs
+
+same-length : tie.Need-same-length
+same-length c = search needs
+
+same-length-2 : tie.Need-same-length-2
+same-length-2 c = search needs
+
+same-length-3 : tie.Need-same-length-3
+same-length-3 c = search needs
+
+same-length-4 : tie.Need-same-length-4
+same-length-4 c = search needs
+
+returns : tie.Need-returns
+returns c =
+    let at-side = c .before .before .before .before .before .before .before .before .before .before .before .before .before .before .before .before .before .before .before .before in
+    let start = at-side .before .before .before .before .before .before .before .before .before .before in
+    let e : at-side .side .result ≡ sideOf (start .args .p) = at-side .side .ensures ∙ ap (max 16) (at-side .before .index .ensures .0 ∙ at-side .before .before .size .ensures .0) in
+    let m : length (start .args .weights .now) * at-side .side .result ≤ length (start .args .lines .now) = rw e (start .pre .1 .1 .1) in
+    let at-lines = c .before .before .before .before .before .before .before .before .before .before .before .before .before .before .before .before in
+    let n = length (start .args .weights .now) * at-side .side .result in
+    let r = c .before .before .before .before .before in
+    let k : length (take (length (start .args .weights .now) * at-side .side .result) (start .args .lines .now)) ≡ length (start .args .weights .now) * at-side .side .result = simp length-take (omega (arith, m)) in
+    let t = take-at (at-lines .lines .last .1 .1 .1 .1 .1 .1 .0) (drop n (start .args .lines .now)) n (omega (arith, k, at-lines .lines .kept)) in
+    let g : length (at-lines .lines .last .1 .1 .1 .1 .1 .1 .0) ≡ length (start .args .weights .now) * sideOf (start .args .p) = omega (arith, k, at-lines .lines .kept, ap (λ y. length (start .args .weights .now) * y) e) in (
+      at-lines .lines .ensures .1 .0,
+      (
+        rests-law (start .args .p) (start .args .weights .now) (start .args .costs .now) (start .pre .0) (at-lines .lines .last .1 .1 .1 .1 .1 .1 .0) (start .args .rests .now) (at-lines .lines .ensures .1 .1 .0 ∙ ap (λ y. blocks (restsOf (start .args .p) (start .args .weights .now) (start .args .costs .now) y) (length (start .args .weights .now))) e) g (start .pre .1 .1 .0 .of-rests) (omega (arith, c .before .before .sent .kept, start .pre .1 .1 .0 .of-rests)) (c .before .before .sent .ensures ∙ sent-same (length (start .args .weights .now)) (start .args .rests .now) (r .rule-of .ensures .0) (r .rule-of .ensures .1 .0) (r .rule-of .ensures .1 .1) t),
+        shifts-law (start .args .p) (start .args .weights .now) (start .args .costs .now) (start .pre .0) (at-lines .lines .ensures .0) (at-lines .lines .ensures .1 .1 .1) (c .before .before .before .before .before .before .before .before .shift-all .ensures),
+      ),
+    )
+
+pub rests-with-spec : {M : Type 1} → statement M
+rests-with-spec =
+    tie.close
+    (tie.spec
+    size-requires
+    index-requires
+    side-requires
+    mul-n
+    slice-relend-prefix-lines
+    slice-aggregate-lines
+    lines-requires
+    shift-all-requires
+    rule-of-requires
+    slice-reshare-prefix-sent
+    slice-aggregate-sent
+    sent-requires
+    same-length
+    same-length-2
+    same-length-3
+    same-length-4
+    returns)
