@@ -1,5 +1,5 @@
--- Gather, check, expand and scatter make one update: each loop's list is cut into the columns' parts, check and expand accept what the update gives
--- them, and an expansion is what the machine heard.
+-- Expand, gather, messages and scatter make one update: each loop's list is cut into the columns' parts, expand and messages accept what the update
+-- gives them, and an expansion is what the machine heard.
 use mathlib.Core.Path.{_≡_, refl, sym, ap, ap₂, _∙_}
 use mathlib.Core.Bool.{Bool, true, false}
 use mathlib.Core.List.{List, _++_, map, append-assoc, append-nil}
@@ -13,7 +13,7 @@ use lib.Seq.{take-at, drop-at, drop-length, ext-getD, getD-take, getD-drop}
 use lib.Pow.{pow-pos}
 use borrow.Author.Tests.{eq-eqb, ne-eqb, le-ltb}
 use Rattle.trellis.specs.Lists.{upTo, each, upto, allTo, tab, part, patch, blocks}
-use Rattle.trellis.specs.Check.{Column, column, blank}
+use Rattle.trellis.specs.Check.{Column, column, blank, allSent}
 use Rattle.trellis.specs.Record.{recordOf, recordLength, recordOk, expandAt, expansion}
 use Rattle.trellis.specs.Rules.{ruleFor, columnsOf, costsAt}
 use Rattle.trellis.specs.Ready.{Ready}
@@ -23,8 +23,8 @@ use Rattle.trellis.proofs.Places.{map-ext, slice-each, length-count}
 use Rattle.trellis.proofs.Loops.{length-tab, getD-tab}
 use Rattle.trellis.proofs.Instances.{first-zero}
 use Rattle.trellis.proofs.Ready.{length-columns, column-at}
-use Rattle.trellis.proofs.Messages.{ready-form}
-use Rattle.checknode.specs.Answers.{weightOk, weightsOk, zeroOk, checkLeaves, expandLeaves}
+use Rattle.trellis.proofs.Messages.{ready-messages}
+use Rattle.checknode.specs.Answers.{weightOk, weightsOk, zeroOk, messagesCases, messagesLeaves, messagesSent, expandLeaves}
 use Rattle.machine.specs.CodeLine.{edgeAt, columnOf}
 use Rattle.machine.specs.Machine.{scaled, incoming, outgoing, arriving, spread}
 use Rattle.machine.specs.Lent.{weightsOf, heard}
@@ -152,10 +152,11 @@ module _ (p : ℕ) (ws Q : List ℕ) (D : Ready p ws Q) where
   pub ready-weighed : Weighed p ws
   ready-weighed = record { low = D .low; high = D .high; three = D .three; few = D .few; some = D .weight-some; small = D .weight-small }
 
-  -- nor 12, 13 or 4
-  pub check-accepts : (r : List ℕ) → length r ≡ recordLength (ruleFor p) (length ws) → checkLeaves p ws Q r ≡ recordOf (ruleFor p) (columnsOf (2 ^ p) ws Q)
-  unfolding checkLeaves zeroOk
-  check-accepts r e =
+  -- nor 12, 13, 4 or 2
+  messages-pass : (r out : List ℕ) → length r ≡ recordLength (ruleFor p) (length ws) → length out ≡ length ws * 2 ^ p
+      → {A : Type 0} (bad : ℕ → A) (good : A) → messagesCases p ws Q (length r) (length out) bad good ≡ good
+  unfolding zeroOk
+  messages-pass r out e f bad good =
       let z : allTo (zeroOk (2 ^ p) Q) (length ws) ≡ true = to-true (all-of _ (length ws) (λ n h. lt→ltb _ _ (D .zeros n h))) in
       rw (
         le-ltb p 2 (D .low),
@@ -165,15 +166,18 @@ module _ (p : ℕ) (ws Q : List ℕ) (D : Ready p ws Q) where
         weights-pass p ws ready-weighed,
         eq-eqb (length Q) (length ws * 2 ^ p) (D .count),
         z,
-        ← e,
-        le-ltb (length r) (length r) (omega arith),
-        drop-length r,
+        le-ltb (length r) (recordLength (ruleFor p) (length ws)) (omega arith),
+        le-ltb (length out) (length ws * 2 ^ p) (omega arith),
       )
-      (append-nil (recordOf (ruleFor p) (columnsOf (2 ^ p) ws Q)))
 
-  pub sent-is : (new out last : List ℕ) → new ≡ recordOf (ruleFor p) (columnsOf (2 ^ p) ws Q) → length out ≡ length ws * 2 ^ p → last ≡ expandLeaves p ws new out
-      → last ≡ expansion (ruleFor p) ws (recordOf (ruleFor p) (columnsOf (2 ^ p) ws Q))
-  sent-is new out last e f o = o ∙ rw e (expand-accepts p ws (recordOf (ruleFor p) (columnsOf (2 ^ p) ws Q)) out ready-weighed (ready-form p ws Q D) f)
+  -- the record and the sent costs fill their buffers
+  pub sent-is : (r out new last : List ℕ) → length r ≡ recordLength (ruleFor p) (length ws) → length out ≡ length ws * 2 ^ p → new ≡ messagesLeaves p ws Q r out → last ≡ messagesSent p ws Q r out
+      → (new ≡ recordOf (ruleFor p) (columnsOf (2 ^ p) ws Q)) × (last ≡ allSent (ruleFor p) (columnsOf (2 ^ p) ws Q))
+  unfolding messagesLeaves messagesSent
+  sent-is r out new last e f n o = (
+    n ∙ messages-pass r out e f (λ k. r) _ ∙ rw (← e, drop-length r) (append-nil (recordOf (ruleFor p) (columnsOf (2 ^ p) ws Q))),
+    o ∙ messages-pass r out e f (λ k. out) _ ∙ rw (← f, drop-length out) (append-nil (allSent (ruleFor p) (columnsOf (2 ^ p) ws Q))),
+  )
 
 module _ (p g : ℕ) (first : Bool) (cs ws P r Q S : List ℕ) (U : UpdateRoom p g first cs ws P r Q S) where
   abbrev pub arrived : List ℕ
@@ -237,10 +241,10 @@ module _ (p g : ℕ) (first : Bool) (cs ws P r Q S : List ℕ) (U : UpdateRoom p
 
   pub update-is : (q : ℕ) (old now bytes new last : List ℕ) → q ≡ 2 ^ p → old ≡ oldCosts p first ws r → now ≡ gatheredCosts P cs old g q (length cs) Q
       → bytes ≡ recordOf (ruleFor p) (columnsOf (2 ^ p) ws now)
-      → new ≡ expansion (ruleFor p) ws (recordOf (ruleFor p) (columnsOf (2 ^ p) ws now))
+      → new ≡ allSent (ruleFor p) (columnsOf (2 ^ p) ws now)
       → last ≡ scattered now new cs g q (length cs) P
       → (last ≡ costsNow p g first cs ws r P) × (bytes ≡ recordNow p g first cs ws r P)
   unfolding recordNow
   update-is q old now bytes new last e o n b s l =
       let i : now ≡ arrived = n ∙ rw (o, e) in
-      (l ∙ rw (s, i, e) costs-is, b ∙ rw i (ap (recordOf (ruleFor p)) arrived-columns))
+      (l ∙ rw (s, i, e, ← ready-messages p ws arrived arrived-ready) costs-is, b ∙ rw i (ap (recordOf (ruleFor p)) arrived-columns))

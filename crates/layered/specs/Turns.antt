@@ -45,7 +45,7 @@ pub record RecallRoom (p : ℕ) (first : Bool) (ws r out : List ℕ) : Type 0 wh
   pub form : first ≡ false → recordOk (ruleFor p) (length ws) r ≡ true
   pub full : length out ≡ length ws * 2 ^ p
 
--- a check that is accepted, room for its record and for the expansion
+-- a check that is accepted, room for its record and for its sent costs
 pub record SendRoom (p : ℕ) (ws Q r out : List ℕ) : Type 0 where
   pub ready : Ready p ws Q
   pub for-record : length r ≡ recordLength (ruleFor p) (length ws)

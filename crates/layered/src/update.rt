@@ -5,7 +5,8 @@ ghost use mathlib.Core.Path.{_≡_};
 ghost use Prim.Native.Nat.{_^_};
 ghost use lib.ListN.{length};
 ghost use Rattle.trellis.specs.Lists.{tab};
-ghost use Rattle.trellis.specs.Record.{recordOf, expansion};
+ghost use Rattle.trellis.specs.Check.{allSent};
+ghost use Rattle.trellis.specs.Record.{recordOf};
 ghost use Rattle.trellis.specs.Rules.{ruleFor, columnsOf};
 ghost use Rattle.layered.specs.Turns.{oldCosts, RecallRoom, SendRoom, UpdateRoom, recordNow, costsNow};
 
@@ -31,14 +32,13 @@ fn recall(p: u8, first: bool, weights: &[u8], bytes: &[u8], out: &mut [u8])
     checknode::expand(p, weights, bytes, out);
 }
 
-// The record of the check with these costs, and its expansion.
+// The record of the check with these costs, and its sent costs.
 fn send(p: u8, weights: &[u8], costs: &[u8], bytes: &mut [u8], out: &mut [u8])
     requires { ⌜ SendRoom p (now weights) (now costs) (now bytes) (now out) ⌝ }
     ensures { λ _. ⌜ now (bytes .exit) ≡ recordOf (ruleFor p) (columnsOf (2 ^ p) (now (weights .entry)) (now (costs .entry))) ⌝ }
-    ensures { λ _. ⌜ now (out .exit) ≡ expansion (ruleFor p) (now (weights .entry)) (recordOf (ruleFor p) (columnsOf (2 ^ p) (now (weights .entry)) (now (costs .entry)))) ⌝ }
+    ensures { λ _. ⌜ now (out .exit) ≡ allSent (ruleFor p) (columnsOf (2 ^ p) (now (weights .entry)) (now (costs .entry))) ⌝ }
 {
-    checknode::check(p, weights, costs, bytes);
-    checknode::expand(p, weights, bytes, out);
+    checknode::messages(p, weights, costs, bytes, out);
 }
 
 // "This is one update of the check", whose record stands in `bytes`; `arrived` and `sent` are room to work in.

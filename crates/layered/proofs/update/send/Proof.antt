@@ -1,15 +1,11 @@
--- check accepts, and expand accepts its record.
-use mathlib.Core.Path.{_∙_}
-use Rattle.layered.proofs.Turns.{check-accepts, sent-is}
+-- messages accepts, and fills both buffers.
+use Rattle.layered.proofs.Turns.{sent-is}
 use borrow.Author.Needs.{needs}
 use Rattle.layered.proofs.update.send.Statement.{statement}
 use Rattle.layered.proofs.update.send.Tie as tie
 
-check-requires : tie.Need-check-requires
-check-requires c κs = search needs
-
-expand-requires : tie.Need-expand-requires
-expand-requires c κs = search needs
+messages-requires : tie.Need-messages-requires
+messages-requires c κs = search needs
 
 same-length : tie.Need-same-length
 same-length c = search needs
@@ -19,12 +15,10 @@ same-length-2 c = search needs
 
 returns : tie.Need-returns
 returns c =
-    let e = c .before .before in
-    let k = e .before .before .before .before .before in
-    let s = k .before .before .before .before .before .before in
+    let m = c .before .before .before .before in
+    let s = m .before .before .before .before .before .before .before in
     let a = s .args in
-    let r = k .check .ensures .1 ∙ check-accepts (a .p) (a .weights .now) (a .costs .now) (s .pre .ready) (a .bytes .now) (s .pre .for-record) in
-    (r, sent-is (a .p) (a .weights .now) (a .costs .now) (s .pre .ready) _ (a .out .now) _ r (s .pre .full) (e .expand .ensures .1))
+    sent-is (a .p) (a .weights .now) (a .costs .now) (s .pre .ready) (a .bytes .now) (a .out .now) _ _ (s .pre .for-record) (s .pre .full) (m .messages .ensures .1 .0) (m .messages .ensures .1 .1)
 
 pub send-spec : {M : Type 1} → statement M
-send-spec = tie.close (tie.spec check-requires expand-requires same-length same-length-2 returns)
+send-spec = tie.close (tie.spec messages-requires same-length same-length-2 returns)
