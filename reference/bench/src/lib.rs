@@ -6,12 +6,14 @@
 #![forbid(unsafe_code)]
 #![deny(missing_docs)]
 
+pub mod accepted;
 pub mod charts;
 pub mod checks;
 pub mod decoding;
 pub mod inputs;
 pub mod report;
 pub mod same;
+pub mod search_engine;
 pub mod sweeps;
 pub mod targets;
 pub mod timing;

@@ -1,0 +1,58 @@
+//! Every engine for a check against the reference decoder: the benchmark's ratios are worth something
+//! only if all of them are right.
+
+use bench::{same, search_engine};
+use reference_decoder::sample::{self, CheckSample, Generator, Style};
+use reference_decoder::Refusal;
+
+/// A check by one engine, with document 01's refusals.
+type Check = fn(u8, &[u8], &[u8], &mut [u8]) -> Result<usize, u8>;
+
+fn engines() -> Vec<(&'static str, Check)> {
+    vec![("same", same::check), ("search", search_engine::check)]
+}
+
+/// Every engine leaves what the reference decoder leaves, in a buffer of this length.
+fn compare(generator: &mut Generator, check: &CheckSample, room: usize) {
+    let before = generator.bytes(room);
+    let mut expected = before.clone();
+    let (p, weights, costs) = (check.p, &check.weights, &check.costs);
+    let answer = reference_decoder::check(p, weights, costs, &mut expected);
+    let answer = answer.map_err(Refusal::number);
+    for (name, engine) in engines() {
+        let mut found = before.clone();
+        assert_eq!(engine(p, weights, costs, &mut found), answer, "{name}");
+        assert_eq!(found, expected, "{name}: p = {p}, {weights:?}, {costs:?}");
+    }
+}
+
+fn record_length(check: &CheckSample) -> usize {
+    check.degree() + 5 * (check.q() - 1)
+}
+
+#[test]
+fn every_p_and_degree_with_ties() {
+    let mut generator = Generator::new(1);
+    for p in 2..=6 {
+        for degree in 3..=32 {
+            for style in Style::ALL {
+                for _ in 0..4 {
+                    let check = sample::check(&mut generator, p..=p, degree..=degree, style);
+                    compare(&mut generator, &check, record_length(&check));
+                }
+            }
+        }
+    }
+}
+
+#[test]
+fn refusals_and_buffers() {
+    let mut generator = Generator::new(2);
+    for round in 0..2_000 {
+        let check = sample::check(&mut generator, 2..=6, 3..=32, Style::ALL[round % 5]);
+        let room = record_length(&check) + generator.below(3) - 1;
+        let damaged = sample::damaged_check(&mut generator, &check);
+        compare(&mut generator, &check, room);
+        compare(&mut generator, &damaged, room);
+    }
+}
