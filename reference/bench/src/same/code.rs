@@ -1,7 +1,7 @@
-//! The code line, read once into tables. Crate `layered`, module `code`.
+//! The code line, read once into tables.
 
-use super::record::record_length;
-use super::Refusal;
+use super::rule::Rule;
+use crate::accepted::Refusal;
 
 /// "M (1 to 128)"
 const MOST_CHECKS: usize = 128;
@@ -12,7 +12,7 @@ const EDGE: usize = 3;
 
 /// The numbers of an accepted code line, and its checks end to end.
 pub struct Code {
-    pub p: u8,
+    pub rule: Rule,
     pub n: usize,
     pub m: usize,
     pub g: u16,
@@ -26,10 +26,8 @@ impl Code {
     /// "Code: 5 if under six bytes, 6, 7, 8; in each check 5 for the degree byte, 9, 5 for its edges,
     /// then 10 and 11 edge by edge; last 5 for bytes left over."
     pub fn read(bytes: &[u8]) -> Result<Code, Refusal> {
-        let (&[p, n_high, n_low, m, g, limit], mut rest) = bytes.split_first_chunk().ok_or(5)?;
-        if !(2..=6).contains(&p) {
-            return Err(6);
-        }
+        let (&[p, n_high, n_low, m, g, limit], mut left) = bytes.split_first_chunk().ok_or(5)?;
+        let rule = Rule::of(p)?;
         let n = usize::from(u16::from_be_bytes([n_high, n_low]));
         let m = usize::from(m);
         if !(1..=256).contains(&n) || !(1..=MOST_CHECKS).contains(&m) {
@@ -39,7 +37,7 @@ impl Code {
             return Err(8);
         }
         let mut code = Code {
-            p,
+            rule,
             n,
             m,
             g: u16::from(g),
@@ -50,7 +48,7 @@ impl Code {
         };
         let mut edges = 0;
         for check in 0..m {
-            let (&degree, after) = rest.split_first().ok_or(5)?;
+            let (&degree, after) = left.split_first().ok_or(5)?;
             let d = usize::from(degree);
             if !(3..=32).contains(&d) || edges + d > MOST_EDGES {
                 return Err(9);
@@ -59,9 +57,9 @@ impl Code {
             code.degrees[check] = degree;
             code.read_edges(line, edges)?;
             edges += d;
-            rest = after;
+            left = after;
         }
-        if rest.is_empty() {
+        if left.is_empty() {
             Ok(code)
         } else {
             Err(5)
@@ -76,7 +74,7 @@ impl Code {
             if usize::from(column) >= self.n || column < low {
                 return Err(10);
             }
-            if edge[2] == 0 || edge[2] >> self.p != 0 {
+            if edge[2] == 0 || edge[2] >> self.rule.p != 0 {
                 return Err(11);
             }
             self.columns[place] = column;
@@ -84,11 +82,6 @@ impl Code {
             low = column + 1;
         }
         Ok(())
-    }
-
-    /// q.
-    pub fn q(&self) -> usize {
-        1 << self.p
     }
 
     /// The checks in code order: columns and weights.
@@ -105,7 +98,7 @@ impl Code {
     pub fn store_length(&self) -> usize {
         let degrees = self.degrees[..self.m].iter();
         degrees
-            .map(|&degree| record_length(usize::from(degree), self.q()))
+            .map(|&degree| self.rule.record_length(usize::from(degree)))
             .sum()
     }
 }

@@ -1,22 +1,21 @@
-//! The layered decoder. Crate `layered`, modules `decoding`, `frame`, `iterate`, `update`, `column` and
-//! `parity`: P stands in the lent cost buffer, the records in the lent store, the decisions in the lent
-//! symbol buffer; one check's Q and expansion in local arrays.
+//! The layered decoder: P stands in the lent cost buffer, the records in the lent store, the decisions in
+//! the lent symbol buffer; one check's Q and sent costs in local arrays.
 
 use super::code::Code;
-use super::expansion::expand;
-use super::field::product;
-use super::record::{check, record_length};
-use super::rows::first_zero;
-use super::Refusal;
+use super::expansion::expand_by;
+use super::products::product;
+use super::record::messages;
+use super::rule::MOST_ROWS;
+use crate::accepted::{first_zero, Refusal, MOST_COLUMNS};
 
-/// The costs of one check at the most: 32 columns of 64.
-const MOST_COSTS: usize = 32 * 64;
+/// The most costs of one check.
+const MOST_COSTS: usize = MOST_COLUMNS * MOST_ROWS;
 
 /// Room to work in.
 struct Room {
     /// Q of the check at hand.
     arrived: [u8; MOST_COSTS],
-    /// What its record sent, before scaling.
+    /// What its old record sent, then what it sends, before scaling.
     sent: [u8; MOST_COSTS],
 }
 
@@ -30,7 +29,8 @@ pub fn decode(
     store: &mut [u8],
 ) -> Result<(u8, u8), Refusal> {
     let code = Code::read(code)?;
-    let (q, length) = (code.q(), code.n * code.q());
+    let q = code.rule.q;
+    let length = code.n * q;
     if frame.len() != length {
         return Err(12);
     }
@@ -67,7 +67,7 @@ fn run(code: &Code, symbols: &mut [u8], costs: &mut [u16], store: &mut [u8]) -> 
     };
     let mut t = 0;
     loop {
-        decide(code.q(), costs, symbols);
+        decide(code.rule.q, costs, symbols);
         if satisfied(code, symbols) {
             return (0, t);
         }
@@ -92,7 +92,7 @@ fn satisfied(code: &Code, symbols: &[u8]) -> bool {
     code.checks().all(|(columns, weights)| {
         let edges = columns.iter().zip(weights);
         let term = |(&column, &weight)| {
-            let product = product(code.p, weight, symbols[usize::from(column)]);
+            let product = product(code.rule.p, weight, symbols[usize::from(column)]);
             product.unwrap_or(0)
         };
         edges.map(term).fold(0, |sum, term| sum ^ term) == 0
@@ -101,11 +101,11 @@ fn satisfied(code: &Code, symbols: &[u8]) -> bool {
 
 /// "An iteration adds 1 to t and takes the checks in code order."
 fn iterate(code: &Code, first: bool, costs: &mut [u16], store: &mut [u8], room: &mut Room) {
-    let mut rest = store;
+    let mut records = store;
     for (columns, weights) in code.checks() {
-        let (record, after) = rest.split_at_mut(record_length(weights.len(), code.q()));
+        let (record, others) = records.split_at_mut(code.rule.record_length(weights.len()));
         update(code, columns, weights, first, costs, record, room);
-        rest = after;
+        records = others;
     }
 }
 
@@ -119,22 +119,21 @@ fn update(
     record: &mut [u8],
     room: &mut Room,
 ) {
-    let q = code.q();
+    let q = code.rule.q;
     let arrived = &mut room.arrived[..columns.len() * q];
     let sent = &mut room.sent[..columns.len() * q];
     if first {
         sent.fill(0);
     } else {
-        // Like `check` and `expand` below, it is not refused.
-        let _ = expand(code.p, weights, record, sent);
+        // Like `messages` below, it is not refused.
+        let _ = expand_by(code.rule, weights, record, sent);
     }
     let parts = sent.chunks_exact(q).zip(arrived.chunks_exact_mut(q));
     for (&column, (sent, arrived)) in columns.iter().zip(parts) {
         let costs = &costs[usize::from(column) * q..][..q];
         incoming(code.g, costs, sent, arrived);
     }
-    let _ = check(code.p, weights, arrived, record);
-    let _ = expand(code.p, weights, record, sent);
+    let _ = messages(code.rule, weights, arrived, record, Some(sent));
     let parts = sent.chunks_exact(q).zip(arrived.chunks_exact(q));
     for (&column, (sent, arrived)) in columns.iter().zip(parts) {
         let costs = &mut costs[usize::from(column) * q..][..q];

@@ -1,0 +1,63 @@
+//! The rule of a check, with the sizes that follow from it.
+
+use super::lanes::LANES;
+use crate::accepted::Refusal;
+
+/// The largest q, and so the most rows of a table.
+pub const MOST_ROWS: usize = 64;
+/// The most blocks of a table.
+pub const MOST_BLOCKS: usize = MOST_ROWS / LANES;
+/// The largest k.
+pub const MOST_DEVIATIONS: usize = 3;
+
+/// Field, deviations and join.
+#[derive(Clone, Copy, Debug)]
+pub struct Rule {
+    /// p.
+    pub p: u8,
+    /// The symbols of the field, 2 to the p.
+    pub q: usize,
+    /// The rows of a table: q, and at least a block.
+    pub l: usize,
+    /// The most deviations of a choice, 2 or 3.
+    pub k: usize,
+    /// Whether a choice costs the greatest of its columns' costs, and not their sum.
+    pub greatest: bool,
+}
+
+impl Rule {
+    /// Document 01's rule: at most two deviations, and sums.
+    pub fn of(p: u8) -> Result<Rule, Refusal> {
+        Rule::new(p, 2, false)
+    }
+
+    /// A rule, or refusal 6.
+    pub fn new(p: u8, k: usize, greatest: bool) -> Result<Rule, Refusal> {
+        if !(2..=6).contains(&p) {
+            return Err(6);
+        }
+        let q = 1 << p;
+        Ok(Rule {
+            p,
+            q,
+            l: q.max(LANES),
+            k,
+            greatest,
+        })
+    }
+
+    /// The blocks of a table.
+    pub fn blocks(self) -> usize {
+        self.l / LANES
+    }
+
+    /// The bytes of each a in a record: E, and column and S of k pairs.
+    pub fn group(self) -> usize {
+        1 + 2 * self.k
+    }
+
+    /// "Length: d + 5(q - 1)", for any k.
+    pub fn record_length(self, d: usize) -> usize {
+        d + self.group() * (self.q - 1)
+    }
+}
