@@ -1,15 +1,17 @@
 //! The benchmark: "time per check by (p, d) and per iteration and coded bits per second by
 //! code, beside (a) the same algorithm in Rust built with -O, (b) the textbook forward and backward
 //! sweeps in Rust, (c) expansion and record sizes against the d·q bytes of plain messages. All in one
-//! run, as ratios".
+//! run, as ratios". Beside these, for the check: a search over kept entries in Rust, and the same
+//! algorithm by hand in C with SSE2 and AVX2.
 
-#![forbid(unsafe_code)]
+#![deny(unsafe_code)]
 #![deny(missing_docs)]
 
 pub mod accepted;
 pub mod charts;
 pub mod checks;
 pub mod decoding;
+pub mod foreign;
 pub mod inputs;
 pub mod report;
 pub mod same;

@@ -1,15 +1,19 @@
 //! Every engine for a check against the reference decoder: the benchmark's ratios are worth something
 //! only if all of them are right.
 
-use bench::{same, search_engine};
+use bench::{foreign, same, search_engine};
 use reference_decoder::sample::{self, CheckSample, Generator, Style};
 use reference_decoder::Refusal;
 
-/// A check by one engine, with document 01's refusals.
-type Check = fn(u8, &[u8], &[u8], &mut [u8]) -> Result<usize, u8>;
-
-fn engines() -> Vec<(&'static str, Check)> {
-    vec![("same", same::check), ("search", search_engine::check)]
+/// The engines that this machine can run.
+fn engines() -> Vec<(&'static str, foreign::Call)> {
+    let mut engines: Vec<(_, foreign::Call)> = vec![
+        ("same", same::check),
+        ("search", search_engine::check),
+        ("SSE2", foreign::check_sse2),
+    ];
+    engines.extend(foreign::check_avx2().map(|check| ("AVX2", check)));
+    engines
 }
 
 /// Every engine leaves what the reference decoder leaves, in a buffer of this length.

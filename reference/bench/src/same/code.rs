@@ -26,7 +26,7 @@ impl Code {
     /// "Code: 5 if under six bytes, 6, 7, 8; in each check 5 for the degree byte, 9, 5 for its edges,
     /// then 10 and 11 edge by edge; last 5 for bytes left over."
     pub fn read(bytes: &[u8]) -> Result<Code, Refusal> {
-        let (&[p, n_high, n_low, m, g, limit], mut left) = bytes.split_first_chunk().ok_or(5)?;
+        let (&[p, n_high, n_low, m, g, limit], left) = bytes.split_first_chunk().ok_or(5)?;
         let rule = Rule::of(p)?;
         let n = usize::from(u16::from_be_bytes([n_high, n_low]));
         let m = usize::from(m);
@@ -46,21 +46,27 @@ impl Code {
             columns: [0; MOST_EDGES],
             weights: [0; MOST_EDGES],
         };
+        code.read_checks(left)?;
+        Ok(code)
+    }
+
+    /// All checks, of which nothing is left over.
+    fn read_checks(&mut self, mut left: &[u8]) -> Result<(), Refusal> {
         let mut edges = 0;
-        for check in 0..m {
+        for check in 0..self.m {
             let (&degree, after) = left.split_first().ok_or(5)?;
             let d = usize::from(degree);
             if !(3..=32).contains(&d) || edges + d > MOST_EDGES {
                 return Err(9);
             }
             let (line, after) = after.split_at_checked(EDGE * d).ok_or(5)?;
-            code.degrees[check] = degree;
-            code.read_edges(line, edges)?;
+            self.degrees[check] = degree;
+            self.read_edges(line, edges)?;
             edges += d;
             left = after;
         }
         if left.is_empty() {
-            Ok(code)
+            Ok(())
         } else {
             Err(5)
         }
