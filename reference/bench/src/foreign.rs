@@ -1,12 +1,12 @@
 //! Calls of what is linked beside the proved library, and this package's only unsafe code: the check by
-//! hand in C (`c/check.h`).
+//! hand in C (`c/check.h`), and an older proved library where one is given (`build.rs`).
 //!
 //! What holds for every call below, and makes it safe for every argument:
 //!
 //! - A pointer and the length after it come from one slice, which stays borrowed until the call
 //!   returns. A slice that may be written is borrowed for this call alone.
-//! - The functions have no requirement beyond that and the processor: they test their arguments as the
-//!   proved library does, touch nothing but the slices, and keep no pointer.
+//! - The functions have no requirement beyond that and the processor: they test their arguments, touch
+//!   nothing but the slices, and keep no pointer.
 
 #![allow(unsafe_code)]
 
@@ -15,30 +15,41 @@ use crate::accepted::Refusal;
 /// A call on p and three slices, the last of which is written; answers how many bytes were.
 pub type Call = fn(u8, &[u8], &[u8], &mut [u8]) -> Result<usize, Refusal>;
 
-/// The same in C: each slice is a pointer and a length.
-type Foreign = unsafe extern "C" fn(u8, *const u8, usize, *const u8, usize, *mut u8, usize) -> u32;
+/// A decoding: code line, frame, symbols, costs and store; answers 0 (found) or 1 (not found), and t.
+pub type Decode = fn(&[u8], &[u8], &mut [u8], &mut [u16], &mut [u8]) -> Result<(u8, u8), Refusal>;
 
-extern "C" {
-    fn hand_check_sse2(
-        p: u8,
-        weights: *const u8,
-        weights_len: usize,
-        costs: *const u8,
-        costs_len: usize,
-        record: *mut u8,
-        record_len: usize,
-    ) -> u32;
-
-    fn hand_check_avx2(
-        p: u8,
-        weights: *const u8,
-        weights_len: usize,
-        costs: *const u8,
-        costs_len: usize,
-        record: *mut u8,
-        record_len: usize,
-    ) -> u32;
+/// An older library's calls.
+pub struct OldLibrary {
+    /// Its check.
+    pub check: Call,
+    /// Its expansion.
+    pub expand: Call,
+    /// Its decoding.
+    pub decode: Decode,
 }
+
+/// A call in C: each slice is a pointer and a length.
+type ForeignCall =
+    unsafe extern "C" fn(u8, *const u8, usize, *const u8, usize, *mut u8, usize) -> u32;
+
+/// Declares functions of the form of a call.
+macro_rules! foreign_calls {
+    ($($name:ident)*) => {
+        extern "C" {
+            $(fn $name(
+                p: u8,
+                first: *const u8,
+                first_len: usize,
+                second: *const u8,
+                second_len: usize,
+                out: *mut u8,
+                out_len: usize,
+            ) -> u32;)*
+        }
+    };
+}
+
+foreign_calls!(hand_check_sse2 hand_check_avx2);
 
 /// The check in C with SSE2, which every x86-64 processor has.
 pub fn check_sse2(
@@ -59,11 +70,20 @@ pub fn check_avx2() -> Option<Call> {
     })
 }
 
+/// An older library, where one is linked.
+#[cfg(not(old_library))]
+pub fn old_library() -> Option<OldLibrary> {
+    None
+}
+
+#[cfg(old_library)]
+pub use old::old_library;
+
 /// # Safety
 ///
-/// The function is one of those above, and the processor has what it takes.
+/// The function is one of this module's, and the processor has what it takes.
 unsafe fn call(
-    function: Foreign,
+    function: ForeignCall,
     p: u8,
     first: &[u8],
     second: &[u8],
@@ -81,5 +101,71 @@ unsafe fn call(
     match answer >> 16 {
         0 => Ok(answer as usize & 0xFFFF),
         number => Err(number as Refusal),
+    }
+}
+
+/// The older library, its functions renamed: `include/petsivola.h` declares them without `old_`.
+#[cfg(old_library)]
+mod old {
+    use super::*;
+
+    foreign_calls!(old_petsivola_check old_petsivola_expand);
+
+    extern "C" {
+        fn old_petsivola_decode(
+            code: *const u8,
+            code_len: usize,
+            frame: *const u8,
+            frame_len: usize,
+            symbols: *mut u8,
+            symbols_len: usize,
+            costs: *mut u16,
+            costs_len: usize,
+            store: *mut u8,
+            store_len: usize,
+        ) -> u32;
+    }
+
+    /// The older library.
+    pub fn old_library() -> Option<OldLibrary> {
+        Some(OldLibrary {
+            check: |p, weights, costs, record| {
+                // SAFETY: as said above.
+                unsafe { call(old_petsivola_check, p, weights, costs, record) }
+            },
+            expand: |p, weights, record, out| {
+                // SAFETY: as said above.
+                unsafe { call(old_petsivola_expand, p, weights, record, out) }
+            },
+            decode,
+        })
+    }
+
+    fn decode(
+        code: &[u8],
+        frame: &[u8],
+        symbols: &mut [u8],
+        costs: &mut [u16],
+        store: &mut [u8],
+    ) -> Result<(u8, u8), Refusal> {
+        // SAFETY: as said above; `costs` is aligned as a slice of 16-bit numbers is.
+        let answer = unsafe {
+            old_petsivola_decode(
+                code.as_ptr(),
+                code.len(),
+                frame.as_ptr(),
+                frame.len(),
+                symbols.as_mut_ptr(),
+                symbols.len(),
+                costs.as_mut_ptr(),
+                costs.len(),
+                store.as_mut_ptr(),
+                store.len(),
+            )
+        };
+        match answer >> 16 {
+            number @ (0 | 1) => Ok((number as u8, answer as u8)),
+            number => Err(number as Refusal),
+        }
     }
 }
