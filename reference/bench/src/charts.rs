@@ -3,24 +3,26 @@
 use simulate::chart::{Axis, Chart, Point, Series, Stroke, COLOURS};
 
 use crate::checks::{Row, DEGREES, PS};
+use crate::engines::Engine;
+use crate::targets::{OF_C, OF_RUST};
 
-/// A number of a row.
-type Number = fn(&Row) -> f64;
+/// Whose times are drawn, and how.
+const TIMES: [(Engine, Stroke); 3] = [
+    (Engine::Proved, Stroke::Solid),
+    (Engine::Rust, Stroke::Dotted),
+    (Engine::Sse2, Stroke::Dashed),
+];
 
-/// Time per check against d, for every p and every implementation.
+/// Time per check against d, for every p.
 pub fn time_per_check(rows: &[Row]) -> Chart {
-    let times = rows.iter().flat_map(|row| {
-        let times = [&row.check, &row.same_check, &row.sweeps];
-        times.map(|times| times.median() * 1e6)
-    });
-    let kinds: [(&str, Stroke, Number); 3] = [
-        ("proved", Stroke::Solid, |row| row.check.median() * 1e6),
-        ("Rust", Stroke::Dotted, |row| row.same_check.median() * 1e6),
-        ("sweeps", Stroke::Dashed, |row| row.sweeps.median() * 1e6),
-    ];
-    let series = kinds.iter().flat_map(|&(kind, stroke, time)| {
-        let of_p =
-            move |(p, colour)| series(rows, format!("{kind}, p = {p}"), p, colour, stroke, time);
+    let times = rows
+        .iter()
+        .flat_map(|row| TIMES.map(|(engine, _)| micros(row, engine)));
+    let series = TIMES.iter().flat_map(|&(engine, stroke)| {
+        let of_p = move |(p, colour)| {
+            let name = format!("{}, p = {p}", engine.name());
+            series(rows, name, p, colour, stroke, |row| micros(row, engine))
+        };
         PS.into_iter().zip(COLOURS).rev().map(of_p)
     });
     Chart {
@@ -34,8 +36,23 @@ pub fn time_per_check(rows: &[Row]) -> Chart {
 
 /// The proved library's time per check by that of the same algorithm in Rust.
 pub fn ratio_to_rust(rows: &[Row]) -> Chart {
-    let ratio: Number = |row| row.check.ratio(&row.same_check);
-    let high = rows.iter().map(ratio).fold(1.5, f64::max);
+    let level = (OF_RUST, format!("target: at most {OF_RUST:.1}"));
+    ratio(rows, Engine::Rust, "the same algorithm in Rust", level)
+}
+
+/// The proved library's time per check by that of the same algorithm by hand in C.
+pub fn ratio_to_c(rows: &[Row]) -> Chart {
+    let level = (
+        OF_C,
+        format!("target, p from 4 up, d to 8: at most {OF_C:.1}"),
+    );
+    ratio(rows, Engine::Sse2, "the same by hand in C (SSE2)", level)
+}
+
+/// The proved library's time per check by another's.
+fn ratio(rows: &[Row], other: Engine, name: &str, level: (f64, String)) -> Chart {
+    let ratio = |row: &Row| row.check.ratio(Engine::Proved, other);
+    let high = rows.iter().map(ratio).fold(1.25 * level.0, f64::max);
     let step = if high <= 2.0 {
         0.25
     } else {
@@ -43,12 +60,17 @@ pub fn ratio_to_rust(rows: &[Row]) -> Chart {
     };
     let of_p = |(p, colour)| series(rows, format!("p = {p}"), p, colour, Stroke::Solid, ratio);
     Chart {
-        title: "Time per check: proved library by the same algorithm in Rust".to_string(),
+        title: format!("Time per check: proved library by {name}"),
         x: degrees(),
         y: Axis::linear("ratio", 0.0, (high / step).ceil() * step, step),
         series: PS.into_iter().zip(COLOURS).map(of_p).collect(),
-        level: Some((1.1, "target: at most 1.1".to_string())),
+        level: Some(level),
     }
+}
+
+/// An engine's time for a check.
+fn micros(row: &Row, engine: Engine) -> f64 {
+    row.check.median(engine) * 1e6
 }
 
 /// The axis of d.
@@ -63,7 +85,7 @@ fn series(
     p: u8,
     colour: &'static str,
     stroke: Stroke,
-    number: Number,
+    number: impl Fn(&Row) -> f64,
 ) -> Series {
     let rows = rows.iter().filter(|row| row.p == p);
     Series {

@@ -1,18 +1,34 @@
 //! The times of one check and of one expansion by p and d.
 
+use std::fmt::Debug;
+
 use reference_decoder::sample::CheckSample;
 
+use crate::engines::{Engine, Results};
 use crate::inputs::{self, Costs};
-use crate::same;
-use crate::sweeps;
-use crate::timing::{append, race, Contender, Rules, Times};
+use crate::timing::{race, Contender, Rules, Times};
+use crate::{foreign, same, search_engine, sweeps};
 
 /// Every p.
 pub const PS: [u8; 5] = [2, 3, 4, 5, 6];
 /// The degrees.
 pub const DEGREES: [usize; 6] = [3, 4, 6, 8, 16, 32];
-/// The checks of each size in a round.
+/// The checks of each size in a round at p = 6. With q halved there are twice as many: they take less
+/// time.
 const COUNT: usize = 160;
+
+/// Who makes checks.
+const CHECKING: [Engine; 7] = [
+    Engine::Proved,
+    Engine::Rust,
+    Engine::Search,
+    Engine::Sse2,
+    Engine::Avx2,
+    Engine::Sweeps,
+    Engine::Old,
+];
+/// Who expands records.
+const EXPANDING: [Engine; 3] = [Engine::Proved, Engine::Rust, Engine::Old];
 
 /// The results of checks and expansions are bytes: the buffers are filled with A5 beforehand, and
 /// every byte is compared.
@@ -29,25 +45,28 @@ struct Packed {
 }
 
 /// The times for one size.
-#[derive(Default)]
 pub struct Row {
     /// p.
     pub p: u8,
     /// d.
     pub degree: usize,
-    /// The proved library's check.
-    pub check: Times,
-    /// The same algorithm in Rust.
-    pub same_check: Times,
-    /// The textbook sweeps in Rust.
-    pub sweeps: Times,
-    /// The proved library's expansion.
-    pub expand: Times,
-    /// The same algorithm in Rust.
-    pub same_expand: Times,
+    /// The checks.
+    pub check: Results,
+    /// The expansions.
+    pub expand: Results,
 }
 
 impl Row {
+    /// A size that is not measured yet.
+    fn new(p: u8, degree: usize) -> Row {
+        Row {
+            p,
+            degree,
+            check: Results::default(),
+            expand: Results::default(),
+        }
+    }
+
     /// The bytes of a record, "d + 5(q - 1)".
     pub fn record_length(&self) -> usize {
         self.degree + 5 * ((1 << self.p) - 1)
@@ -60,52 +79,103 @@ impl Row {
 
     /// One round of checks. Answers their records.
     fn race_checks(&mut self, inputs: &[CheckSample], round: usize) -> Vec<Vec<u8>> {
-        let lent = || vec![0; self.record_length()];
-        let mut contenders = [
-            Contender::new(inputs, lent(), proved(self.p)),
-            Contender::new(inputs, lent(), same(self.p)),
-            Contender::new(inputs, lent(), sweeps(self.p)),
-        ];
-        let further = race(&mut contenders, round, &BYTES);
-        let times = [&mut self.check, &mut self.same_check, &mut self.sweeps];
-        append(times, further);
+        let engines = Engine::present(CHECKING);
+        let lent = vec![0; self.record_length()];
+        let contender = |&engine| checking(engine, self.p, inputs, lent.clone());
+        let mut contenders: Vec<_> = engines.iter().map(contender).collect();
+        let times = race(&mut contenders, round, &BYTES);
+        self.check.append(&engines, times);
         contenders[0].outputs().to_vec()
     }
 
     /// One round of expansions.
     fn race_expansions(&mut self, packed: &[Packed], round: usize) {
-        let p = self.p;
+        let engines = Engine::present(EXPANDING);
         let lent = vec![0; self.plain_length()];
-        let mut contenders = [
-            Contender::new(packed, lent.clone(), |input: &Packed, out| {
-                petsivola::expand(p, &input.check.weights, &input.record, out)
-                    .expect("an accepted record");
-            }),
-            Contender::new(packed, lent, |input, out| {
-                same::expand(p, &input.check.weights, &input.record, out)
-                    .expect("an accepted record");
-            }),
-        ];
-        let further = race(&mut contenders, round, &BYTES);
-        append([&mut self.expand, &mut self.same_expand], further);
+        let contender = |&engine| expanding(engine, self.p, packed, lent.clone());
+        let mut contenders: Vec<_> = engines.iter().map(contender).collect();
+        let times = race(&mut contenders, round, &BYTES);
+        self.expand.append(&engines, times);
+    }
+}
+
+/// An engine on some checks.
+fn checking(
+    engine: Engine,
+    p: u8,
+    inputs: &[CheckSample],
+    lent: Vec<u8>,
+) -> Contender<'_, CheckSample, Vec<u8>> {
+    match engine {
+        Engine::Proved => Contender::new(inputs, lent, check_by(p, petsivola::check)),
+        Engine::Rust => Contender::new(inputs, lent, check_by(p, same::check)),
+        Engine::Search => Contender::new(inputs, lent, check_by(p, search_engine::check)),
+        Engine::Sse2 => Contender::new(inputs, lent, check_by(p, foreign::check_sse2)),
+        Engine::Avx2 => {
+            let check = foreign::check_avx2().expect("AVX2 is present");
+            Contender::new(inputs, lent, check_by(p, check))
+        }
+        Engine::Sweeps => {
+            // Its tables are kept from call to call.
+            let mut sweeps = sweeps::Engine::new(p);
+            Contender::new(inputs, lent, move |input: &CheckSample, out| {
+                sweeps.check(&input.weights, &input.costs, out)
+            })
+        }
+        Engine::Old => {
+            let old = foreign::old_library().expect("the old library is present");
+            Contender::new(inputs, lent, check_by(p, old.check))
+        }
+    }
+}
+
+/// A check as a call on one input.
+fn check_by<E: Debug>(
+    p: u8,
+    check: impl Fn(u8, &[u8], &[u8], &mut [u8]) -> Result<usize, E>,
+) -> impl FnMut(&CheckSample, &mut Vec<u8>) {
+    move |input, out| {
+        check(p, &input.weights, &input.costs, out).expect("an accepted check");
+    }
+}
+
+/// An engine on some records.
+fn expanding(
+    engine: Engine,
+    p: u8,
+    packed: &[Packed],
+    lent: Vec<u8>,
+) -> Contender<'_, Packed, Vec<u8>> {
+    match engine {
+        Engine::Proved => Contender::new(packed, lent, expand_by(p, petsivola::expand)),
+        Engine::Old => {
+            let old = foreign::old_library().expect("the old library is present");
+            Contender::new(packed, lent, expand_by(p, old.expand))
+        }
+        _ => Contender::new(packed, lent, expand_by(p, same::expand)),
+    }
+}
+
+/// An expansion as a call on one input.
+fn expand_by<E: Debug>(
+    p: u8,
+    expand: impl Fn(u8, &[u8], &[u8], &mut [u8]) -> Result<usize, E>,
+) -> impl FnMut(&Packed, &mut Vec<u8>) {
+    move |input, out| {
+        expand(p, &input.check.weights, &input.record, out).expect("an accepted record");
     }
 }
 
 /// Measures every size in each round, on checks that no other round has.
 pub fn table(costs: Costs, rounds: usize) -> Vec<Row> {
-    let row = |p, degree| Row {
-        p,
-        degree,
-        ..Row::default()
-    };
-    let sizes = PS
-        .iter()
-        .flat_map(|&p| DEGREES.map(|degree| row(p, degree)));
+    let sizes = PS.iter();
+    let sizes = sizes.flat_map(|&p| DEGREES.map(|degree| Row::new(p, degree)));
     let mut rows: Vec<Row> = sizes.collect();
     for round in 0..rounds {
         eprintln!("check, {costs:?} costs, round {} of {rounds}", round + 1);
         for row in &mut rows {
-            let inputs = inputs::checks(row.p, row.degree, costs, round, COUNT);
+            let count = COUNT << (6 - row.p);
+            let inputs = inputs::checks(row.p, row.degree, costs, round, count);
             let records = row.race_checks(&inputs, round);
             let packed = inputs.into_iter().zip(records);
             let packed = packed.map(|(check, record)| Packed { check, record });
@@ -117,10 +187,13 @@ pub fn table(costs: Costs, rounds: usize) -> Vec<Row> {
 
 /// How many times as long a check of degree 32 takes as one of degree 16 at p = 6, measured in turn.
 pub fn growth(costs: Costs, rounds: usize) -> f64 {
-    let [mut single, mut double] = [Times::default(), Times::default()];
+    let mut times = [Times::default(), Times::default()];
     for round in 0..rounds {
-        append([&mut single, &mut double], race_growth(costs, round));
+        for (times, further) in times.iter_mut().zip(race_growth(costs, round)) {
+            times.append(further);
+        }
     }
+    let [single, double] = times;
     double.ratio(&single)
 }
 
@@ -130,7 +203,8 @@ fn race_growth(costs: Costs, round: usize) -> Vec<Times> {
     let [single, double] = [16, 32].map(|degree| inputs::checks(p, degree, costs, round, COUNT));
     let inputs: Vec<_> = single.into_iter().zip(double).collect();
     let lent = vec![0; 32 + 5 * 63];
-    let (mut first, mut second) = (proved(p), proved(p));
+    let mut checks = [0; 2].map(|_| check_by(p, petsivola::check));
+    let [first, second] = &mut checks;
     let mut contenders = [
         Contender::new(
             &inputs,
@@ -145,24 +219,4 @@ fn race_growth(costs: Costs, round: usize) -> Vec<Times> {
         ..BYTES
     };
     race(&mut contenders, round, &rules)
-}
-
-/// The proved library's check.
-fn proved(p: u8) -> impl FnMut(&CheckSample, &mut Vec<u8>) {
-    move |input, out| {
-        petsivola::check(p, &input.weights, &input.costs, out).expect("an accepted check");
-    }
-}
-
-/// The same algorithm in Rust.
-fn same(p: u8) -> impl FnMut(&CheckSample, &mut Vec<u8>) {
-    move |input, out| {
-        same::check(p, &input.weights, &input.costs, out).expect("an accepted check");
-    }
-}
-
-/// The textbook sweeps, with their tables kept from call to call.
-fn sweeps(p: u8) -> impl FnMut(&CheckSample, &mut Vec<u8>) {
-    let mut engine = sweeps::Engine::new(p);
-    move |input, out| engine.check(&input.weights, &input.costs, out)
 }

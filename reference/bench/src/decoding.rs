@@ -4,15 +4,19 @@ use simulate::code::Code;
 use simulate::decoder::Decoder;
 use simulate::layered::Layered;
 
+use crate::engines::{Engine, Results};
 use crate::inputs::Job;
-use crate::same;
 use crate::sweeps::Sweeps;
-use crate::timing::{append, race, Contender, Rules, Times};
+use crate::timing::{race, Contender, Rules};
+use crate::{foreign, same};
 
 /// g of every decoding.
 pub const SCALE: u8 = 8;
 /// I of every decoding.
 pub const LIMIT: u8 = 15;
+
+/// Who decodes.
+const DECODING: [Engine; 4] = [Engine::Proved, Engine::Rust, Engine::Sweeps, Engine::Old];
 
 /// What a decoding leaves. A decoder without records leaves an empty store.
 #[derive(Clone, Debug, Default)]
@@ -62,56 +66,28 @@ pub struct Row<'a> {
     pub job: &'a Job,
     /// The iterations of a frame on average.
     pub mean_iterations: f64,
-    /// The proved library.
-    pub decode: Times,
-    /// The same algorithm in Rust.
-    pub same: Times,
-    /// The layered decoder with plain messages and the textbook sweeps.
-    pub sweeps: Times,
+    /// The decodings. The sweeps decode with plain messages.
+    pub decode: Results,
 }
 
 impl Row<'_> {
     /// N times p bits a frame, by the proved library's time for a frame of mean iterations.
     pub fn bits_per_second(&self) -> f64 {
-        self.job.code.coded_bits() as f64 / (self.decode.median() * self.mean_iterations)
+        self.job.code.coded_bits() as f64
+            / (self.decode.median(Engine::Proved) * self.mean_iterations)
     }
 }
 
 /// Measures one code, with all its frames in each round.
 pub fn measure(job: &Job, rounds: usize) -> Row<'_> {
-    let code = &job.code;
-    let line = code.line(SCALE, LIMIT);
-    let lent = Decoded::lent(code, code.store_length());
-    let plain = Decoded::lent(code, 0);
-    let mut layered = Layered::new(code, SCALE, LIMIT, Sweeps::default());
-    let mut contenders = [
-        Contender::new(&job.frames, lent.clone(), |frame: &Vec<u8>, out| {
-            let outcome = petsivola::decode(
-                &line,
-                frame,
-                &mut out.symbols,
-                &mut out.costs,
-                &mut out.store,
-            )
-            .expect("an accepted frame");
-            (out.status, out.t) = (outcome.status(), outcome.iterations());
-        }),
-        Contender::new(&job.frames, lent, |frame, out| {
-            let (symbols, costs, store) = (&mut out.symbols, &mut out.costs, &mut out.store);
-            (out.status, out.t) =
-                same::decode(&line, frame, symbols, costs, store).expect("an accepted frame");
-        }),
-        Contender::new(&job.frames, plain, |frame, out| {
-            let outcome = layered.decode(frame);
-            (out.status, out.t) = (u8::from(!outcome.found), outcome.iterations);
-            out.symbols.copy_from_slice(layered.symbols());
-            out.costs.copy_from_slice(layered.costs());
-        }),
-    ];
-    let [mut decode, mut same, mut sweeps] = <[Times; 3]>::default();
+    let line = job.code.line(SCALE, LIMIT);
+    let engines = Engine::present(DECODING);
+    let contender = |&engine| contender(engine, job, &line);
+    let mut contenders: Vec<_> = engines.iter().map(contender).collect();
+    let mut decode = Results::default();
     for round in 0..rounds {
-        let further = race(&mut contenders, round, &RULES);
-        append([&mut decode, &mut same, &mut sweeps], further);
+        let times = race(&mut contenders, round, &RULES);
+        decode.append(&engines, times);
     }
     let decoded = contenders[0].outputs();
     let iterations: usize = decoded.iter().map(RULES.units).sum();
@@ -120,7 +96,53 @@ pub fn measure(job: &Job, rounds: usize) -> Row<'_> {
         job,
         mean_iterations,
         decode,
-        same,
-        sweeps,
     }
+}
+
+/// An engine on the frames of a code.
+fn contender<'a>(engine: Engine, job: &'a Job, line: &'a [u8]) -> Contender<'a, Vec<u8>, Decoded> {
+    let lent = Decoded::lent(&job.code, job.code.store_length());
+    match engine {
+        Engine::Proved => Contender::new(&job.frames, lent, decode_by(line, proved)),
+        Engine::Sweeps => {
+            let plain = Decoded::lent(&job.code, 0);
+            let mut layered = Layered::new(&job.code, SCALE, LIMIT, Sweeps::default());
+            Contender::new(&job.frames, plain, move |frame, out| {
+                let outcome = layered.decode(frame);
+                (out.status, out.t) = (u8::from(!outcome.found), outcome.iterations);
+                out.symbols.copy_from_slice(layered.symbols());
+                out.costs.copy_from_slice(layered.costs());
+            })
+        }
+        Engine::Old => {
+            let old = foreign::old_library().expect("the old library is present");
+            Contender::new(&job.frames, lent, decode_by(line, old.decode))
+        }
+        _ => Contender::new(&job.frames, lent, decode_by(line, same::decode)),
+    }
+}
+
+/// A decoding as a call on one frame.
+fn decode_by<'a>(
+    line: &'a [u8],
+    decode: impl Fn(&[u8], &[u8], &mut [u8], &mut [u16], &mut [u8]) -> Result<(u8, u8), u8> + 'a,
+) -> impl FnMut(&Vec<u8>, &mut Decoded) + 'a {
+    move |frame, out| {
+        let (symbols, costs, store) = (&mut out.symbols, &mut out.costs, &mut out.store);
+        let answer = decode(line, frame, symbols, costs, store);
+        (out.status, out.t) = answer.expect("an accepted frame");
+    }
+}
+
+/// The proved library's decoding, its refusals as numbers.
+fn proved(
+    line: &[u8],
+    frame: &[u8],
+    symbols: &mut [u8],
+    costs: &mut [u16],
+    store: &mut [u8],
+) -> Result<(u8, u8), u8> {
+    let outcome = petsivola::decode(line, frame, symbols, costs, store);
+    let outcome = outcome.map_err(|refusal| refusal.number() as u8)?;
+    Ok((outcome.status(), outcome.iterations()))
 }

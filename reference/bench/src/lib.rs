@@ -11,6 +11,7 @@ pub mod accepted;
 pub mod charts;
 pub mod checks;
 pub mod decoding;
+pub mod engines;
 pub mod foreign;
 pub mod inputs;
 pub mod report;

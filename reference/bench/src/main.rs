@@ -1,4 +1,4 @@
-//! `bench [--quick] [--out DIR]`: measures, prints the tables and writes them with two charts to
+//! `bench [--quick] [--out DIR]`: measures, prints the tables and writes them with charts to
 //! `docs/bench`. With `--quick` there are few rounds, and nothing is written unless a directory is
 //! given.
 
@@ -69,8 +69,9 @@ fn run(rounds: usize, out: Option<&Path>) -> io::Result<()> {
     let report = Report {
         channel: &channel,
         uniform: &uniform,
+        growth,
         codes: &codes,
-        targets: &targets(&all, &growth, &codes),
+        targets: &targets(&all, &codes),
         rounds,
     };
     let text = report.markdown();
@@ -78,10 +79,14 @@ fn run(rounds: usize, out: Option<&Path>) -> io::Result<()> {
     if let Some(directory) = out {
         fs::create_dir_all(directory)?;
         fs::write(directory.join("README.md"), text)?;
-        let chart = charts::time_per_check(&channel);
-        fs::write(directory.join("time-per-check.svg"), chart.svg())?;
-        let chart = charts::ratio_to_rust(&channel);
-        fs::write(directory.join("ratio-to-rust.svg"), chart.svg())?;
+        let charts = [
+            ("time-per-check.svg", charts::time_per_check(&channel)),
+            ("ratio-to-rust.svg", charts::ratio_to_rust(&channel)),
+            ("ratio-to-c.svg", charts::ratio_to_c(&channel)),
+        ];
+        for (name, chart) in charts {
+            fs::write(directory.join(name), chart.svg())?;
+        }
     }
     Ok(())
 }

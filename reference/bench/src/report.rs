@@ -2,6 +2,8 @@
 
 use crate::checks::Row;
 use crate::decoding::{self, LIMIT, SCALE};
+use crate::engines::{Engine, Results};
+use crate::foreign;
 use crate::targets::Target;
 
 /// The measurements of a run.
@@ -10,6 +12,8 @@ pub struct Report<'a> {
     pub channel: &'a [Row],
     /// The checks with uniform costs.
     pub uniform: &'a [Row],
+    /// How many times as long d = 32 takes as d = 16 at p = 6, with costs from the channel and uniform.
+    pub growth: [f64; 2],
     /// The codes.
     pub codes: &'a [decoding::Row<'a>],
     /// The targets.
@@ -24,26 +28,10 @@ impl Report<'_> {
         let parts = [
             self.head(),
             targets(self.targets),
-            "## Time per check\n\nCosts are quantised symbols of a noisy channel, as a decoder's first \
-             iteration brings them.\n\n"
-                .to_string(),
-            check_table(self.channel),
-            "![Time per check](time-per-check.svg)\n\n![Ratio to Rust](ratio-to-rust.svg)\n\n"
-                .to_string(),
-            "The same with uniform costs from 0 to 255.\n\n".to_string(),
-            check_table(self.uniform),
-            "## Expansion, and record sizes\n\nA record has d + 5(q - 1) bytes, plain messages d·q. \
-             The expansion tests the form of the record first.\n\n"
-                .to_string(),
-            expansion_table(self.channel),
-            format!(
-                "## Decoding\n\nNoisy random words over BPSK and white noise, g = {SCALE}, I = {LIMIT}. \
-                 The time of an iteration is the time of a whole call, with the reading of the code \
-                 line and the first test, divided by its iterations; coded bits per second count N·p \
-                 bits a frame at the mean iterations beside them. Sweeps: the layered decoder with \
-                 plain messages and the sweeps for each check.\n\n"
-            ),
-            code_table(self.codes),
+            self.checks(),
+            self.expansions(),
+            self.decodings(),
+            self.old_library(),
         ];
         parts.concat().trim_end().to_string() + "\n"
     }
@@ -52,15 +40,121 @@ impl Report<'_> {
     fn head(&self) -> String {
         format!(
             "# Benchmark\n\nWritten by `make bench`; every run rewrites it.\n\n\
-             The proved library, called through the static library, beside the same algorithm in Rust \
-             and the textbook forward and backward sweeps in Rust, both built with -O. They run in turn, \
-             in one process and in short stretches; a time is the median over all stretches of {} rounds, \
-             and a ratio the median of the ratios within each stretch. Each round has checks of its own, \
-             and none is taken twice in a race: a processor that sees the same checks again learns to \
-             foretell their jumps. No lent buffer is cleared first: before each stretch, and outside its \
-             time, all are filled with A5, and after each round the results are compared byte for byte. \
-             A difference stops the run. The two degrees whose growth is asked for run in turn as well.\n\n",
+             The proved library, called through the static library, beside others that write the same \
+             bytes:\n\n\
+             | name | what it is |\n|---|---|\n\
+             | Rust | the same algorithm in Rust without unsafe code, built with -O |\n\
+             | search | for a check: a search over kept entries in Rust, whose time hardly grows with d |\n\
+             | C, SSE2 and AVX2 | for a check: the same algorithm by hand with intrinsics, gcc -O3 |\n\
+             | sweeps | the textbook forward and backward sweeps in Rust |\n\n\
+             The library and all but AVX2 use what every x86-64 processor has. They run in turn, in one \
+             process and in short stretches; a time is the median over all stretches of {} rounds, and a \
+             ratio the median of the ratios within each stretch. Each round has checks of its own, and \
+             none is taken twice in a race: a processor that sees the same checks again learns to foretell \
+             their jumps. No lent buffer is cleared first: before each stretch, and outside its time, all \
+             are filled with A5, and after each round the results are compared byte for byte. A \
+             difference stops the run.\n\n",
             self.rounds
+        )
+    }
+
+    /// The times of checks.
+    fn checks(&self) -> String {
+        let [channel, uniform] = self.growth;
+        format!(
+            "## Time per check\n\nCosts are quantised symbols of a noisy channel, as a decoder's first \
+             iteration brings them. Times in microseconds, then ratios.\n\n{}{}\
+             ![Time per check](time-per-check.svg)\n\n![Ratio to Rust](ratio-to-rust.svg)\n\n\
+             ![Ratio to C](ratio-to-c.svg)\n\n\
+             The same with uniform costs from 0 to 255.\n\n{}{}\
+             At p = 6 the proved library takes {channel:.2} times as long for a check of degree 32 as for \
+             one of degree 16, with uniform costs {uniform:.2} times; the two run in turn as well.\n\n",
+            check_times(self.channel),
+            check_ratios(self.channel),
+            check_times(self.uniform),
+            check_ratios(self.uniform),
+        )
+    }
+
+    /// The times of expansions, and the sizes.
+    fn expansions(&self) -> String {
+        let head = ["p", "d", "proved, µs", "Rust, µs", "proved / Rust"];
+        let sizes = ["record, bytes", "plain, bytes", "record / plain"];
+        let rows = self.channel.iter().map(|row| {
+            let (record, plain) = (row.record_length(), row.plain_length());
+            vec![
+                row.p.to_string(),
+                row.degree.to_string(),
+                micros(row.expand.median(Engine::Proved)),
+                micros(row.expand.median(Engine::Rust)),
+                quotient(&row.expand, Engine::Proved, Engine::Rust),
+                record.to_string(),
+                plain.to_string(),
+                format!("{:.2}", record as f64 / plain as f64),
+            ]
+        });
+        format!(
+            "## Expansion, and record sizes\n\nA record has d + 5(q - 1) bytes, plain messages d·q. \
+             The expansion tests the form of the record first.\n\n{}",
+            table(&[&head[..], &sizes].concat(), rows)
+        )
+    }
+
+    /// The times of decoding.
+    fn decodings(&self) -> String {
+        let head = [
+            "code",
+            "Eb/N0, dB",
+            "mean iterations",
+            "proved, µs an iteration",
+            "Rust, µs",
+            "sweeps, µs",
+            "proved / Rust",
+            "coded bits a second",
+            "store, bytes",
+            "plain, bytes",
+        ];
+        format!(
+            "## Decoding\n\nNoisy random words over BPSK and white noise, g = {SCALE}, I = {LIMIT}. \
+             The time of an iteration is the time of a whole call, with the reading of the code \
+             line and the first test, divided by its iterations; coded bits per second count N·p \
+             bits a frame at the mean iterations beside them. Sweeps: the layered decoder with \
+             plain messages and the sweeps for each check.\n\n{}",
+            table(&head, self.codes.iter().map(decoding_cells))
+        )
+    }
+
+    /// The proved library beside an older one, where one takes part.
+    fn old_library(&self) -> String {
+        if foreign::old_library().is_none() {
+            return String::new();
+        }
+        let pair = |results: &Results| {
+            [
+                micros(results.median(Engine::Proved)),
+                micros(results.median(Engine::Old)),
+                quotient(results, Engine::Proved, Engine::Old),
+            ]
+        };
+        let checks = self.channel.iter().zip(self.uniform).map(|(row, uniform)| {
+            let mut cells = vec![row.p.to_string(), row.degree.to_string()];
+            cells.extend(pair(&row.check));
+            cells.push(quotient(&uniform.check, Engine::Proved, Engine::Old));
+            cells.push(quotient(&row.expand, Engine::Proved, Engine::Old));
+            cells
+        });
+        let codes = self.codes.iter().map(|row| {
+            let mut cells = vec![row.job.name.to_string()];
+            cells.extend(pair(&row.decode));
+            cells
+        });
+        let sizes = ["p", "d", "new, µs", "old, µs", "new / old"];
+        let others = ["uniform costs, new / old", "expansion, new / old"];
+        let code = ["code", "new, µs an iteration", "old, µs", "new / old"];
+        format!(
+            "## The library beside an older one\n\nChecks in the same races, then iterations.\n\n{}{}",
+            table(&[&sizes[..], &others].concat(), checks),
+            table(&code, codes)
         )
     }
 }
@@ -81,72 +175,84 @@ fn targets(targets: &[Target]) -> String {
     table + "\n"
 }
 
+/// The engines of the checks that every run has, without an older library.
+fn shown(rows: &[Row]) -> Vec<Engine> {
+    let engines = rows[0].check.engines();
+    engines.filter(|&engine| engine != Engine::Old).collect()
+}
+
 /// The times of checks.
-fn check_table(rows: &[Row]) -> String {
-    let mut table = String::from(
-        "| p | d | proved, µs | Rust, µs | sweeps, µs | proved / Rust | sweeps / proved |\n\
-         |---:|---:|---:|---:|---:|---:|---:|\n",
-    );
-    for row in rows {
-        table += &format!(
-            "| {} | {} | {} | {} | {} | {:.2} | {:.1} |\n",
-            row.p,
-            row.degree,
-            micros(row.check.median()),
-            micros(row.same_check.median()),
-            micros(row.sweeps.median()),
-            row.check.ratio(&row.same_check),
-            row.sweeps.ratio(&row.check),
-        );
-    }
-    table + "\n"
+fn check_times(rows: &[Row]) -> String {
+    let engines = shown(rows);
+    let names = engines.iter().map(|engine| engine.name());
+    let head: Vec<_> = ["p", "d"].into_iter().chain(names).collect();
+    let cells = rows.iter().map(|row| {
+        let times = engines.iter().map(|&engine| row.check.median(engine));
+        let size = [row.p.to_string(), row.degree.to_string()];
+        size.into_iter().chain(times.map(micros)).collect()
+    });
+    table(&head, cells)
 }
 
-/// The times of expansions, and the sizes.
-fn expansion_table(rows: &[Row]) -> String {
-    let mut table = String::from(
-        "| p | d | proved, µs | Rust, µs | proved / Rust | record, bytes | plain, bytes | record / plain |\n\
-         |---:|---:|---:|---:|---:|---:|---:|---:|\n",
-    );
-    for row in rows {
-        let (record, plain) = (row.record_length(), row.plain_length());
-        table += &format!(
-            "| {} | {} | {} | {} | {:.2} | {record} | {plain} | {:.2} |\n",
-            row.p,
-            row.degree,
-            micros(row.expand.median()),
-            micros(row.same_expand.median()),
-            row.expand.ratio(&row.same_expand),
-            record as f64 / plain as f64,
-        );
-    }
-    table + "\n"
+/// The proved library's time for a check by each of the others, and the sweeps' by the proved library's.
+fn check_ratios(rows: &[Row]) -> String {
+    let pair = |engine| match engine {
+        Engine::Sweeps => (engine, Engine::Proved),
+        _ => (Engine::Proved, engine),
+    };
+    let others = shown(rows).into_iter();
+    let others = others.filter(|&engine| engine != Engine::Proved);
+    let pairs: Vec<_> = others.map(pair).collect();
+    let names = pairs
+        .iter()
+        .map(|(one, other)| format!("{} / {}", one.name(), other.name()));
+    let head: Vec<_> = ["p", "d"]
+        .map(String::from)
+        .into_iter()
+        .chain(names)
+        .collect();
+    let cells = rows.iter().map(|row| {
+        let ratios = pairs
+            .iter()
+            .map(|&(one, other)| quotient(&row.check, one, other));
+        let size = [row.p.to_string(), row.degree.to_string()];
+        size.into_iter().chain(ratios).collect()
+    });
+    table(&head, cells)
 }
 
-/// The times of decoding.
-fn code_table(rows: &[decoding::Row]) -> String {
-    let mut table = String::from(
-        "| code | Eb/N0, dB | mean iterations | proved, µs an iteration | Rust, µs | sweeps, µs | \
-         proved / Rust | coded bits a second | store, bytes | plain, bytes |\n\
-         |---|---:|---:|---:|---:|---:|---:|---:|---:|---:|\n",
-    );
-    for row in rows {
-        let code = &row.job.code;
-        table += &format!(
-            "| {} | {:.1} | {:.1} | {} | {} | {} | {:.2} | {:.0} | {} | {} |\n",
-            row.job.name,
-            row.job.decibels,
-            row.mean_iterations,
-            micros(row.decode.median()),
-            micros(row.same.median()),
-            micros(row.sweeps.median()),
-            row.decode.ratio(&row.same),
-            row.bits_per_second(),
-            code.store_length(),
-            code.edges() * code.field.size(),
-        );
+/// The cells of one code.
+fn decoding_cells(row: &decoding::Row) -> Vec<String> {
+    let code = &row.job.code;
+    vec![
+        row.job.name.to_string(),
+        format!("{:.1}", row.job.decibels),
+        format!("{:.1}", row.mean_iterations),
+        micros(row.decode.median(Engine::Proved)),
+        micros(row.decode.median(Engine::Rust)),
+        micros(row.decode.median(Engine::Sweeps)),
+        quotient(&row.decode, Engine::Proved, Engine::Rust),
+        format!("{:.0}", row.bits_per_second()),
+        code.store_length().to_string(),
+        (code.edges() * code.field.size()).to_string(),
+    ]
+}
+
+/// A table; all but a column of codes is aligned to the right.
+fn table<S: AsRef<str>>(head: &[S], rows: impl Iterator<Item = Vec<String>>) -> String {
+    let head: Vec<&str> = head.iter().map(AsRef::as_ref).collect();
+    let align = |name: &&str| if *name == "code" { "---" } else { "---:" };
+    let rule: Vec<&str> = head.iter().map(align).collect();
+    let mut text = format!("| {} |\n|{}|\n", head.join(" | "), rule.join("|"));
+    for cells in rows {
+        text += &format!("| {} |\n", cells.join(" | "));
     }
-    table + "\n"
+    text + "\n"
+}
+
+/// A ratio with two digits after the point.
+fn quotient(results: &Results, one: Engine, other: Engine) -> String {
+    format!("{:.2}", results.ratio(one, other))
 }
 
 /// Seconds as microseconds, with three digits.

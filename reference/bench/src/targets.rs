@@ -1,11 +1,18 @@
 //! What is asked of the figures, and whether a run meets it.
 
+use crate::engines::Engine;
 use crate::{checks, decoding};
+
+/// The most that a check, and an iteration, may take of the time of the same algorithm in Rust.
+pub const OF_RUST: f64 = 1.0;
+/// The most that a check may take of the time of the same algorithm by hand in C with SSE2, where this is
+/// asked.
+pub const OF_C: f64 = 2.5;
 
 /// One target with what was measured.
 pub struct Target {
     /// What is asked.
-    pub text: &'static str,
+    pub text: String,
     /// The worst number found, and where.
     pub worst: (f64, String),
     /// How many numbers were measured.
@@ -14,76 +21,51 @@ pub struct Target {
     pub missed: usize,
 }
 
-/// Every target, over all measured checks and codes, and the growth from d = 16 to d = 32 at p = 6 for
-/// each kind of costs.
-pub fn targets(checks: &[&checks::Row], growth: &[f64], codes: &[decoding::Row]) -> Vec<Target> {
-    let size = |row: &checks::Row| format!("p = {}, d = {}", row.p, row.degree);
-    let ratios = |ratio: fn(&checks::Row) -> f64| {
-        let numbers = checks.iter().map(move |row| (ratio(row), size(row)));
-        numbers.collect::<Vec<_>>()
+/// Every target, over all measured checks and codes.
+pub fn targets(checks: &[&checks::Row], codes: &[decoding::Row]) -> Vec<Target> {
+    let by = |other, rows: &[&checks::Row]| {
+        let ratio = |row: &&checks::Row| {
+            let place = format!("p = {}, d = {}", row.p, row.degree);
+            (row.check.ratio(Engine::Proved, other), place)
+        };
+        rows.iter().map(ratio).collect()
     };
-    let from_4: Vec<(f64, String)> = checks
-        .iter()
-        .filter(|row| row.p >= 4)
-        .map(|row| (row.sweeps.ratio(&row.check), size(row)))
-        .collect();
-    let decoding = codes
-        .iter()
-        .map(|row| (row.decode.ratio(&row.same), row.job.name.to_string()))
-        .collect();
+    let short = checks.iter().filter(|row| row.p >= 4 && row.degree <= 8);
+    let short: Vec<_> = short.copied().collect();
+    let iterations = codes.iter().map(|row| {
+        let ratio = row.decode.ratio(Engine::Proved, Engine::Rust);
+        (ratio, row.job.name.to_string())
+    });
     vec![
         at_most(
-            "check: at most 1.1 times the same algorithm in Rust",
-            1.1,
-            ratios(|row| row.check.ratio(&row.same_check)),
+            format!("check: at most {OF_RUST:.1} times the same algorithm in Rust"),
+            OF_RUST,
+            by(Engine::Rust, checks),
         ),
         at_most(
-            "expansion: at most 1.1 times the same algorithm in Rust",
-            1.1,
-            ratios(|row| row.expand.ratio(&row.same_expand)),
-        ),
-        at_least(
-            "check: at least 5 times as fast as the sweeps, from p = 4 up",
-            5.0,
-            from_4,
+            format!(
+                "check, up to d = 8 from p = 4 up: at most {OF_C:.1} times the same algorithm by hand in C \
+                 with SSE2"
+            ),
+            OF_C,
+            by(Engine::Sse2, &short),
         ),
         at_most(
-            "check: d doubled from 16 to 32 at p = 6 takes at most 1.5 times as long",
-            1.5,
-            growth
-                .iter()
-                .map(|&times| (times, "p = 6".to_string()))
-                .collect(),
-        ),
-        at_most(
-            "decoding: at most 1.2 times the same algorithm in Rust",
-            1.2,
-            decoding,
+            format!("decoding: an iteration at most {OF_RUST:.1} times the same algorithm in Rust"),
+            OF_RUST,
+            iterations.collect(),
         ),
     ]
 }
 
-fn at_most(text: &'static str, limit: f64, numbers: Vec<(f64, String)>) -> Target {
+fn at_most(text: String, limit: f64, numbers: Vec<(f64, String)>) -> Target {
+    let missed = numbers.iter().filter(|(number, _)| *number > limit).count();
+    let measured = numbers.len();
+    let worst = numbers.into_iter().max_by(|a, b| a.0.total_cmp(&b.0));
     Target {
         text,
-        measured: numbers.len(),
-        missed: numbers.iter().filter(|(number, _)| *number > limit).count(),
-        worst: greatest(numbers, |number| number),
+        worst: worst.expect("something was measured"),
+        measured,
+        missed,
     }
-}
-
-fn at_least(text: &'static str, limit: f64, numbers: Vec<(f64, String)>) -> Target {
-    Target {
-        text,
-        measured: numbers.len(),
-        missed: numbers.iter().filter(|(number, _)| *number < limit).count(),
-        worst: greatest(numbers, |number| -number),
-    }
-}
-
-/// The number with the greatest rank.
-fn greatest(numbers: Vec<(f64, String)>, rank: fn(f64) -> f64) -> (f64, String) {
-    let numbers = numbers.into_iter();
-    let greatest = numbers.max_by(|a, b| rank(a.0).total_cmp(&rank(b.0)));
-    greatest.expect("something was measured")
 }

@@ -9,6 +9,8 @@ use std::hint::black_box;
 use std::ops::Range;
 use std::time::Instant;
 
+use reference_decoder::sample::Generator;
+
 /// A stretch lasts about this many seconds for the first contender.
 const STRETCH: f64 = 0.000_1;
 
@@ -67,6 +69,11 @@ pub struct Rules<O> {
 pub struct Times(Vec<f64>);
 
 impl Times {
+    /// Adds the times of a further race.
+    pub fn append(&mut self, mut further: Times) {
+        self.0.append(&mut further.0);
+    }
+
     /// The median.
     pub fn median(&self) -> f64 {
         median(self.0.clone())
@@ -79,20 +86,8 @@ impl Times {
     }
 }
 
-/// Adds the times of a further race, contender by contender.
-///
-/// # Panics
-///
-/// When the race had another number of contenders.
-pub fn append<const N: usize>(times: [&mut Times; N], further: Vec<Times>) {
-    assert_eq!(further.len(), N, "a race of the same contenders");
-    for (times, mut further) in times.into_iter().zip(further) {
-        times.0.append(&mut further.0);
-    }
-}
-
-/// Runs the contenders in turn and compares their results. All have the same inputs; who starts changes
-/// from stretch to stretch, and from round to round.
+/// Runs the contenders in turn and compares their results. All have the same inputs. Their order is drawn
+/// anew for each stretch: what one leaves in the caches meets all the others alike.
 ///
 /// # Panics
 ///
@@ -113,10 +108,10 @@ pub fn race<I, O: Clone>(
         .step_by(part)
         .map(|start| start..(start + part).min(count))
         .collect();
+    let mut generator = Generator::new(round as u64);
     let mut seconds = vec![vec![0.0; parts.len()]; contenders.len()];
     for (place, part) in parts.iter().enumerate() {
-        for turn in 0..contenders.len() {
-            let index = (turn + place + round) % contenders.len();
+        for index in order(contenders.len(), &mut generator) {
             let contender = &mut contenders[index];
             let outputs = &mut contender.outputs[part.clone()];
             outputs.iter_mut().for_each(rules.spoil);
@@ -132,6 +127,15 @@ pub fn race<I, O: Clone>(
         Times(each.map(|(time, &units)| time / units as f64).collect())
     };
     seconds.into_iter().map(each).collect()
+}
+
+/// The numbers below `count` in a drawn order.
+fn order(count: usize, generator: &mut Generator) -> Vec<usize> {
+    let mut order: Vec<usize> = (0..count).collect();
+    for place in (1..count).rev() {
+        order.swap(place, generator.below(place + 1));
+    }
+    order
 }
 
 /// How many of `count` inputs a stretch takes, when a call lasts so many seconds.
@@ -176,6 +180,16 @@ mod tests {
         assert_eq!(a.median(), 4.0);
         assert_eq!(a.ratio(&b), 2.0);
         assert_eq!(median(vec![1.0, 4.0, 2.0, 8.0]), 3.0);
+    }
+
+    #[test]
+    fn every_order_is_drawn() {
+        let mut generator = Generator::new(0);
+        let mut orders: Vec<_> = (0..100).map(|_| order(3, &mut generator)).collect();
+        orders.sort_unstable();
+        orders.dedup();
+        assert_eq!(orders.len(), 6);
+        assert_eq!(orders[5], [2, 1, 0]);
     }
 
     #[test]

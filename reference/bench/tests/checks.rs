@@ -13,6 +13,7 @@ fn engines() -> Vec<(&'static str, foreign::Call)> {
         ("SSE2", foreign::check_sse2),
     ];
     engines.extend(foreign::check_avx2().map(|check| ("AVX2", check)));
+    engines.extend(foreign::old_library().map(|old| ("old", old.check)));
     engines
 }
 
