@@ -1,4 +1,4 @@
--- What each public call replies and leaves, refused calls included: document 01's refusals in their order.
+-- What each public call replies and leaves, refused calls included: document 01's refusals in their order. SPEC 7, 8.
 use mathlib.Core.Bool.{Bool, false}
 use mathlib.Core.List.{List, _++_}
 use Prim.Native.Nat.{ℕ, _*_, _^_}
@@ -23,7 +23,7 @@ abbrev pub writtenReply : Written → Reply
 writtenReply (Bytes n) = accepted n
 writtenReply (NotWritten k) = refusal k
 
--- "Product: 6, 11." "a weight or element not below q (0 is allowed in the product)"
+-- "Product: 6, 11." "a weight or element not below q (0 is allowed in the product)" (SPEC 8.7)
 unfoldable pub productReply : ℕ → ℕ → ℕ → Reply
 productReply p a b =
     pick (ltb p 2) (refusal 6)
@@ -32,14 +32,14 @@ productReply p a b =
     (pick (leb (2 ^ p) b) (refusal 11)
     (accepted (product p a b)))))
 
--- "weight 0, or a weight .. not below q" is refused by 11
+-- "weight 0, or a weight .. not below q" is refused by 11 (SPEC 8.5)
 unfoldable pub weightOk : ℕ → ℕ → Bool
 weightOk q h = pick (eqb h 0) false (ltb h q)
 
 abbrev pub weightsOk : ℕ → List ℕ → Bool
 weightsOk q ws = allTo (λ i. weightOk q (getD ws i 0)) (length ws)
 
--- what a check and an expansion have in common, "6, 9, 11", before the rest. The degree is the number of weights
+-- what a check and an expansion have in common, "6, 9, 11", before the rest. The degree is the number of weights (SPEC 8.5, 8.6)
 abbrev pub weightCases {ℓ} : {A : Type ℓ} → ℕ → List ℕ → (ℕ → A) → A → A
 weightCases p ws bad rest =
     pick (ltb p 2) (bad 6)
@@ -52,7 +52,7 @@ weightCases p ws bad rest =
 unfoldable pub zeroOk : ℕ → List ℕ → ℕ → Bool
 zeroOk q cs n = ltb (firstZero (costsAt q cs n)) q
 
--- "Check: 6, 9, 11, 12, 13, 4."
+-- "Check: 6, 9, 11, 12, 13, 4." (SPEC 8.5)
 abbrev pub checkCases {ℓ} : {A : Type ℓ} → ℕ → List ℕ → List ℕ → ℕ → (ℕ → A) → A → A
 checkCases p ws cs room bad good =
     weightCases p ws bad
@@ -70,7 +70,7 @@ checkLeaves p ws cs out =
     checkCases p ws cs (length out) (λ k. out) (recordOf (ruleFor p) (columnsOf (2 ^ p) ws cs) ++ drop (recordLength (ruleFor p) (length ws)) out)
 
 -- a check's record and its sent costs in one call: refused as a check is, then by 2 where the buffer for the d times q sent costs, of `many` bytes,
--- is too short. It returns the length of the record, as a check does
+-- is too short. It returns the length of the record, as a check does (SPEC 7.7.4)
 abbrev pub messagesCases {ℓ} : {A : Type ℓ} → ℕ → List ℕ → List ℕ → ℕ → ℕ → (ℕ → A) → A → A
 messagesCases p ws cs room many bad good = checkCases p ws cs room bad (pick (ltb many (length ws * 2 ^ p)) (bad 2) good)
 
@@ -87,7 +87,7 @@ unfoldable pub messagesSent : ℕ → List ℕ → List ℕ → List ℕ → Lis
 messagesSent p ws cs out sent =
     messagesCases p ws cs (length out) (length sent) (λ k. sent) (allSent (ruleFor p) (columnsOf (2 ^ p) ws cs) ++ drop (length ws * 2 ^ p) sent)
 
--- "Expand: 6, 9, 11, 16, 2."
+-- "Expand: 6, 9, 11, 16, 2." (SPEC 8.6)
 abbrev pub expandCases {ℓ} : {A : Type ℓ} → ℕ → List ℕ → List ℕ → ℕ → (ℕ → A) → A → A
 expandCases p ws r room bad good =
     weightCases p ws bad

@@ -37,7 +37,7 @@ pub record Sends (p : ℕ) (weights costs : List ℕ) (n : ℕ) (out out′ : Li
   pub buffer-rest : drop (length weights * 2 ^ p) buffer′ ≡ drop (length weights * 2 ^ p) buffer
 
 -- demand 2 for the messages: any check that is accepted, with n bytes written, and any expansion of these n bytes under the same p and weights, in
--- a buffer long enough, whatever this held before
+-- a buffer long enough, whatever this held before (SPEC 10.2)
 abbrev pub Demand-2-messages : Type 0
 Demand-2-messages =
     (p : ℕ) (weights costs : List ℕ) (n : ℕ) (out out′ : List ℕ) → Checks p weights costs out (accepted n) out′

@@ -1,4 +1,4 @@
--- The code line as bytes, read front to back, and the acceptance of a frame under it.
+-- The code line as bytes, read front to back, and the acceptance of a frame under it. SPEC 4, 5.
 use mathlib.Core.Bool.{Bool}
 use mathlib.Core.List.{List, [], _∷_}
 use Prim.Native.Nat.{ℕ, zero, suc, _+_, _-_, _*_, _^_}
@@ -32,12 +32,12 @@ pub record Code : Type 0 where
 abbrev pub edge : ℕ → ℕ → Edge
 edge c h = record { column = c; weight = h }
 
--- "two bytes, high first"
+-- "two bytes, high first" (SPEC 4.2)
 abbrev pub wordAt : List ℕ → ℕ → ℕ
 wordAt s at = getD s at 0 * 256 + getD s (at + 1) 0
 
 -- "for each edge the column (two bytes, high first, below N, rising within the check) and weight": 10 for a column not below n or not
--- rising (below low), 11 for a weight that is 0 or not below q
+-- rising (below low), 11 for a weight that is 0 or not below q (SPEC 4.2, 8.3)
 unfoldable pub readEdge : List ℕ → ℕ → ℕ → ℕ → ℕ → Read Edge
 readEdge s at n q low =
     pick (leb n (wordAt s at)) (bad 10)
@@ -54,7 +54,7 @@ edges (suc c) s at n q low =
     then (edges c s (at + 3) n q (e .column + 1)) (λ (es : List Edge).
     good (e ∷ es)))
 
--- one check, after total edges: "5 for the degree byte, 9, 5 for its edges, then 10 and 11 edge by edge"
+-- one check, after total edges: "5 for the degree byte, 9, 5 for its edges, then 10 and 11 edge by edge" (SPEC 8.3)
 unfoldable pub checkAt : List ℕ → ℕ → ℕ → ℕ → ℕ → Read (List Edge)
 checkAt s at n q total =
     pick (leb (length s) at) (bad 5)
@@ -64,7 +64,7 @@ checkAt s at n q total =
     (pick (ltb (length s - (at + 1)) (3 * getD s at 0)) (bad 5)
     (edges (getD s at 0) s (at + 1) n q 0)))))
 
--- c checks, "last 5 for bytes left over"
+-- c checks, "last 5 for bytes left over" (SPEC 8.3)
 unfoldable pub checks : ℕ → List ℕ → ℕ → ℕ → ℕ → ℕ → Read (List (List Edge))
 checks zero s at n q total = pick (eqb at (length s)) (good []) (bad 5)
 checks (suc c) s at n q total =
@@ -73,7 +73,7 @@ checks (suc c) s at n q total =
     good (es ∷ cs)))
 
 -- the whole line: "p; N as two bytes, high first (1 to 256); M (1 to 128); scale g (1 to 16); iteration limit I (1 to 255). Then M checks";
--- "5 if under six bytes, 6, 7, 8"
+-- "5 if under six bytes, 6, 7, 8" (SPEC 4.1, 8.3)
 unfoldable pub parse : List ℕ → Read Code
 parse s =
     pick (ltb (length s) 6) (bad 5)
@@ -107,18 +107,18 @@ edgeAt es n = getD es n (edge 0 0)
 abbrev pub columnOf : ℕ → List ℕ → ℕ → List ℕ
 columnOf q l c = part l (c * q) q
 
--- "a column without a cost of 0" is refused by 13
+-- "a column without a cost of 0" is refused by 13 (SPEC 5.2)
 abbrev pub zeroIn : ℕ → List ℕ → ℕ → Bool
 zeroIn q l c = ltb (firstZero (columnOf q l c)) q
 
--- a frame's refusal under a code: "12, cost count wrong; 13, a column without a cost of 0"; 0 for none
+-- a frame's refusal under a code: "12, cost count wrong; 13, a column without a cost of 0"; 0 for none (SPEC 8.4)
 unfoldable pub frameFault : Code → List ℕ → ℕ
 frameFault C f =
     pick (eqb (length f) (C .columns * size C))
     (pick (allTo (zeroIn (size C) f) (C .columns)) 0 13)
     12
 
--- the numbers of a code line before its checks: p, N, M, g, I
+-- the numbers of a code line before its checks: p, N, M, g, I (SPEC 4.1)
 pub record Numbers : Type 0 where
   pub p : ℕ
   pub columns : ℕ
@@ -126,12 +126,12 @@ pub record Numbers : Type 0 where
   pub scale : ℕ
   pub limit : ℕ
 
--- they are given where the whole line is accepted
+-- they are given where the whole line is accepted (SPEC 7.7.1)
 abbrev pub numbersOf : Read Code → Read Numbers
 numbersOf (good C) = good (record { p = C .p; columns = C .columns; checks = length (C .checks); scale = C .scale; limit = C .limit })
 numbersOf (bad k) = bad k
 
--- N, where the code line is accepted
+-- N, where the code line is accepted (SPEC 7.7.5)
 abbrev pub columnsRead : Read Numbers → ℕ
 columnsRead (good h) = h .columns
 columnsRead (bad k) = 0

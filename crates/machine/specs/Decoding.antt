@@ -1,4 +1,4 @@
--- What a decode call replies and leaves in its buffers, refused calls included; and demand 3.
+-- What a decode call replies and leaves in its buffers, refused calls included; and demand 3. SPEC 7.6, 10.3.
 use mathlib.Core.Path.{_≡_}
 use mathlib.Core.Logic.{_↔_}
 use mathlib.Core.Bool.{false}
@@ -19,13 +19,13 @@ pub record After : Type 0 where
   pub costs : List ℕ
   pub store : List ℕ
 
--- "The result is found (0) or not found (1), with t."
+-- "The result is found (0) or not found (1), with t." (SPEC 6.10)
 abbrev pub outcome : Status → ℕ → Reply
 outcome found t = foundIn t
 outcome notFound t = notFoundIn t
 
 -- "The symbol buffer then holds the N decisions, the cost buffer .. holds P, N times q of them, and the record store holds the records ..
--- With t = 0 the store is untouched." "Elements past the used part .. keep their old content."
+-- With t = 0 the store is untouched." "Elements past the used part .. keep their old content." (SPEC 7.6.3, 7.1.5)
 abbrev pub filled : Code → Result → List ℕ → List ℕ → List ℕ → After
 filled C r y c s =
     record {
@@ -35,11 +35,11 @@ filled C r y c s =
       store = pick (eqb (r .end .t) 0) s (records C (r .end) ++ drop (used C) s);
     }
 
--- "A refusal returns its number with t = 0; no lent buffer changes."
+-- "A refusal returns its number with t = 0; no lent buffer changes." (SPEC 8.1)
 abbrev pub refused : ℕ → List ℕ → List ℕ → List ℕ → After
 refused k y c s = record { reply = refusal k; symbols = y; costs = c; store = s }
 
--- 2, 3, 4, in this order
+-- 2, 3, 4, in this order (SPEC 8.4)
 unfoldable pub inBuffers : Code → List ℕ → List ℕ → List ℕ → List ℕ → After
 inBuffers C f y c s =
     pick (ltb (length y) (C .columns)) (refused 2 y c s)
@@ -47,7 +47,7 @@ inBuffers C f y c s =
     (pick (ltb (length s) (used C)) (refused 4 y c s)
     (filled C (run C f) y c s)))
 
--- "Decode: code, 12, 13, 2, 3, 4."
+-- "Decode: code, 12, 13, 2, 3, 4." (SPEC 8.4)
 abbrev pub underCode : Read Code → List ℕ → List ℕ → List ℕ → List ℕ → After
 underCode (bad k) f y c s = refused k y c s
 underCode (good C) f y c s = pick (eqb (frameFault C f) 0) (inBuffers C f y c s) (refused (frameFault C f) y c s)
@@ -62,12 +62,12 @@ pub record Decodes (code frame symbols costs store : List ℕ) (reply : Reply) (
   pub costs-then : costs′ ≡ decoding code frame symbols costs store .costs
   pub store-then : store′ ≡ decoding code frame symbols costs store .store
 
--- "A frame is accepted under a code line when none of 5 to 13 applies to the two."
+-- "A frame is accepted under a code line when none of 5 to 13 applies to the two." (SPEC 5.3)
 pub record Accepts (code frame : List ℕ) (C : Code) : Type 0 where
   pub line : parse code ≡ good C
   pub fits : frameFault C frame ≡ 0
 
--- "buffers long enough"
+-- "buffers long enough" (SPEC 7.6.2)
 pub record Room (C : Code) (symbols costs store : List ℕ) : Type 0 where
   pub for-symbols : C .columns ≤ length symbols
   pub for-costs : C .columns * size C ≤ length costs
@@ -101,20 +101,20 @@ pub record Kept (C : Code) (f : List ℕ) (reply : Reply) (store : List ℕ) : T
       → LeastSent (rule C) (lastUpdate C f m) n x (sent (rule C) (lastUpdate C f m) n x)
 
 -- "at the last update of every check, each column was sent the same sum of the other columns' weighted hard decisions and, at each symbol,
--- the same least cost before scaling"
+-- the same least cost before scaling" (SPEC 10.3)
 pub record Agree (C : Code) (f f′ : List ℕ) : Type 0 where
   pub shifts : (m : ℕ) → m < length (C .checks) → (n : ℕ) → n < length (check C m) → shift (rule C) (lastUpdate C f m) n ≡ shift (rule C) (lastUpdate C f′ m) n
   pub sents : (m : ℕ) → m < length (C .checks) → (n : ℕ) → n < length (check C m) → (x : ℕ) → x < size C
       → sent (rule C) (lastUpdate C f m) n x ≡ sent (rule C) (lastUpdate C f′ m) n x
 
--- "the two used parts are equal, byte for byte, exactly when the two runs agree in this"
+-- "the two used parts are equal, byte for byte, exactly when the two runs agree in this" (SPEC 10.3)
 pub record Compared (C : Code) (f f′ : List ℕ) (reply reply′ : Reply) (store store′ : List ℕ) : Type 0 where
   pub one : Kept C f reply store
   pub other : Kept C f′ reply′ store′
   pub equal : (take (used C) store ≡ take (used C) store′) ↔ Agree C f f′
 
 -- demand 3: any code line, two frames accepted under it on which the machine makes at least one iteration, any decoding of each in buffers
--- long enough, whatever these held before
+-- long enough, whatever these held before (SPEC 10.3)
 abbrev pub Demand-3 : Type 0
 Demand-3 =
     (code : List ℕ) (C : Code) (f f′ : List ℕ) → Accepts code f C → Accepts code f′ C

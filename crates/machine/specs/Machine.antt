@@ -1,4 +1,4 @@
--- Document 01's layered machine: start, one update of a check, one iteration, the run with its result.
+-- Document 01's layered machine: start, one update of a check, one iteration, the run with its result. SPEC 6.
 use mathlib.Core.Bool.{Bool}
 use mathlib.Core.List.{List, [], map}
 use Prim.Native.Nat.{ℕ, zero, suc, _+_, _-_, _*_, _/_, _^_, min}
@@ -17,7 +17,7 @@ pub data Last : Type 0 where
   none : Last
   made : List Column → Last
 
--- "Its state: the costs P_n(x) (0 to 510), a record or none for each check, and the iteration number t."
+-- "Its state: the costs P_n(x) (0 to 510), a record or none for each check, and the iteration number t." (SPEC 6.1)
 pub record State : Type 0 where
   pub costs : List ℕ
   pub last : List Last
@@ -30,7 +30,7 @@ abbrev pub columnsIn : Last → List Column
 columnsIn none = []
 columnsIn (made cs) = cs
 
--- "the decisions (smallest symbol of cost 0 in P_n)"
+-- "the decisions (smallest symbol of cost 0 in P_n)" (SPEC 6.2)
 unfoldable pub symbols : Code → List ℕ → List ℕ
 symbols C P = map (λ c. firstZero (columnOf (size C) P c)) (upTo (C .columns))
 
@@ -38,7 +38,7 @@ symbols C P = map (λ c. firstZero (columnOf (size C) P c)) (upTo (C .columns))
 abbrev pub paritySum : ℕ → List Edge → List ℕ → ℕ → ℕ
 paritySum p es z n = upto (λ k a. xor a (product p (edgeAt es k .weight) (getD z (edgeAt es k .column) 0))) n 0
 
--- "It is satisfied when the sum of h_n times x_n is 0."
+-- "It is satisfied when the sum of h_n times x_n is 0." (SPEC 6.2)
 abbrev pub satisfied : ℕ → List Edge → List ℕ → Bool
 satisfied p es z = eqb (paritySum p es z (length es)) 0
 
@@ -46,11 +46,11 @@ satisfied p es z = eqb (paritySum p es z (length es)) 0
 unfoldable pub settled : Code → List ℕ → Bool
 settled C P = allTo (λ m. satisfied (C .p) (check C m) (symbols C P)) (length (C .checks))
 
--- "The scaled cost is floor(g times sent cost / 16)."
+-- "The scaled cost is floor(g times sent cost / 16)." (SPEC 6.6)
 abbrev pub scaled : ℕ → ℕ → ℕ
 scaled g c = g * c / 16
 
--- the scaled costs that column n was sent at a check's last update; "0 if none"
+-- the scaled costs that column n was sent at a check's last update; "0 if none" (SPEC 6.5)
 unfoldable pub message : ℕ → ℕ → Last → ℕ → List ℕ
 message p g none n = map (λ x. 0) (upTo (2 ^ p))
 message p g (made cs) n = map (λ x. scaled g (sent (ruleFor p) cs n x)) (upTo (2 ^ p))
@@ -63,11 +63,11 @@ capped l = map (λ v. min 255 v) l
 
 -- "subtract the old record's scaled cost (0 if none), subtract the least over x, and cap at 255; this is Q." A difference may be below 0;
 -- 255, which no scaled cost exceeds, is added first, and goes away again with the least: no difference of a run is cut off (never-cut,
--- proofs/Offset.antt)
+-- proofs/Offset.antt) (SPEC 6.5, 6.7)
 unfoldable pub incoming : ℕ → List ℕ → List ℕ → List ℕ
 incoming q P old = capped (lessLeast (map (λ x. getD P x 0 + 255 - getD old x 0) (upTo q)))
 
--- "The new P is Q plus the scaled cost, less its least over x."
+-- "The new P is Q plus the scaled cost, less its least over x." (SPEC 6.5)
 unfoldable pub outgoing : ℕ → List ℕ → List ℕ → List ℕ
 outgoing q Q new = lessLeast (map (λ x. getD Q x 0 + getD new x 0) (upTo q))
 
@@ -81,7 +81,7 @@ unfoldable pub spread : ℕ → List Edge → List Column → (ℕ → List ℕ)
 spread p es cs new P =
     upto (λ n (P : List ℕ). patch P (edgeAt es n .column * 2 ^ p) (2 ^ p) (outgoing (2 ^ p) (column cs n .costs) (new n))) (length es) P
 
--- "This is one update of the check", of check m
+-- "This is one update of the check", of check m (SPEC 6.5)
 unfoldable pub update : Code → ℕ → State → State
 update C m s =
     let cs : List Column = arriving (C .p) (check C m) (message (C .p) (C .scale) (lastOf s m)) (s .costs) in
@@ -91,11 +91,11 @@ update C m s =
       t = s .t;
     }
 
--- "An iteration adds 1 to t and takes the checks in code order."
+-- "An iteration adds 1 to t and takes the checks in code order." (SPEC 6.4)
 unfoldable pub iteration : Code → State → State
 iteration C s = upto (update C) (length (C .checks)) (record { costs = s .costs; last = s .last; t = s .t + 1 })
 
--- "Start: P is the frame, no records, t = 0."
+-- "Start: P is the frame, no records, t = 0." (SPEC 6.3)
 abbrev pub start : Code → List ℕ → State
 start C f = record { costs = f; last = replicate (length (C .checks)) none; t = 0 }
 
@@ -110,7 +110,7 @@ pub record Result : Type 0 where
 abbrev pub result : Status → State → Result
 result o s = record { status = o; end = s }
 
--- at most n iterations more. "all checks satisfied means found. Otherwise, if t = I, not found."
+-- at most n iterations more. "all checks satisfied means found. Otherwise, if t = I, not found." (SPEC 6.3, 6.4)
 unfoldable pub go : Code → ℕ → State → Result
 go C zero s = pick (settled C (s .costs)) (result found s) (result notFound s)
 go C (suc n) s = pick (settled C (s .costs)) (result found s) (go C n (iteration C s))
@@ -118,14 +118,14 @@ go C (suc n) s = pick (settled C (s .costs)) (result found s) (go C n (iteration
 unfoldable pub run : Code → List ℕ → Result
 run C f = go C (C .limit) (start C f)
 
--- the place of check m's record in the store; "as many bytes as the M record lengths add up to"
+-- the place of check m's record in the store; "as many bytes as the M record lengths add up to" (SPEC 7.6.2)
 unfoldable pub place : Code → ℕ → ℕ
 place C m = upto (λ k a. a + recordLength (rule C) (length (check C k))) m 0
 
 abbrev pub used : Code → ℕ
 used C = place C (length (C .checks))
 
--- "the record store holds the records end to end in code order": those of the last updates
+-- "the record store holds the records end to end in code order": those of the last updates (SPEC 7.6.3)
 abbrev pub recordIn : Code → Last → List ℕ
 recordIn C none = []
 recordIn C (made cs) = recordOf (rule C) cs

@@ -1,4 +1,4 @@
--- The line that the program prints for one line of input.
+-- The line that the program prints for one line of input. SPEC 9.5, 9.6.
 use mathlib.Core.List.{List, [], _∷_, _++_}
 use Prim.Native.Nat.{ℕ, _+_, _-_, _/_, _%_}
 use lib.Dec.{eqb, ltb}
@@ -9,7 +9,7 @@ use Rattle.machine.specs.CodeLine.{Read, good, bad, Code, parse, frameFa
 use Rattle.machine.specs.Machine.{run, symbols}
 use Rattle.machine.specs.Decoding.{outcome}
 
--- a byte as two digits 0-9 and A-F
+-- a byte as two digits 0-9 and A-F (SPEC 9.6)
 abbrev pub digitOf : ℕ → ℕ
 digitOf n = pick (ltb n 10) (0x30 + n) (0x41 + (n - 10))
 
@@ -25,7 +25,7 @@ abbrev pub said : Reply → List ℕ → Said
 said r l = record { reply = r; symbols = l }
 
 -- "Each frame gives one line: status, t, then the symbols, all as two-digit bytes. A refused line prints its number as such a byte (12 as 0C)
--- and 00 only". "Each printed line ends in 0A."
+-- and 00 only". "Each printed line ends in 0A." (SPEC 9.6)
 unfoldable pub printed : Said → List ℕ
 printed s = each digitsOf (s .reply .number ∷ s .reply .value ∷ pick (s .reply .refused) [] (s .symbols)) ++ (0x0A ∷ [])
 
@@ -35,7 +35,7 @@ ofFrame (bad k) f = said (refusal k) []
 ofFrame (good C) f =
     pick (eqb (frameFault C f) 0) (said (outcome (run C f .status) (run C f .end .t)) (symbols C (run C f .end .costs))) (said (refusal (frameFault C f)) [])
 
--- "Line refusals come before all others": 15, 14, then decode's. The longest line has 16,384 bytes
+-- "Line refusals come before all others": 15, 14, then decode's. The longest line has 16,384 bytes (SPEC 9.5)
 unfoldable pub frameSaid : List ℕ → List ℕ → Said
 frameSaid code text = lineCases text 16384 (λ k. said (refusal k) []) (ofFrame (parse code) (lineBytes text))
 

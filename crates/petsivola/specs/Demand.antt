@@ -1,5 +1,5 @@
 -- Demand 3 in the numbers that petsivola_decode returns, as include/petsivola.h reads them: PETSIVOLA_NUMBER(r) is r / 65536, PETSIVOLA_VALUE(r)
--- is r % 65536.
+-- is r % 65536. SPEC 10.3.
 use mathlib.Core.Path.{_≡_}
 use mathlib.Core.Logic.{_↔_}
 use mathlib.Core.List.{List}

@@ -1,4 +1,4 @@
--- A reply as one number for C.
+-- A reply as one number for C. SPEC 7.8.2.
 use Prim.Native.Nat.{ℕ, _+_, _*_}
 use Rattle.trellis.specs.Reply.{Reply, foundIn, notFoundIn}
 use Rattle.layered.specs.declared.Outcome.{Outcome}

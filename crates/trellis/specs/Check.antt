@@ -1,4 +1,4 @@
--- One check of document 01: choices, their costs, the cost sent to a column, the extra column.
+-- One check of document 01: choices, their costs, the cost sent to a column, the extra column. SPEC 2.
 -- A rule holds what the code line's first byte fixes: q, the product, how the costs of a choice are joined, and how many deviations it may have.
 use mathlib.Core.Path.{_≡_}
 use mathlib.Core.Bool.{Bool, cond, _&&_}
@@ -15,7 +15,7 @@ pub record Rule : Type 0 where
   pub join : ℕ → ℕ → ℕ
   pub most : ℕ
 
--- "a nonzero weight h_n for each column n"; "Column n brings q costs Q_n(x)"
+-- "a nonzero weight h_n for each column n"; "Column n brings q costs Q_n(x)" (SPEC 2.1, 2.2)
 pub record Column : Type 0 where
   pub weight : ℕ
   pub costs : List ℕ
@@ -36,11 +36,11 @@ firstZero [] = 0
 firstZero (zero ∷ l) = 0
 firstZero (suc x ∷ l) = suc (firstZero l)
 
--- "Its hard decision z_n is the smallest symbol of cost 0."
+-- "Its hard decision z_n is the smallest symbol of cost 0." (SPEC 2.3)
 abbrev pub decision : Column → ℕ
 decision c = firstZero (c .costs)
 
--- "A deviation is a column whose chosen symbol is not z_n": 1 at such a symbol, else 0
+-- "A deviation is a column whose chosen symbol is not z_n": 1 at such a symbol, else 0 (SPEC 2.4)
 abbrev pub deviates : Column → ℕ → ℕ
 deviates c x = cond (eqb x (decision c)) 0 1
 
@@ -54,7 +54,7 @@ total op f [] w = 0
 total op f (c ∷ cs) [] = 0
 total op f (c ∷ cs) (x ∷ w) = op (f c x) (total op f cs w)
 
--- "A choice costs the sum of its columns' Q": joined by the rule
+-- "A choice costs the sum of its columns' Q": joined by the rule (SPEC 2.4)
 abbrev pub costOf : Rule → List Column → List ℕ → ℕ
 costOf R = total (R .join) costAt
 
@@ -92,7 +92,7 @@ abbrev pub allowed? : Rule → List Column → ℕ → List ℕ → Bool
 allowed? R cs t w = leb (deviations cs w) (R .most) && eqb (weightedSum R cs w) t
 
 -- "the least cost over choices .. that have at most two deviations and whose weighted sum is" t, by looking at every choice;
--- proofs/Least.antt shows that it is the IsLeast of these
+-- proofs/Least.antt shows that it is the IsLeast of these (SPEC 2.6)
 unfoldable pub leastCost : Rule → List Column → ℕ → ℕ
 leastCost R cs t = smallest (map (costOf R cs) (keep (allowed? R cs t) (choices (R .size) cs)))
 
@@ -103,25 +103,25 @@ decisions = map decision
 unfoldable pub decided : Rule → List Column → ℕ
 decided R cs = weightedSum R cs (decisions cs)
 
--- "The shift s_n is the sum of h_k times z_k over all k other than n."
+-- "The shift s_n is the sum of h_k times z_k over all k other than n." (SPEC 2.5)
 unfoldable pub shift : Rule → List Column → ℕ → ℕ
 shift R cs n = decided R (others n cs)
 
 -- "The cost sent to column n at symbol x is the least cost over choices for the other columns that have at most two deviations and whose
--- weighted sum is h_n times x."
+-- weighted sum is h_n times x." (SPEC 2.6)
 unfoldable pub sent : Rule → List Column → ℕ → ℕ → ℕ
 sent R cs n x = leastCost R (others n cs) (weigh R (column cs n) x)
 
--- "Write S_n(a) for the cost sent at the x with h_n times x + s_n = a": there h_n times x is a + s_n
+-- "Write S_n(a) for the cost sent at the x with h_n times x + s_n = a": there h_n times x is a + s_n (SPEC 2.8)
 unfoldable pub sentAt : Rule → List Column → ℕ → ℕ → ℕ
 sentAt R cs n a = leastCost R (others n cs) (xor a (shift R cs n))
 
 -- "The extra column E(a), for a not 0, is the least cost over choices for all columns with at most two deviations whose weighted sum is a
--- plus the sum of all h_k times z_k."
+-- plus the sum of all h_k times z_k." (SPEC 2.9)
 unfoldable pub extra : Rule → List Column → ℕ → ℕ
 extra R cs a = leastCost R cs (xor a (decided R cs))
 
--- the least of S_n(a) over the columns. Where the degree exceeds k it is E(a) (proofs/Sent.antt, extra-is)
+-- the least of S_n(a) over the columns. Where the degree exceeds k it is E(a) (proofs/Sent.antt, extra-is) (SPEC 2.10)
 unfoldable pub leastSent : Rule → List Column → ℕ → ℕ
 leastSent R cs a = smallest (map (λ n. sentAt R cs n a) (upTo (length cs)))
 

@@ -1,4 +1,5 @@
--- What a reader must believe, in document 01's order: the field, one check, the record, the replies.
+-- What a reader must believe, in document 01's order: the field, one check, the record, the replies. "SPEC" in a comment is a paragraph of
+-- docs/SPECIFICATION.md.
 pub mod Lists
 pub mod Field
 pub mod Check

@@ -1,4 +1,4 @@
--- The packed record of one check, the form in which a record is accepted, and its expansion.
+-- The packed record of one check, the form in which a record is accepted, and its expansion. SPEC 3.
 use mathlib.Core.Bool.{Bool, true, false, cond}
 use mathlib.Core.List.{List, [], _∷_, _++_, map}
 use Prim.Native.Nat.{ℕ, zero, suc, _+_, _*_, _-_}
@@ -8,20 +8,20 @@ use Rattle.trellis.specs.Lists.{countFrom, upTo, keep, each, pick, allTo
 use Rattle.trellis.specs.Field.{xor}
 use Rattle.trellis.specs.Check.{Rule, Column, shift, sentAt, extra}
 
--- "The columns are those with S_n(a) greater than E(a), rising"
+-- "The columns are those with S_n(a) greater than E(a), rising" (SPEC 3.2)
 unfoldable pub above : Rule → List Column → ℕ → List ℕ
 above R cs a = keep (λ n. ltb (extra R cs a) (sentAt R cs n a)) (upTo (length cs))
 
--- the bytes of a: "E(a), column, its S, column, its S .. an unused pair is FF 00"; k pairs in all
+-- the bytes of a: "E(a), column, its S, column, its S .. an unused pair is FF 00"; k pairs in all (SPEC 3.1)
 unfoldable pub group : Rule → List Column → ℕ → List ℕ
 group R cs a =
     extra R cs a ∷ (each (λ n. n ∷ sentAt R cs n a ∷ []) (above R cs a) ++ each (λ i. 0xFF ∷ 0x00 ∷ []) (upTo (R .most - length (above R cs a))))
 
--- "d shift bytes, s_0 first"
+-- "d shift bytes, s_0 first" (SPEC 3.1)
 unfoldable pub shifts : Rule → List Column → List ℕ
 shifts R cs = map (shift R cs) (upTo (length cs))
 
--- "then five bytes for each a from 1 to q - 1"
+-- "then five bytes for each a from 1 to q - 1" (SPEC 3.1)
 unfoldable pub recordOf : Rule → List Column → List ℕ
 recordOf R cs = shifts R cs ++ each (group R cs) (countFrom 1 (R .size - 1))
 
@@ -29,7 +29,7 @@ recordOf R cs = shifts R cs ++ each (group R cs) (countFrom 1 (R .size - 1))
 abbrev pub groupLength : Rule → ℕ
 groupLength R = 1 + 2 * R .most
 
--- "Length: d + 5(q - 1)."
+-- "Length: d + 5(q - 1)." (SPEC 3.1)
 abbrev pub recordLength : Rule → ℕ → ℕ
 recordLength R d = d + groupLength R * (R .size - 1)
 
@@ -52,7 +52,7 @@ groupAt R d b = d + groupLength R * b
 abbrev pub groupOk : Rule → ℕ → List ℕ → ℕ → Bool
 groupOk R d r b = pairsOk (R .most) r (groupAt R d b + 1) (getD r (groupAt R d b) 0) d 0
 
--- the form of an accepted record of degree d. Refused: "length wrong, shift not below q", or a pair as above
+-- the form of an accepted record of degree d. Refused: "length wrong, shift not below q", or a pair as above (SPEC 3.4)
 unfoldable pub recordOk : Rule → ℕ → List ℕ → Bool
 recordOk R d r =
     pick (eqb (length r) (recordLength R d))
@@ -61,7 +61,7 @@ recordOk R d r =
     false)
     false
 
--- "the S beside n if a's pairs list n, else E(a)"
+-- "the S beside n if a's pairs list n, else E(a)" (SPEC 3.5)
 abbrev pub beside : ℕ → ℕ → List ℕ → ℕ
 beside n e [] = e
 beside n e (c ∷ []) = e
@@ -71,15 +71,15 @@ abbrev pub besideGroup : ℕ → List ℕ → ℕ
 besideGroup n [] = 0
 besideGroup n (e ∷ l) = beside n e l
 
--- what a record of degree d says for column n at a: "the byte is 0 if a is 0"
+-- what a record of degree d says for column n at a: "the byte is 0 if a is 0" (SPEC 3.5)
 unfoldable pub readAt : Rule → ℕ → List ℕ → ℕ → ℕ → ℕ
 readAt R d r n zero = 0
 readAt R d r n (suc b) = besideGroup n (take (groupLength R) (drop (groupAt R d b) r))
 
--- "With a = h_n times x + s_n"
+-- "With a = h_n times x + s_n" (SPEC 3.5)
 unfoldable pub expandAt : Rule → List ℕ → List ℕ → ℕ → ℕ → ℕ
 expandAt R ws r n x = readAt R (length ws) r n (xor (R .times (getD ws n 0) x) (getD r n 0))
 
--- "Expansion writes d times q unscaled bytes, column by column, each column by x."
+-- "Expansion writes d times q unscaled bytes, column by column, each column by x." (SPEC 3.5)
 unfoldable pub expansion : Rule → List ℕ → List ℕ → List ℕ
 expansion R ws r = each (λ n. map (expandAt R ws r n) (upTo (R .size))) (upTo (length ws))

@@ -9,7 +9,7 @@ use Rattle.trellis.specs.Check.{Rule, Column}
 abbrev pub ruleOf : ℕ → (ℕ → ℕ → ℕ) → ℕ → Rule
 ruleOf p op k = record { size = 2 ^ p; times = product p; join = op; most = k }
 
--- document 01: a choice costs the sum of its columns' Q, and has at most two deviations
+-- document 01: a choice costs the sum of its columns' Q, and has at most two deviations (SPEC 2.4)
 abbrev pub ruleFor : ℕ → Rule
 ruleFor p = ruleOf p _+_ 2
 
