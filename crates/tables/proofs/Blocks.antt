@@ -177,3 +177,8 @@ module _ (s e x d out : List ℕ) (v b : ℕ) (next : b ≡ v + 16) (room : v + 
       let t : take v out ++ (r ++ drop (b - v) (drop v out)) ≡ tab (lowAt s e x d) b ++ drop b d =
       ap (λ y. take v out ++ (r ++ drop (y - v) (drop v out))) next ∙ block-turn (lowAt s e x d) h d out v f o at ∙ ap (λ y. tab (lowAt s e x d) y ++ drop y d) (sym next) in
       (ap length t ∙ tab-length (lowAt s e x d) d b (omega arith), t)
+
+-- one block alone
+pub raised-one : (w e : List ℕ) {r : List ℕ} → length e ≡ 16 → r ≡ lanes (λ i. max (getD e i 0) (getD w i 0)) → r ≡ tab (λ a. max (getD e a 0) (getD w a 0)) (length e)
+unfolding lanes
+raised-one w e h o = o ∙ ap (tab (λ a. max (getD e a 0) (getD w a 0))) (sym h)

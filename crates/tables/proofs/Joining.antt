@@ -82,3 +82,10 @@ wide-of q l k b S h =
 -- room for the copies that q rows need
 pub copies-room : (q l n : ℕ) → n ≡ 16 * l → min 16 q * l ≤ n
 copies-room q l n e = let m : min 16 q ≤ 16 = omega arith in omega (arith, mul-le-mul-right l m)
+
+-- a table of one block, which is never turned
+pub wide-16 : Wide 16 0
+wide-16 = record { bits = 4; power = refl; least = omega arith; most = omega arith; even = refl; inside = omega arith }
+
+pub join-16 : (g : Bool) (q l : ℕ) (u s e : List ℕ) {r : List ℕ} → l ≡ 16 → r ≡ tab (joinAt g u s 16 e q) 16 → r ≡ tab (joinAt g u s l e q) l
+join-16 g q l u s e h o = rw h o

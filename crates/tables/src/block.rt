@@ -37,12 +37,16 @@ pub fn copy_block(w: &[u8], e: &mut [u8])
     lane::copy(&t, e);
 }
 
-// e: the better of e and w.
+// e: the better of e and w. One block, which is most of what small fields ask for, goes without the loop.
 pub fn raise(w: &[u8], e: &mut [u8])
     requires { ⌜ (length (now w) ≡ length (now e)) × ((length (now e) % 16 ≡ 0) × (length (now e) ≤ 65536)) ⌝ }
     ensures { λ _. ⌜ now (e .exit) ≡ tab (λ a. max (getD (now (e .entry)) a 0) (getD (now (w .entry)) a 0)) (length (now (e .entry))) ⌝ }
 {
     let n = e.len();
+    if n == 16 {
+        raise_block(w, e);
+        return;
+    }
     let mut v = 0;
     while v < n {
         let b = num::next(v, n);

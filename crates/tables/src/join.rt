@@ -62,9 +62,23 @@ fn four_of(greatest: bool, u: &[u8], b: usize) -> Four
     }
 }
 
-// e: the best of e and each of the q rows of u joined with the table whose copies s holds. Four rows at a time, so that e is read and written a
-// quarter as often.
-pub fn join(shape: Shape, u: &[u8], s: &[u8], e: &mut [u8])
+// The rows of tables of one block, whose copies are never turned: with its bounds constant the compiler takes a block without a loop.
+fn one_block(greatest: bool, q: usize, u: &[u8], s: &[u8], e: &mut [u8])
+    requires { ⌜ (q % 4 ≡ 0) × (q ≤ 16) ⌝ }
+    requires { ⌜ (length (now u) ≡ 16) × ((length (now s) ≡ 256) × (length (now e) ≡ 16)) ⌝ }
+    ensures { λ _. ⌜ now (e .exit) ≡ tab (joinAt greatest (now (u .entry)) (now (s .entry)) 16 (now (e .entry)) q) 16 ⌝ }
+{
+    let mut b = 0;
+    while b < q {
+        let f = four_of(greatest, u, b);
+        let at = copy_at(q, 16, b);
+        four(f, s, at, 0, 16, e);
+        b += 4;
+    }
+}
+
+// The rows of tables of any length. Four at a time, so that e is read and written a quarter as often.
+fn all_blocks(shape: Shape, u: &[u8], s: &[u8], e: &mut [u8])
     requires { ⌜ Shaped (shape .q) (shape .l) (shape .k) ⌝ }
     requires { ⌜ (length (now u) ≡ shape .l) × ((length (now s) ≡ 16 * shape .l) × (length (now e) ≡ shape .l)) ⌝ }
     ensures { λ _. ⌜ now (e .exit) ≡ tab (joinAt (shape .greatest) (now (u .entry)) (now (s .entry)) (shape .l) (now (e .entry)) (shape .q)) (shape .l) ⌝ }
@@ -78,4 +92,17 @@ pub fn join(shape: Shape, u: &[u8], s: &[u8], e: &mut [u8])
         four(f, s, at, b / 16 * 16, l, e);
         b += 4;
     }
+}
+
+// e: the best of e and each of the q rows of u joined with the table whose copies s holds.
+pub fn join(shape: Shape, u: &[u8], s: &[u8], e: &mut [u8])
+    requires { ⌜ Shaped (shape .q) (shape .l) (shape .k) ⌝ }
+    requires { ⌜ (length (now u) ≡ shape .l) × ((length (now s) ≡ 16 * shape .l) × (length (now e) ≡ shape .l)) ⌝ }
+    ensures { λ _. ⌜ now (e .exit) ≡ tab (joinAt (shape .greatest) (now (u .entry)) (now (s .entry)) (shape .l) (now (e .entry)) (shape .q)) (shape .l) ⌝ }
+{
+    if shape.l == 16 {
+        one_block(shape.greatest, shape.q, u, s, e);
+        return;
+    }
+    all_blocks(shape, u, s, e);
 }
