@@ -1,11 +1,10 @@
 -- Demand 3, stated of petsivola_decode's own contract: any two calls with one code line, whatever their buffers held before. The results are
 -- numbers, as include/petsivola.h reads them: PETSIVOLA_NUMBER(r) is r / 65536, PETSIVOLA_VALUE(r) is r % 65536.
-use mathlib.Core.Path.{_≡_, refl, ap, _∙_, subst}
+use mathlib.Core.Path.{_≡_, refl, _∙_, subst}
 use mathlib.Core.Logic.{_↔_}
 use mathlib.Core.List.{List}
-use Prim.Native.Nat.{ℕ, _/_, _%_, _≤_, _<_}
+use Prim.Native.Nat.{ℕ, _≤_, _<_}
 use native.Mathlib.Omega.{arith}
-use lib.ListN.{getD, take}
 use contract.Lifetimes.{Lfts}
 use denote.Ref.{now}
 use denote.Triple.Clauses.{AtExit}
@@ -15,31 +14,31 @@ use Rattle.trellis.specs.Reply.{Reply}
 use Rattle.machine.specs.CodeLine.{Code}
 use Rattle.machine.specs.Machine.{Status, found, notFound, run, used}
 use Rattle.machine.specs.Decoding.{After, outcome, decoding, Accepts, Room, Kept, Agree}
-use Rattle.petsivola.specs.Packed.{packed}
+use Rattle.petsivola.specs.Packed.{Packs}
 use Rattle.petsivola.specs.Demand.{Returned, ComparedCalls}
 use Rattle.machine.proofs.Demand.{demand-3}
-use Rattle.petsivola.proofs.Iterations.{run-most, parse-limit}
 use Rattle.petsivola.proofs.petsivola_decode as decode
 use Rattle.petsivola.proofs.petsivola_decode.Kinds as kinds
 use Rattle.petsivola.proofs.petsivola_decode.Reads as reads
 
--- a number that packs a result with fewer than 65,536 iterations
-unpacked : (o : Status) (t : ℕ) → t < 65536 → (packed (outcome o t) / 65536 ≤ 1) × (packed (outcome o t) % 65536 ≡ t)
-unpacked found t h = (omega arith, omega arith)
-unpacked notFound t h = (omega arith, omega arith)
-
-returned : (code : List ℕ) (C : Code) (f : List ℕ) (r : ℕ) (reply : Reply) (store : List ℕ) → Accepts code f C → r ≡ packed reply → Kept C f reply store → Returned code C f r store
-returned code C f r reply store A e K =
+returned : (C : Code) (f : List ℕ) (r : ℕ) (reply : Reply) (store : List ℕ) → Packs r reply → Kept C f reply store → Returned C f r store
+returned C f r reply store P K =
     let o : Reply = outcome (run C f .status) (run C f .end .t) in
-    let k : r ≡ packed o = e ∙ ap packed (K .replies) in
-    let n : getD code 5 0 < 256 → (packed o / 65536 ≤ 1) × (packed o % 65536 ≡ run C f .end .t) =
-    λ h. unpacked (run C f .status) (run C f .end .t) (omega (arith, run-most C f, parse-limit code C (A .line))) in
+    let k : Packs r o = subst (Packs r) (K .replies) P in
     record {
       kept = subst (λ (o : Reply). Kept C f o store) (K .replies) K;
       packs = k;
-      not-refused = λ h. rw k (n h .0);
-      iterations = λ h. rw k (n h .1);
+      not-refused = omega (arith, k .number, low (run C f .status) (run C f .end .t));
+      iterations = k .value ∙ same (run C f .status) (run C f .end .t);
     }
+  where
+    low : (o : Status) (t : ℕ) → outcome o t .number ≤ 1
+    low found t = omega arith
+    low notFound t = omega arith
+
+    same : (o : Status) (t : ℕ) → outcome o t .value ≡ t
+    same found t = refl
+    same notFound t = refl
 
 -- the arguments a and b are code, frame, symbols, costs, store; s and s′ hold them as the calls return; reads.Post is petsivola_decode's ensures
 module _ (κs κs′ : Lfts 5) (a : ArgsD decode.signature κs) (b : ArgsD decode.signature κs′) (r : ResD decode.signature κs) (r′ : ResD decode.signature κs′) (s : AtExit (endedOf 5 kinds.ps kinds.r) κs) (s′ : AtExit (endedOf 5 kinds.ps kinds.r) κs′) where
@@ -47,7 +46,7 @@ module _ (κs κs′ : Lfts 5) (a : ArgsD decode.signature κs) (b : ArgsD decod
       → 0 < run C (now (a .1 .0)) .end .t → 0 < run C (now (b .1 .0)) .end .t
       → Room C (now (a .1 .1 .0)) (now (a .1 .1 .1 .0)) (now (a .1 .1 .1 .1 .0)) → Room C (now (b .1 .1 .0)) (now (b .1 .1 .1 .0)) (now (b .1 .1 .1 .1 .0))
       → reads.Post κs a r s → reads.Post κs′ b r′ s′
-      → ComparedCalls (now (b .0)) C (now (a .1 .0)) (now (b .1 .0)) r r′ (now (s .1 .1 .1 .1 .0)) (now (s′ .1 .1 .1 .1 .0))
+      → ComparedCalls C (now (a .1 .0)) (now (b .1 .0)) r r′ (now (s .1 .1 .1 .1 .0)) (now (s′ .1 .1 .1 .1 .0))
   two-decodings e C A B i j M N p q =
       let o : After = decoding (now (b .0)) (now (a .1 .0)) (now (a .1 .1 .0)) (now (a .1 .1 .1 .0)) (now (a .1 .1 .1 .1 .0)) in
       let o′ : After = decoding (now (b .0)) (now (b .1 .0)) (now (b .1 .1 .0)) (now (b .1 .1 .1 .0)) (now (b .1 .1 .1 .1 .0)) in
@@ -60,7 +59,7 @@ module _ (κs κs′ : Lfts 5) (a : ArgsD decode.signature κs) (b : ArgsD decod
       (record { replies = refl; symbols-then = d .1 .0; costs-then = d .1 .1 .0; store-then = d .1 .1 .1 })
       (record { replies = refl; symbols-then = q .1 .0; costs-then = q .1 .1 .0; store-then = q .1 .1 .1 }) in
       record {
-        one = returned (now (b .0)) C (now (a .1 .0)) r (o .reply) (now (s .1 .1 .1 .1 .0)) L (d .0) (Z .one);
-        other = returned (now (b .0)) C (now (b .1 .0)) r′ (o′ .reply) (now (s′ .1 .1 .1 .1 .0)) B (q .0) (Z .other);
+        one = returned C (now (a .1 .0)) r (o .reply) (now (s .1 .1 .1 .1 .0)) (d .0) (Z .one);
+        other = returned C (now (b .1 .0)) r′ (o′ .reply) (now (s′ .1 .1 .1 .1 .0)) (q .0) (Z .other);
         equal = Z .equal;
       }

@@ -9,10 +9,10 @@ ghost use Rattle.checknode.specs.Answers.{elementReply, productReply, writtenRe
 ghost use Rattle.machine.specs.Line.{lineReply, lineLeaves};
 ghost use Rattle.machine.specs.Decoding.{decoding};
 ghost use Rattle.layered.specs.Answers.{answerReply};
-ghost use Rattle.petsivola.specs.Packed.{packed, outcomeReply};
+ghost use Rattle.petsivola.specs.Packed.{Packs, outcomeReply};
 
 fn of_element(e: Element) -> u32
-    ensures { λ r. ⌜ r ≡ packed (elementReply e) ⌝ }
+    ensures { λ r. ⌜ Packs r (elementReply e) ⌝ }
 {
     match e {
         Element::Is(x) => x as u32,
@@ -22,7 +22,7 @@ fn of_element(e: Element) -> u32
 
 fn of_written(w: Written) -> u32
     requires { ⌜ writtenReply w .value ≤ 16384 ⌝ }
-    ensures { λ r. ⌜ r ≡ packed (writtenReply w) ⌝ }
+    ensures { λ r. ⌜ Packs r (writtenReply w) ⌝ }
 {
     match w {
         Written::Bytes(n) => n as u32,
@@ -31,7 +31,7 @@ fn of_written(w: Written) -> u32
 }
 
 fn of_outcome(o: Outcome) -> u32
-    ensures { λ r. ⌜ r ≡ packed (outcomeReply o) ⌝ }
+    ensures { λ r. ⌜ Packs r (outcomeReply o) ⌝ }
 {
     match o {
         Outcome::Found(t) => t as u32,
@@ -40,7 +40,7 @@ fn of_outcome(o: Outcome) -> u32
 }
 
 fn of_answer(a: Answer) -> u32
-    ensures { λ r. ⌜ r ≡ packed (answerReply a) ⌝ }
+    ensures { λ r. ⌜ Packs r (answerReply a) ⌝ }
 {
     match a {
         Answer::Decoded(o) => of_outcome(o),
@@ -50,14 +50,14 @@ fn of_answer(a: Answer) -> u32
 
 #[no_mangle]
 pub extern "C" fn petsivola_product(p: u8, a: u8, b: u8) -> u32
-    ensures { λ r. ⌜ r ≡ packed (productReply p a b) ⌝ }
+    ensures { λ r. ⌜ Packs r (productReply p a b) ⌝ }
 {
     of_element(checknode::product(p, a, b))
 }
 
 #[no_mangle]
 pub extern "C" fn petsivola_check(p: u8, weights: &[u8], costs: &[u8], out: &mut [u8]) -> u32
-    ensures { λ r. ⌜ r ≡ packed (checkReply p (now (weights .entry)) (now (costs .entry)) (now (out .entry))) ⌝ }
+    ensures { λ r. ⌜ Packs r (checkReply p (now (weights .entry)) (now (costs .entry)) (now (out .entry))) ⌝ }
     ensures { λ _. ⌜ now (out .exit) ≡ checkLeaves p (now (weights .entry)) (now (costs .entry)) (now (out .entry)) ⌝ }
 {
     of_written(checknode::check(p, weights, costs, out))
@@ -65,7 +65,7 @@ pub extern "C" fn petsivola_check(p: u8, weights: &[u8], costs: &[u8], out: &mut
 
 #[no_mangle]
 pub extern "C" fn petsivola_expand(p: u8, weights: &[u8], bytes: &[u8], out: &mut [u8]) -> u32
-    ensures { λ r. ⌜ r ≡ packed (expandReply p (now (weights .entry)) (now (bytes .entry)) (now (out .entry))) ⌝ }
+    ensures { λ r. ⌜ Packs r (expandReply p (now (weights .entry)) (now (bytes .entry)) (now (out .entry))) ⌝ }
     ensures { λ _. ⌜ now (out .exit) ≡ expandLeaves p (now (weights .entry)) (now (bytes .entry)) (now (out .entry)) ⌝ }
 {
     of_written(checknode::expand(p, weights, bytes, out))
@@ -73,7 +73,7 @@ pub extern "C" fn petsivola_expand(p: u8, weights: &[u8], bytes: &[u8], out: &mu
 
 #[no_mangle]
 pub extern "C" fn petsivola_line(text: &[u8], out: &mut [u8]) -> u32
-    ensures { λ r. ⌜ r ≡ packed (lineReply (now (text .entry)) (now (out .entry))) ⌝ }
+    ensures { λ r. ⌜ Packs r (lineReply (now (text .entry)) (now (out .entry))) ⌝ }
     ensures { λ _. ⌜ now (out .exit) ≡ lineLeaves (now (text .entry)) (now (out .entry)) ⌝ }
 {
     of_written(text::line(text, out))
@@ -87,7 +87,7 @@ pub extern "C" fn petsivola_decode(
     costs: &mut [u16],
     store: &mut [u8],
 ) -> u32
-    ensures { λ r. ⌜ r ≡ packed (decoding (now (code .entry)) (now (frame .entry)) (now (symbols .entry)) (now (costs .entry)) (now (store .entry)) .reply) ⌝ }
+    ensures { λ r. ⌜ Packs r (decoding (now (code .entry)) (now (frame .entry)) (now (symbols .entry)) (now (costs .entry)) (now (store .entry)) .reply) ⌝ }
     ensures { λ _. ⌜ now (symbols .exit) ≡ decoding (now (code .entry)) (now (frame .entry)) (now (symbols .entry)) (now (costs .entry)) (now (store .entry)) .symbols ⌝ }
     ensures { λ _. ⌜ now (costs .exit) ≡ decoding (now (code .entry)) (now (frame .entry)) (now (symbols .entry)) (now (costs .entry)) (now (store .entry)) .costs ⌝ }
     ensures { λ _. ⌜ now (store .exit) ≡ decoding (now (code .entry)) (now (frame .entry)) (now (symbols .entry)) (now (costs .entry)) (now (store .entry)) .store ⌝ }

@@ -1,17 +1,17 @@
 -- In each arm the answer is the constructor that was matched.
-use mathlib.Core.Path.{_≡_, refl, _∙_}
+use mathlib.Core.Path.{_≡_, refl, subst}
 use native.Mathlib.Omega.{arith}
 use Rattle.layered.specs.Answers.{answerReply}
 use Rattle.layered.specs.declared.Outcome.{Outcome}
 use Rattle.layered.specs.declared.Outcome.the-variants.{Found, NotFound}
 use Rattle.layered.specs.declared.Answer.the-variants.{Decoded}
-use Rattle.petsivola.specs.Packed.{packed, outcomeReply}
+use Rattle.petsivola.specs.Packed.{Packs, outcomeReply}
 use borrow.Author.Needs.{needs}
 use Rattle.petsivola.proofs.of_answer.Statement.{statement}
 use Rattle.petsivola.proofs.of_answer.Tie as tie
 
 -- a decoding's reply is its outcome's
-same : (o : Outcome) → packed (outcomeReply o) ≡ packed (answerReply (Decoded o))
+same : (o : Outcome) → outcomeReply o ≡ answerReply (Decoded o)
 same (Found t) = refl
 same (NotFound t) = refl
 
@@ -31,10 +31,10 @@ mul-result : tie.Need-mul-result
 mul-result c = search needs
 
 returns : tie.Need-returns
-returns c = rw (c .before .before .a .given .1) (c .of-outcome .ensures ∙ same (c .before .before .a .given .0 .0))
+returns c = rw (c .before .before .a .given .1) (subst (Packs _) (same (c .before .before .a .given .0 .0)) (c .of-outcome .ensures))
 
 returns-2 : tie.Need-returns-2
-returns-2 c = rw (c .before .a2 .given .1) (omega arith)
+returns-2 c = rw (c .before .a2 .given .1) (record { number = omega arith; value = omega arith })
 
 pub of-answer-spec : {M : Type 1} → statement M
 of-answer-spec =

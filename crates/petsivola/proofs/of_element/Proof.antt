@@ -20,10 +20,10 @@ mul-result : tie.Need-mul-result
 mul-result c = search needs
 
 returns : tie.Need-returns
-returns c = rw (c .before .e .given .1) (omega arith)
+returns c = rw (c .before .e .given .1) (record { number = omega arith; value = omega arith })
 
 returns-2 : tie.Need-returns-2
-returns-2 c = rw (c .before .e2 .given .1) (omega arith)
+returns-2 c = rw (c .before .e2 .given .1) (record { number = omega arith; value = omega arith })
 
 pub of-element-spec : {M : Type 1} → statement M
 of-element-spec =

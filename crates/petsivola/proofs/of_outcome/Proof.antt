@@ -20,10 +20,10 @@ add-result : tie.Need-add-result
 add-result c = search needs
 
 returns : tie.Need-returns
-returns c = rw (c .before .o .given .1) (omega arith)
+returns c = rw (c .before .o .given .1) (record { number = omega arith; value = omega arith })
 
 returns-2 : tie.Need-returns-2
-returns-2 c = rw (c .before .o2 .given .1) (omega arith)
+returns-2 c = rw (c .before .o2 .given .1) (record { number = omega arith; value = omega arith })
 
 pub of-outcome-spec : {M : Type 1} → statement M
 of-outcome-spec =

@@ -20,10 +20,12 @@ mul-result : tie.Need-mul-result
 mul-result c = search needs
 
 returns : tie.Need-returns
-returns c = rw (c .before .w .given .1) (omega arith)
+returns c =
+    let h = rw (c .before .w .given .1) at (c .before .before .before .pre) in
+    rw (c .before .w .given .1) (record { number = omega (arith, h); value = omega (arith, h) })
 
 returns-2 : tie.Need-returns-2
-returns-2 c = rw (c .before .w2 .given .1) (omega arith)
+returns-2 c = rw (c .before .w2 .given .1) (record { number = omega arith; value = omega arith })
 
 pub of-written-spec : {M : Type 1} → statement M
 of-written-spec =

@@ -1,6 +1,6 @@
 -- The reply of the call, packed, and what it promises of the three buffers.
-use mathlib.Core.Path.{ap, _∙_}
-use Rattle.petsivola.specs.Packed.{packed}
+use mathlib.Core.Path.{subst}
+use Rattle.petsivola.specs.Packed.{Packs}
 use borrow.Author.Needs.{needs}
 use Rattle.petsivola.proofs.petsivola_decode.Statement.{statement}
 use Rattle.petsivola.proofs.petsivola_decode.Tie as tie
@@ -23,7 +23,7 @@ same-length-3 c = search needs
 returns : tie.Need-returns
 returns c =
     let D = c .before .before .before .before .before .before .before .decode .ensures in
-    (c .of-answer .ensures ∙ ap packed (D .replies), (D .symbols-then, (D .costs-then, D .store-then)))
+    (subst (Packs _) (D .replies) (c .of-answer .ensures), (D .symbols-then, (D .costs-then, D .store-then)))
 
 pub petsivola-decode-spec : {M : Type 1} → statement M
 petsivola-decode-spec =

@@ -1,9 +1,9 @@
 -- The reply of the call, packed; what it writes is short enough for the lower half.
-use mathlib.Core.Path.{ap, _∙_}
+use mathlib.Core.Path.{subst}
 use native.Mathlib.Omega.{arith}
 use native.Mathlib.Nat.{le-trans}
 use Rattle.checknode.proofs.Values.{expand-short}
-use Rattle.petsivola.specs.Packed.{packed}
+use Rattle.petsivola.specs.Packed.{Packs}
 use borrow.Author.Needs.{needs}
 use Rattle.petsivola.proofs.petsivola_expand.Statement.{statement}
 use Rattle.petsivola.proofs.petsivola_expand.Tie as tie
@@ -20,7 +20,7 @@ same-length c = search needs
 returns : tie.Need-returns
 returns c =
     let at-call = c .before .before .before in
-    (c .of-written .ensures ∙ ap packed (at-call .expand .ensures .0), at-call .expand .ensures .1)
+    (subst (Packs _) (at-call .expand .ensures .0) (c .of-written .ensures), at-call .expand .ensures .1)
 
 pub petsivola-expand-spec : {M : Type 1} → statement M
 petsivola-expand-spec =

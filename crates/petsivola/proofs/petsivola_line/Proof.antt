@@ -1,7 +1,7 @@
 -- The reply of the call, packed; what it writes is short enough for the lower half.
-use mathlib.Core.Path.{ap, _∙_}
+use mathlib.Core.Path.{subst}
 use borrow.Author.Needs.{needs}
-use Rattle.petsivola.specs.Packed.{packed}
+use Rattle.petsivola.specs.Packed.{Packs}
 use Rattle.petsivola.proofs.Short.{line-short}
 use Rattle.petsivola.proofs.petsivola_line.Statement.{statement}
 use Rattle.petsivola.proofs.petsivola_line.Tie as tie
@@ -18,7 +18,7 @@ same-length c = search needs
 returns : tie.Need-returns
 returns c =
     let at-call = c .before .before .before in
-    (c .of-written .ensures ∙ ap packed (at-call .line .ensures .0), at-call .line .ensures .1)
+    (subst (Packs _) (at-call .line .ensures .0) (c .of-written .ensures), at-call .line .ensures .1)
 
 pub petsivola-line-spec : {M : Type 1} → statement M
 petsivola-line-spec = tie.close (tie.spec line-requires of-written-requires same-length returns)

@@ -1,6 +1,6 @@
 -- The reply of the call, packed.
-use mathlib.Core.Path.{ap, _∙_}
-use Rattle.petsivola.specs.Packed.{packed}
+use mathlib.Core.Path.{subst}
+use Rattle.petsivola.specs.Packed.{Packs}
 use borrow.Author.Needs.{needs}
 use Rattle.petsivola.proofs.petsivola_product.Statement.{statement}
 use Rattle.petsivola.proofs.petsivola_product.Tie as tie
@@ -12,7 +12,7 @@ of-element-requires : tie.Need-of-element-requires
 of-element-requires c κs = search needs
 
 returns : tie.Need-returns
-returns c = c .of-element .ensures ∙ ap packed (c .before .product .ensures)
+returns c = subst (Packs _) (c .before .product .ensures) (c .of-element .ensures)
 
 pub petsivola-product-spec : {M : Type 1} → statement M
 petsivola-product-spec = tie.close (tie.spec product-requires of-element-requires returns)
