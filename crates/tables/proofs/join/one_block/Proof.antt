@@ -49,7 +49,7 @@ loop-again c =
     let at-loop = at-four-of .before .before in
     let start = at-loop .before .before .before .before in
     let t = join-turn (start .args .greatest) (start .args .u .now) (start .args .s .now) 16 (start .args .e .now) (at-loop .loop .e) (at-loop .loop .b) (at-loop .loop .inv .0 .1) (at-loop .loop .inv .1 .1) _ _ _ (at-four-of .four-of .ensures)
-        (at-copy-at .copy-at .ensures .0) (omega arith) (at-four .four .ensures) in
+    (at-copy-at .copy-at .ensures .0) (omega arith) (at-four .four .ensures) in
     ((omega arith, omega arith), (omega (arith, ap length t, length-tab (joinAt (start .args .greatest) (start .args .u .now) (start .args .s .now) 16 (start .args .e .now) (at-loop .loop .b + 4)) 16), t))
 
 same-length : tie.Need-same-length Inv-loop μ-loop
