@@ -1,22 +1,25 @@
 -- Turns and ends of the loops over one column: the first zero, a weight's products.
-use mathlib.Core.Path.{_≡_, refl}
+use mathlib.Core.Path.{_≡_, refl, sym, ap, _∙_}
 use mathlib.Core.Bool.{cond}
 use mathlib.Core.Logic.{_≢_}
 use mathlib.Core.List.{List, [], _∷_, _++_, append-nil}
 use Prim.Native.Nat.{ℕ, zero, suc, _+_, _-_, _*_, _/_, _%_, _^_, _≤_, _<_}
+use native.Mathlib.Nat.{add-zero}
 use native.Mathlib.Numerals.{unary-clauses}
 use native.Mathlib.Omega.{arith}
 use lib.Bits.{bitXor}
 use lib.Dec.{eqb}
-use lib.ListN.{length, drop, getD, set}
+use lib.ListN.{length, take, drop, getD, set}
 use lib.Seq.{drop-cons, drop-length}
 use Rattle.trellis.specs.Lists.{tab}
 use Rattle.trellis.specs.Field.{xor, doubled, product}
 use Rattle.trellis.specs.Check.{firstZero}
 use Rattle.engine.specs.Terms.{bitsOf}
-use Rattle.trellis.proofs.Xor.{xor-right}
+use Rattle.trellis.proofs.Xor.{xor-assoc, xor-comm, xor-zero, xor-right}
+use Rattle.trellis.proofs.Recurrence.{product-zero, product-step}
 use Rattle.trellis.proofs.Loops.{tab-more, getD-tab}
 use Rattle.engine.proofs.Products.{bits-are}
+use Rattle.checknode.proofs.Transposing.{values-turn}
 
 -- a column has a multiple of four symbols
 pub four-divides : (p : ℕ) → 2 ≤ p → 2 ^ p % 4 ≡ 0
@@ -63,3 +66,63 @@ products-turn p h x l row i k n eb ec ed ee ef e o = rw (e, o, bits-are p h x i 
 
 pub column-term : (p h : ℕ) (costs : List ℕ) {row : List ℕ} {z : ℕ} → row ≡ tab (product p h) (2 ^ p) → z ≡ firstZero costs → firstZero costs < 2 ^ p → getD row z 0 ≡ product p h (firstZero costs)
 column-term p h costs e k l = rw (e, k) (getD-tab (product p h) (2 ^ p) (firstZero costs) l)
+
+-- four stores fill a row of four
+pub set-four : (l : List ℕ) (a b c d : ℕ) → length l ≡ 4 → set (set (set (set l 0 a) 1 b) 2 c) 3 d ≡ a ∷ b ∷ c ∷ d ∷ []
+set-four [] a b c d h = absurd (omega arith)
+set-four (x ∷ []) a b c d h = absurd (omega arith)
+set-four (x ∷ y ∷ []) a b c d h = absurd (omega arith)
+set-four (x ∷ y ∷ z ∷ []) a b c d h = absurd (omega arith)
+set-four (x ∷ y ∷ z ∷ w ∷ []) a b c d h = refl
+set-four (x ∷ y ∷ z ∷ w ∷ v ∷ l) a b c d h = absurd (omega arith)
+
+module _ (p h : ℕ) {b c : ℕ} (eb : b ≡ doubled p h) (ec : c ≡ doubled p b) where
+  -- a product by the two lowest bits of its symbol, and the others
+  product-two : (y : ℕ) → y < 2 ^ p
+      → product p h y ≡ xor (cond (eqb (y % 2) 1) h 0) (xor (cond (eqb (y / 2 % 2) 1) b 0) (product p c (y / 4)))
+  product-two y k =
+      let f : y / 2 / 2 ≡ y / 4 = omega arith in
+      rw (product-step p h y k, ← eb, product-step p b (y / 2) (omega arith), ← ec, f)
+
+  -- the first of each four products of a row of at most eight
+  base-is : (x : ℕ) {base : ℕ} → x % 4 ≡ 0 → x < 8 → x < 2 ^ p → base ≡ cond (eqb x 0) 0 c → base ≡ product p h x
+  base-is zero m l k e = e ∙ sym (product-zero p p h)
+  base-is (suc y) m l k e =
+      let f : suc y ≡ 4 = omega arith in
+      let o : 1 < 2 ^ p = omega arith in
+      let u : product p c 1 ≡ c = rw (product-step p c 1 o, product-zero p p (doubled p c)) (xor-right c) in
+      e ∙ sym (product-two (suc y) k ∙ rw (f, u, xor-zero c) (xor-zero c))
+
+  -- the others from the first
+  module _ (x : ℕ) (m : x % 4 ≡ 0) (k : x + 4 ≤ 2 ^ p) where
+    product-by : (r s : ℕ) → r < 2 → s < 2
+        → product p h (x + (2 * s + r)) ≡ xor (cond (eqb r 1) h 0) (xor (cond (eqb s 1) b 0) (product p c (x / 4)))
+    product-by r s u v =
+        let y : ℕ = x + (2 * s + r) in
+        let f : y % 2 ≡ r = omega arith in
+        let j : y / 2 ≡ 2 * (x / 4) + s = omega arith in
+        let g : y / 2 % 2 ≡ s = rw j (omega arith) in
+        let o : y / 4 ≡ x / 4 = omega arith in
+        rw (product-two y (omega arith), f, g, o)
+
+    four-products : {base : ℕ} → base ≡ product p h x
+        → base ∷ xor base h ∷ xor base b ∷ xor base (xor h b) ∷ [] ≡ tab (λ i. product p h (x + i)) 4
+    four-products {base} e =
+        let n : ℕ = product p c (x / 4) in
+        let low : 0 < 2 = omega arith in
+        let high : 1 < 2 = omega arith in
+        let p0 : product p h (x + 0) ≡ n = product-by 0 0 low low ∙ xor-zero (xor 0 n) ∙ xor-zero n in
+        let p1 : product p h (x + 1) ≡ xor n h = product-by 1 0 high low ∙ ap (xor h) (xor-zero n) ∙ xor-comm h n in
+        let p2 : product p h (x + 2) ≡ xor n b = product-by 0 1 low high ∙ xor-zero (xor b n) ∙ xor-comm b n in
+        let p3 : product p h (x + 3) ≡ xor n (xor h b) = product-by 1 1 high high ∙ sym (xor-assoc h b n) ∙ xor-comm (xor h b) n in
+        let first : base ≡ n = e ∙ ap (product p h) (sym (add-zero x)) ∙ p0 in
+        rw (first, p0, p1, p2, p3)
+
+-- four products more
+pub fours-turn : (p h x : ℕ) (l row : List ℕ) {b c base : ℕ} {r : List ℕ} → b ≡ doubled p h → c ≡ doubled p b → x % 4 ≡ 0 → x < 8
+    → x + 4 ≤ 2 ^ p → row ≡ tab (product p h) x ++ drop x l → base ≡ cond (eqb x 0) 0 c
+    → r ≡ base ∷ xor base h ∷ xor base b ∷ xor base (xor h b) ∷ []
+    → take x row ++ (r ++ drop (x + 4 - x) (drop x row)) ≡ tab (product p h) (x + 4) ++ drop (x + 4) l
+fours-turn p h x l row eb ec m i k e o s =
+    let first = base-is p h eb ec x m i (omega arith) o in
+    values-turn (product p h) l row x 4 (x + 4) refl e (s ∙ four-products p h eb ec x m k first)

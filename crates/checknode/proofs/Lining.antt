@@ -1,20 +1,20 @@
 -- Turns and ends of the loops that make the lines.
 use mathlib.Core.Path.{_≡_, refl, ap, _∙_, sym}
 use mathlib.Core.List.{List, _++_}
-use Prim.Native.Nat.{ℕ, zero, suc, _+_, _-_, _*_, _^_, _≤_, _<_}
+use Prim.Native.Nat.{ℕ, zero, suc, _+_, _-_, _*_, _^_, _≤_, _<_, min}
 use native.Mathlib.Nat.{add-zero, add-suc, add-sub-cancel-left, suc-mul, mul-le-mul-right}
 use native.Mathlib.Omega.{arith}
 use lib.Bits.{bitXor, xor-lt}
-use lib.ListN.{length, take, drop, getD, set, length-take, length-drop, length-set}
-use lib.Seq.{getD-take, getD-drop}
-use Rattle.trellis.specs.Lists.{tab, part, upto, blocks}
+use lib.ListN.{length, take, drop, getD, set, replicate, length-take, length-drop, length-set, length-replicate, getD-replicate}
+use lib.Seq.{getD-take, getD-drop, drop-at, ext-getD}
+use Rattle.trellis.specs.Lists.{tab, part, blocks}
 use Rattle.trellis.specs.Field.{xor, product}
 use Rattle.trellis.specs.Check.{firstZero}
 use Rattle.trellis.specs.Ready.{Ready}
 use Rattle.engine.specs.Lines.{placed}
 use Rattle.checknode.specs.Asks.{Times}
 use Rattle.checknode.specs.Lines.{PlaceRoom, LinesRoom, rowOf, restsFrom, restsOf, sentFrom, sentColumn, SendRoom, SendsRoom}
-use Rattle.trellis.proofs.Loops.{length-tab, getD-tab, tab-more, block-more}
+use Rattle.trellis.proofs.Loops.{length-tab, getD-tab, tab-more, length-even, block-more}
 use Rattle.checknode.proofs.Filling.{column-term}
 use Rattle.checknode.proofs.Turns.{part-is}
 
@@ -56,6 +56,21 @@ pub line-done : (p h : ℕ) (costs : List ℕ) (l : ℕ) {row line o : List ℕ}
     → line ≡ tab (λ a. 0) l → o ≡ placed costs row (getD row z 0) (length costs) line → o ≡ restsFrom p h costs l
 line-done p h costs l e k u o c s = rw (s, c, column-term p h costs e k u, o, e) refl
 
+-- fresh room is cleared, and so is each part of cleared room
+pub cleared-room : (n : ℕ) → replicate n 0 ≡ tab (λ a. 0) (length {A = ℕ} (replicate n 0))
+cleared-room n =
+    let e : length {A = ℕ} (replicate n 0) ≡ n = length-replicate n 0 in
+    rw e
+    (ext-getD 0 (replicate n 0) (tab (λ a. 0) n) (e ∙ sym (length-tab _ n)) (λ i h.
+    getD-replicate n i 0 0 (omega arith) ∙ sym (getD-tab (λ a. 0) n i (omega arith))))
+
+pub cleared-part : (l : List ℕ) (a n : ℕ) → l ≡ tab (λ a. 0) (length l) → part l a n ≡ tab (λ a. 0) (length (part l a n))
+cleared-part l a n e =
+    let k : length (part l a n) ≡ min n (length l - a) = simp (length-take, length-drop) in
+    ext-getD 0 (part l a n) (tab (λ a. 0) (length (part l a n))) (sym (length-tab _ (length (part l a n)))) (λ i h.
+    getD-take n (drop a l) i 0 (omega arith) ∙ getD-drop a l i 0 ∙ ap (λ y. getD y (a + i) 0) e
+    ∙ getD-tab (λ a. 0) (length l) (a + i) (omega arith) ∙ sym (getD-tab (λ a. 0) (length (part l a n)) i h))
+
 -- each column's part of the room
 pub row-full : (p : ℕ) (ws : List ℕ) (n : ℕ) → length (rowOf p ws n) ≡ 2 ^ p
 row-full p ws n = length-tab _ (2 ^ p)
@@ -71,6 +86,16 @@ lines-room p l ws cs rows lines out D R n h w e =
     let c : length cs ≡ length ws * w = D .count ∙ ap (λ k. length ws * k) (sym e) in
     let r : length rows ≡ length ws * w = R .of-rows ∙ ap (λ k. length ws * k) (sym e) in
     (omega arith, omega arith, omega (arith, R .of-lines), omega (arith, R .of-out))
+
+-- the lines that are not yet reached are as they were
+pub line-cleared : (p : ℕ) (ws cs : List ℕ) (l n : ℕ) (lines₀ lines : List ℕ) → lines₀ ≡ tab (λ a. 0) (length lines₀)
+    → lines ≡ blocks (restsOf p ws cs l) n ++ drop (n * l) lines₀
+    → part lines (n * l) (n * l + l - n * l) ≡ tab (λ a. 0) (length (part lines (n * l) (n * l + l - n * l)))
+line-cleared p ws cs l n lines₀ lines z e =
+    let f = restsOf p ws cs l in
+    let s : length (blocks f n) ≡ n * l = length-even f l (rests-full p ws cs l) n in
+    let d : drop (n * l) lines ≡ drop (n * l) lines₀ = ap (drop (n * l)) e ∙ drop-at (blocks f n) (drop (n * l) lines₀) (n * l) s in
+    rw d (cleared-part lines₀ (n * l) (n * l + l - n * l) z)
 
 -- a turn of the loop over the columns
 pub rows-turn : (p : ℕ) (ws : List ℕ) (n w : ℕ) (rows₀ rows : List ℕ) {r : List ℕ} → w ≡ 2 ^ p → rows ≡ blocks (rowOf p ws) n ++ drop (n * 2 ^ p) rows₀ → r ≡ tab (product p (getD ws n 0)) (2 ^ p)

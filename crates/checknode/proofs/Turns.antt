@@ -1,10 +1,9 @@
 -- One turn of the loop over the columns.
 use mathlib.Core.Path.{_≡_, ap, _∙_}
 use mathlib.Core.List.{List, _++_}
-use Prim.Native.Nat.{ℕ, _+_, _*_, _^_, _≤_, _<_, _-_}
-use native.Mathlib.Nat.{suc-mul, mul-le-mul-right, add-sub-cancel-left}
+use Prim.Native.Nat.{ℕ, _+_, _*_, _^_, _<_, _-_}
+use native.Mathlib.Nat.{add-sub-cancel-left}
 use native.Mathlib.Numerals.{add-one}
-use native.Mathlib.Omega.{arith}
 use lib.Bits.{bitXor}
 use lib.ListN.{length, take, drop, getD, set}
 use Rattle.trellis.specs.Lists.{tab}
@@ -29,9 +28,6 @@ module _ (p : ℕ) (ws cs : List ℕ) (D : Ready p ws cs) (n : ℕ) (h : n < len
 
   pub part-is : (w : ℕ) → w ≡ 2 ^ p → take (n * w + w - n * w) (drop (n * w) cs) ≡ costsAt (2 ^ p) cs n
   part-is w e = rw (add-sub-cancel-left (n * w) w, e)
-
-  pub part-room : (w : ℕ) → w ≡ 2 ^ p → n * w + w ≤ length cs
-  part-room w e = rw (e, D .count, ← suc-mul n (2 ^ p)) (mul-le-mul-right (2 ^ p) h)
 
   pub term-turn : (w : ℕ) {s : ℕ} → w ≡ 2 ^ p → s ≡ product p (getD ws n 0) (firstZero (take (n * w + w - n * w) (drop (n * w) cs))) → s ≡ termOf p ws cs n
   term-turn w e o = o ∙ ap (λ l. product p (getD ws n 0) (firstZero l)) (part-is w e)

@@ -28,12 +28,13 @@ restsFrom p h costs l = placed costs (tab (product p h) (2 ^ p)) (product p h (f
 abbrev pub restsOf : ℕ → List ℕ → List ℕ → ℕ → ℕ → List ℕ
 restsOf p ws cs l n = restsFrom p (getD ws n 0) (costsAt (2 ^ p) cs n) l
 
--- room for the products and lines of d columns
+-- room for the products and lines of d columns, that for the lines cleared
 pub record LinesRoom (p l d : ℕ) (rows lines out : List ℕ) : Type 0 where
   pub wide : 2 ^ p ≤ l
   pub narrow : l ≤ 64
   pub of-rows : length rows ≡ d * 2 ^ p
   pub of-lines : length lines ≡ d * l
+  pub cleared : lines ≡ tab (λ a. 0) (length lines)
   pub of-out : length out ≡ d
 
 -- what symbol x is sent: what stands in its row, its product moved by the shift s

@@ -15,16 +15,6 @@ ghost use Rattle.engine.specs.Lines.{placed};
 ghost use Rattle.checknode.specs.Asks.{Times, TableFor};
 ghost use Rattle.checknode.specs.Lines.{PlaceRoom, restsFrom, restsOf, rowOf, LinesRoom};
 
-fn clear(line: &mut [u8])
-    ensures { λ _. ⌜ now (line .exit) ≡ tab (λ a. 0) (length (now (line .entry))) ⌝ }
-{
-    let mut a = 0;
-    while a < line.len() {
-        line[a] = 0;
-        a += 1;
-    }
-}
-
 // The row of a symbol, from its product.
 fn row_of(product: u8, s: u8) -> usize
     ensures { λ r. ⌜ (r ≡ xor product s) × (r < 256) ⌝ }
@@ -90,11 +80,13 @@ fn first_zero(costs: &[u8]) -> usize
     }
 }
 
-// One column: its weight's products, and its line. Answers h times z.
+// One column: its weight's products, and its line. Answers h times z. The line comes cleared: its rows from q on hold no choice, and to
+// clear each line here, where fresh room is zeros already, would be a call for each column.
 fn column(p: u8, h: u8, costs: &[u8], table: &[u8], row: &mut [u8], line: &mut [u8]) -> u8
     requires { ⌜ Times p h ⌝ }
     requires { ⌜ TableFor p (now table) ⌝ }
     requires { ⌜ (length (now row) ≡ 2 ^ p) × ((2 ^ p ≤ length (now line)) × ((length (now costs) ≡ 2 ^ p) × (firstZero (now costs) < 2 ^ p))) ⌝ }
+    requires { ⌜ now line ≡ tab (λ a. 0) (length (now line)) ⌝ }
     ensures { λ r. ⌜ r ≡ product p h (firstZero (now (costs .entry))) ⌝ }
     ensures { λ _. ⌜ now (row .exit) ≡ tab (product p h) (2 ^ p) ⌝ }
     ensures { λ _. ⌜ now (line .exit) ≡ restsFrom p h (now (costs .entry)) (length (now (line .entry))) ⌝ }
@@ -102,7 +94,6 @@ fn column(p: u8, h: u8, costs: &[u8], table: &[u8], row: &mut [u8], line: &mut [
     products::fill(p, h, table, row);
     let z = first_zero(costs);
     let s = row[z];
-    clear(line);
     place(costs, row, s, line);
     s
 }

@@ -4,11 +4,11 @@ use crate::table;
 ghost use mathlib.Core.Path.{_≡_};
 ghost use mathlib.Core.Bool.{cond};
 ghost use mathlib.Core.List.{[], _∷_};
-ghost use Prim.Native.Nat.{_%_, _^_};
+ghost use Prim.Native.Nat.{_%_, _^_, _≤_};
 ghost use lib.Dec.{eqb};
 ghost use lib.ListN.{length};
 ghost use Rattle.trellis.specs.Lists.{tab};
-ghost use Rattle.trellis.specs.Field.{product};
+ghost use Rattle.trellis.specs.Field.{xor, product};
 ghost use Rattle.engine.specs.Terms.{bitsOf};
 ghost use Rattle.checknode.specs.Asks.{Times, TableFor};
 
@@ -45,7 +45,37 @@ fn by_bits(p: u8, h: u8, row: &mut [u8])
     }
 }
 
-// From the table where it is at hand, else from the bits.
+// The products of x to x + 3 from that of x, a multiple of four: the two lowest bits add h and b, which is h doubled.
+fn put_four(base: u8, h: u8, b: u8, row: &mut [u8])
+    requires { ⌜ length (now row) ≡ 4 ⌝ }
+    ensures { λ _. ⌜ now (row .exit) ≡ base ∷ xor base h ∷ xor base b ∷ xor base (xor h b) ∷ [] ⌝ }
+{
+    row[0] = base;
+    row[1] = base ^ h;
+    row[2] = base ^ b;
+    row[3] = base ^ (h ^ b);
+}
+
+// A row of four or eight products, filled by fours and without a step for each bit of each symbol. The second four begins with c, the
+// product of 4.
+fn by_fours(p: u8, h: u8, row: &mut [u8])
+    requires { ⌜ Times p h ⌝ }
+    requires { ⌜ (length (now row) ≡ 2 ^ p) × (length (now row) ≤ 8) ⌝ }
+    ensures { λ _. ⌜ now (row .exit) ≡ tab (product p h) (2 ^ p) ⌝ }
+{
+    let b = field::double(p, h);
+    let c = field::double(p, b);
+    let mut x = 0;
+    let mut base: u8 = 0;
+    while x < row.len() {
+        let e = x + 4;
+        put_four(base, h, b, &mut row[x..e]);
+        base = c;
+        x = e;
+    }
+}
+
+// From the table where it is at hand, a short row by fours, any other from the bits.
 pub fn fill(p: u8, h: u8, table: &[u8], row: &mut [u8])
     requires { ⌜ Times p h ⌝ }
     requires { ⌜ TableFor p (now table) ⌝ }
@@ -54,6 +84,10 @@ pub fn fill(p: u8, h: u8, table: &[u8], row: &mut [u8])
 {
     if table.len() == 4096 {
         table::row_from(table, h, row);
+        return;
+    }
+    if row.len() <= 8 {
+        by_fours(p, h, row);
         return;
     }
     by_bits(p, h, row);

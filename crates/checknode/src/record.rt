@@ -10,7 +10,7 @@ ghost use mathlib.Core.Path.{_≡_};
 ghost use mathlib.Core.Bool.{false};
 ghost use Prim.Native.Nat.{_-_, _*_, _^_, _≤_, max};
 ghost use lib.ListN.{length};
-ghost use Rattle.trellis.specs.Lists.{blocks};
+ghost use Rattle.trellis.specs.Lists.{tab, blocks};
 ghost use Rattle.trellis.specs.Check.{allSent};
 ghost use Rattle.trellis.specs.Record.{recordOf, recordLength};
 ghost use Rattle.trellis.specs.Rules.{ruleFor, columnsOf};
@@ -36,7 +36,7 @@ fn side(w: usize) -> usize
     if w < 16 { 16 } else { w }
 }
 
-// Products, rests of the sent costs and shifts, in room of the caller's.
+// Products, rests of the sent costs and shifts, in room of the caller's; that for the lines comes cleared.
 fn rests_with(
     p: u8,
     weights: &[u8],
@@ -50,6 +50,7 @@ fn rests_with(
     requires { ⌜ Ready p (now weights) (now costs) ⌝ }
     requires { ⌜ TableFor p (now table) ⌝ }
     requires { ⌜ RestsRoom p (length (now weights)) (now rows) (now rests) (now shifts) × (length (now weights) * max 16 (2 ^ p) ≤ length (now lines)) ⌝ }
+    requires { ⌜ now lines ≡ tab (λ a. 0) (length (now lines)) ⌝ }
     ensures { λ _. ⌜ now (rows .exit) ≡ blocks (rowOf p (now (weights .entry))) (length (now (weights .entry))) ⌝ }
     ensures { λ _. ⌜ Rests p (now (weights .entry)) (now (costs .entry)) (now (rests .exit)) ⌝ }
     ensures { λ _. ⌜ now (shifts .exit) ≡ shiftsOf p (now (weights .entry)) (now (costs .entry)) ⌝ }

@@ -11,8 +11,8 @@ use Rattle.engine.specs.Terms.{termOf, sumTo}
 use Rattle.checknode.specs.Lines.{rowOf, restsOf}
 use Rattle.trellis.proofs.Loops.{tab-whole, block-end}
 use Rattle.trellis.proofs.Ready.{costs-length}
-use Rattle.checknode.proofs.Turns.{ready-times, part-is, part-room, term-turn, out-turn, sum-turn}
-use Rattle.checknode.proofs.Lining.{row-full, rests-full, lines-room, rows-turn, lines-turn}
+use Rattle.checknode.proofs.Turns.{ready-times, part-is, term-turn, out-turn, sum-turn}
+use Rattle.checknode.proofs.Lining.{row-full, rests-full, lines-room, line-cleared, rows-turn, lines-turn}
 use Rattle.checknode.proofs.lines.lines.Statement.{statement}
 use Rattle.checknode.proofs.lines.lines.Tie as tie
 
@@ -134,16 +134,25 @@ column-requires c κs =
     let start = at-loop .before .before .before .before .before .before .before .before .before in
     let b = lines-room (start .args .p) (start .args .l) (start .args .weights .now) (start .args .costs .now) (start .args .rows .now) (start .args .lines .now) (start .args .out .now) (start .pre .0) (start .pre .1 .1) (at-loop .loop .n) (omega arith) (at-loop .before .index .result) (at-loop .before .index .ensures .0 ∙ at-loop .before .before .size .ensures .0) in
     let e : at-loop .before .index .result ≡ 2 ^ start .args .p = at-loop .before .index .ensures .0 ∙ at-loop .before .before .size .ensures .0 in
-    let q = part-is (start .args .p) (start .args .weights .now) (start .args .costs .now) (start .pre .0) (at-loop .loop .n) (omega arith) _ e in (
+    let a = start .args in
+    let n = at-loop .loop .n in
+    let q = part-is (a .p) (a .weights .now) (a .costs .now) (start .pre .0) n (omega arith) _ e in (
       ready-times (start .args .p) (start .args .weights .now) (start .args .costs .now) (start .pre .0) (at-loop .loop .n) (omega arith),
       (
         start .pre .1 .0,
         (
-          simp (length-take, length-drop) (omega (arith, b .1, e, at-loop .loop .inv .1 .0 .0)),
           (
-            simp (length-take, length-drop) (omega (arith, b .2, at-loop .loop .inv .1 .0 .1 .0, start .pre .1 .1 .wide)),
-            (ap length q ∙ costs-length (start .args .p) (start .args .weights .now) (start .args .costs .now) (start .pre .0) (at-loop .loop .n) (omega arith), rw q (start .pre .0 .zeros (at-loop .loop .n) (omega arith))),
+            simp (length-take, length-drop) (omega (arith, b .1, e, at-loop .loop .inv .1 .0 .0)),
+            (
+              simp (length-take, length-drop) (omega (arith, b .2, at-loop .loop .inv .1 .0 .1 .0, start .pre .1 .1 .wide)),
+              (
+                ap length q ∙ costs-length (a .p) (a .weights .now) (a .costs .now) (start .pre .0) n (omega arith),
+                rw q (start .pre .0 .zeros n (omega arith)),
+              ),
+            ),
           ),
+          line-cleared (a .p) (a .weights .now) (a .costs .now) (a .l) n (a .lines .now) (at-loop .loop .lines) (start .pre .1 .1 .cleared)
+              (at-loop .loop .inv .1 .1 .1 .0),
         ),
       ),
     )

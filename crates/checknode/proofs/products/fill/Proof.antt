@@ -1,4 +1,4 @@
--- From the table or from the bits: both leave the products.
+-- From the table, by fours or from the bits: each leaves the products.
 use mathlib.Core.Path.{_≡_, ap}
 use Prim.Native.Nat.{_^_}
 use native.Mathlib.Omega.{arith}
@@ -22,8 +22,8 @@ returns c =
     let start = at-row-from .before .before .before .before .before in
     rw (start .pre .1 .0 (at-row-from .before .before .if1 .taken) .0) (at-row-from .row-from .ensures)
 
-by-bits-requires : tie.Need-by-bits-requires
-by-bits-requires c κs = search needs
+by-fours-requires : tie.Need-by-fours-requires
+by-fours-requires c κs = search needs
 
 same-length-2 : tie.Need-same-length-2
 same-length-2 c = search needs
@@ -31,5 +31,25 @@ same-length-2 c = search needs
 returns-2 : tie.Need-returns-2
 returns-2 c = search needs
 
+by-bits-requires : tie.Need-by-bits-requires
+by-bits-requires c κs = search needs
+
+same-length-3 : tie.Need-same-length-3
+same-length-3 c = search needs
+
+returns-3 : tie.Need-returns-3
+returns-3 c = search needs
+
 pub fill-spec : {M : Type 1} → statement M
-fill-spec = tie.close (tie.spec row-from-requires same-length returns by-bits-requires same-length-2 returns-2)
+fill-spec =
+    tie.close
+    (tie.spec
+    row-from-requires
+    same-length
+    returns
+    by-fours-requires
+    same-length-2
+    returns-2
+    by-bits-requires
+    same-length-3
+    returns-3)

@@ -1,10 +1,7 @@
--- The room is enough for thirty-two columns.
-use mathlib.Core.Path.{_≡_, refl, sym, ap, _∙_}
-use Prim.Native.Nat.{_+_, _-_, _*_, _^_, _≤_, _<_, max}
+-- The room is enough for thirty-two columns, and fresh arrays are zeros.
 use native.Mathlib.Omega.{arith}
-use lib.Pow.{pow-mono}
-use lib.ListN.{length, take, drop, length-take, length-drop, length-append}
-use lib.Seq.{take-at}
+use lib.ListN.{length}
+use Rattle.checknode.proofs.Lining.{cleared-room}
 use Rattle.checknode.proofs.Resting.{room-small, room-large}
 use borrow.Author.Needs.{needs}
 use Rattle.checknode.proofs.record.rests_in.Statement.{statement}
@@ -16,7 +13,19 @@ slice-aggregate-rests-with c = search needs
 rests-with-requires : tie.Need-rests-with-requires
 rests-with-requires c κs =
     let start = c .before .before .before .before .before .before .before .before .before .before in
-    (start .pre .0, ((λ h. absurd (omega (arith, h, start .pre .0 .few))), (record { of-rows = start .pre .1 .of-rows; of-rests = start .pre .1 .of-rests; of-shifts = start .pre .1 .of-shifts }, room-small (start .args .p) (length (start .args .weights .now)) (omega arith) (start .pre .0 .few) .1)))
+    let a = start .args in (
+      start .pre .0,
+      (
+        λ h. absurd (omega (arith, h, start .pre .0 .few)),
+        (
+          (
+            record { of-rows = start .pre .1 .of-rows; of-rests = start .pre .1 .of-rests; of-shifts = start .pre .1 .of-shifts },
+            room-small (a .p) (length (a .weights .now)) (omega arith) (start .pre .0 .few) .1,
+          ),
+          cleared-room 512,
+        ),
+      ),
+    )
 
 same-length : tie.Need-same-length
 same-length c = search needs
@@ -45,7 +54,21 @@ slice-aggregate-rests-with-3 c = search needs
 rests-with-requires-2 : tie.Need-rests-with-requires-2
 rests-with-requires-2 c κs =
     let start = c .before .before .before .before .before .before .before .before .before .before .before .before .before .before in
-    (start .pre .0, ((λ h. (c .before .before .before .before .before .before .before .taken .ensures (c .before .before .before .before .before .before .if2 .taken), c .before .before .before .before .before .products .ensures)), (record { of-rows = start .pre .1 .of-rows; of-rests = start .pre .1 .of-rests; of-shifts = start .pre .1 .of-shifts }, room-large (start .args .p) (length (start .args .weights .now)) (start .pre .0 .high) (start .pre .0 .few) .1)))
+    let a = start .args in
+    let at-products = c .before .before .before .before .before in
+    let at-taken = at-products .before .before in (
+      start .pre .0,
+      (
+        λ h. (at-taken .taken .ensures (at-products .before .if2 .taken), at-products .products .ensures),
+        (
+          (
+            record { of-rows = start .pre .1 .of-rows; of-rests = start .pre .1 .of-rests; of-shifts = start .pre .1 .of-shifts },
+            room-large (a .p) (length (a .weights .now)) (start .pre .0 .high) (start .pre .0 .few) .1,
+          ),
+          cleared-room 2048,
+        ),
+      ),
+    )
 
 same-length-4 : tie.Need-same-length-4
 same-length-4 c = search needs
@@ -65,7 +88,19 @@ slice-aggregate-rests-with-4 c = search needs
 rests-with-requires-3 : tie.Need-rests-with-requires-3
 rests-with-requires-3 c κs =
     let start = c .before .before .before .before .before .before .before .before .before .before .before .before in
-    (start .pre .0, ((λ h. absurd (omega (arith, h, start .pre .0 .few))), (record { of-rows = start .pre .1 .of-rows; of-rests = start .pre .1 .of-rests; of-shifts = start .pre .1 .of-shifts }, room-large (start .args .p) (length (start .args .weights .now)) (start .pre .0 .high) (start .pre .0 .few) .1)))
+    let a = start .args in (
+      start .pre .0,
+      (
+        λ h. absurd (omega (arith, h, start .pre .0 .few)),
+        (
+          (
+            record { of-rows = start .pre .1 .of-rows; of-rests = start .pre .1 .of-rests; of-shifts = start .pre .1 .of-shifts },
+            room-large (a .p) (length (a .weights .now)) (start .pre .0 .high) (start .pre .0 .few) .1,
+          ),
+          cleared-room 2048,
+        ),
+      ),
+    )
 
 same-length-7 : tie.Need-same-length-7
 same-length-7 c = search needs

@@ -1,12 +1,13 @@
 -- The lines, the shifts, and what the tables make of the lines.
-use mathlib.Core.Path.{_≡_, refl, sym, ap, _∙_}
-use Prim.Native.Nat.{_+_, _-_, _*_, _^_, _≤_, _<_, max}
+use mathlib.Core.Path.{_≡_, ap, _∙_}
+use Prim.Native.Nat.{_*_, _≤_, max}
 use native.Mathlib.Omega.{arith}
 use lib.Pow.{pow-mono}
-use lib.ListN.{length, take, drop, length-take, length-drop, length-append}
+use lib.ListN.{length, take, drop, length-take, length-append}
 use lib.Seq.{take-at}
 use Rattle.checknode.specs.Lines.{restsOf, sideOf}
 use Rattle.trellis.specs.Lists.{blocks}
+use Rattle.checknode.proofs.Lining.{cleared-part}
 use Rattle.checknode.proofs.Resting.{rests-law, shifts-law, sent-same}
 use borrow.Author.Needs.{needs}
 use Rattle.checknode.proofs.record.rests_with.Statement.{statement}
@@ -26,7 +27,8 @@ mul-n c =
     let at-side = c in
     let start = at-side .before .before .before .before .before .before .before .before .before .before in
     let e : at-side .side .result ≡ sideOf (start .args .p) = at-side .side .ensures ∙ ap (max 16) (at-side .before .index .ensures .0 ∙ at-side .before .before .size .ensures .0) in
-    let m : length (start .args .weights .now) * at-side .side .result ≤ length (start .args .lines .now) = rw e (start .pre .1 .1 .1) in
+    let m : length (start .args .weights .now) * at-side .side .result ≤ length (start .args .lines .now) =
+    rw e (start .pre .1 .1 .0 .1) in
     omega (arith, m)
 
 slice-relend-prefix-lines : tie.Need-slice-relend-prefix-lines
@@ -34,7 +36,8 @@ slice-relend-prefix-lines c =
     let at-side = c .before in
     let start = at-side .before .before .before .before .before .before .before .before .before .before in
     let e : at-side .side .result ≡ sideOf (start .args .p) = at-side .side .ensures ∙ ap (max 16) (at-side .before .index .ensures .0 ∙ at-side .before .before .size .ensures .0) in
-    let m : length (start .args .weights .now) * at-side .side .result ≤ length (start .args .lines .now) = rw e (start .pre .1 .1 .1) in
+    let m : length (start .args .weights .now) * at-side .side .result ≤ length (start .args .lines .now) =
+    rw e (start .pre .1 .1 .0 .1) in
     m
 
 slice-aggregate-lines : tie.Need-slice-aggregate-lines
@@ -42,7 +45,8 @@ slice-aggregate-lines c =
     let at-side = c .before .before in
     let start = at-side .before .before .before .before .before .before .before .before .before .before in
     let e : at-side .side .result ≡ sideOf (start .args .p) = at-side .side .ensures ∙ ap (max 16) (at-side .before .index .ensures .0 ∙ at-side .before .before .size .ensures .0) in
-    let m : length (start .args .weights .now) * at-side .side .result ≤ length (start .args .lines .now) = rw e (start .pre .1 .1 .1) in
+    let m : length (start .args .weights .now) * at-side .side .result ≤ length (start .args .lines .now) =
+    rw e (start .pre .1 .1 .0 .1) in
     simp length-take (omega (arith, m))
 
 lines-requires : tie.Need-lines-requires
@@ -50,16 +54,19 @@ lines-requires c κs =
     let at-side = c .before .before .before in
     let start = at-side .before .before .before .before .before .before .before .before .before .before in
     let e : at-side .side .result ≡ sideOf (start .args .p) = at-side .side .ensures ∙ ap (max 16) (at-side .before .index .ensures .0 ∙ at-side .before .before .size .ensures .0) in
-    let m : length (start .args .weights .now) * at-side .side .result ≤ length (start .args .lines .now) = rw e (start .pre .1 .1 .1) in (
+    let m : length (start .args .weights .now) * at-side .side .result ≤ length (start .args .lines .now) =
+    rw e (start .pre .1 .1 .0 .1) in
+    let a = start .args in (
       start .pre .0,
       (
         start .pre .1 .0,
         record {
           wide = omega (arith, e);
           narrow = omega (arith, e, pow-mono {i = start .args .p} {j = 6} (start .pre .0 .high));
-          of-rows = start .pre .1 .1 .0 .of-rows;
+          of-rows = start .pre .1 .1 .0 .0 .of-rows;
           of-lines = simp length-take (omega (arith, m));
-          of-out = start .pre .1 .1 .0 .of-shifts;
+          cleared = cleared-part (a .lines .now) 0 (length (a .weights .now) * at-side .side .result) (start .pre .1 .1 .1);
+          of-out = start .pre .1 .1 .0 .0 .of-shifts;
         },
       ),
     )
@@ -75,7 +82,8 @@ slice-reshare-prefix-sent c =
     let at-side = c .before .before .before .before .before .before .before .before .before .before .before .before .before .before .before in
     let start = at-side .before .before .before .before .before .before .before .before .before .before in
     let e : at-side .side .result ≡ sideOf (start .args .p) = at-side .side .ensures ∙ ap (max 16) (at-side .before .index .ensures .0 ∙ at-side .before .before .size .ensures .0) in
-    let m : length (start .args .weights .now) * at-side .side .result ≤ length (start .args .lines .now) = rw e (start .pre .1 .1 .1) in
+    let m : length (start .args .weights .now) * at-side .side .result ≤ length (start .args .lines .now) =
+    rw e (start .pre .1 .1 .0 .1) in
     let k : length (take (length (start .args .weights .now) * at-side .side .result) (start .args .lines .now)) ≡ length (start .args .weights .now) * at-side .side .result = simp length-take (omega (arith, m)) in
     simp length-append (omega (arith, m, k, c .before .before .before .before .before .before .before .before .before .before .before .lines .kept))
 
@@ -84,7 +92,8 @@ slice-aggregate-sent c =
     let at-side = c .before .before .before .before .before .before .before .before .before .before .before .before .before .before .before .before in
     let start = at-side .before .before .before .before .before .before .before .before .before .before in
     let e : at-side .side .result ≡ sideOf (start .args .p) = at-side .side .ensures ∙ ap (max 16) (at-side .before .index .ensures .0 ∙ at-side .before .before .size .ensures .0) in
-    let m : length (start .args .weights .now) * at-side .side .result ≤ length (start .args .lines .now) = rw e (start .pre .1 .1 .1) in
+    let m : length (start .args .weights .now) * at-side .side .result ≤ length (start .args .lines .now) =
+    rw e (start .pre .1 .1 .0 .1) in
     let k : length (take (length (start .args .weights .now) * at-side .side .result) (start .args .lines .now)) ≡ length (start .args .weights .now) * at-side .side .result = simp length-take (omega (arith, m)) in
     simp (length-take, length-append) (omega (arith, m, k, c .before .before .before .before .before .before .before .before .before .before .before .before .lines .kept))
 
@@ -108,16 +117,23 @@ returns c =
     let at-side = c .before .before .before .before .before .before .before .before .before .before .before .before .before .before .before .before .before .before .before .before in
     let start = at-side .before .before .before .before .before .before .before .before .before .before in
     let e : at-side .side .result ≡ sideOf (start .args .p) = at-side .side .ensures ∙ ap (max 16) (at-side .before .index .ensures .0 ∙ at-side .before .before .size .ensures .0) in
-    let m : length (start .args .weights .now) * at-side .side .result ≤ length (start .args .lines .now) = rw e (start .pre .1 .1 .1) in
+    let m : length (start .args .weights .now) * at-side .side .result ≤ length (start .args .lines .now) =
+    rw e (start .pre .1 .1 .0 .1) in
     let at-lines = c .before .before .before .before .before .before .before .before .before .before .before .before .before .before .before .before in
     let n = length (start .args .weights .now) * at-side .side .result in
-    let r = c .before .before .before .before .before in
+    let a = start .args in
+    let o = c .before .before .before .before .before .rule-of .ensures in
     let k : length (take (length (start .args .weights .now) * at-side .side .result) (start .args .lines .now)) ≡ length (start .args .weights .now) * at-side .side .result = simp length-take (omega (arith, m)) in
     let t = take-at (at-lines .lines .last .1 .1 .1 .1 .1 .1 .0) (drop n (start .args .lines .now)) n (omega (arith, k, at-lines .lines .kept)) in
     let g : length (at-lines .lines .last .1 .1 .1 .1 .1 .1 .0) ≡ length (start .args .weights .now) * sideOf (start .args .p) = omega (arith, k, at-lines .lines .kept, ap (λ y. length (start .args .weights .now) * y) e) in (
       at-lines .lines .ensures .1 .0,
       (
-        rests-law (start .args .p) (start .args .weights .now) (start .args .costs .now) (start .pre .0) (at-lines .lines .last .1 .1 .1 .1 .1 .1 .0) (start .args .rests .now) (at-lines .lines .ensures .1 .1 .0 ∙ ap (λ y. blocks (restsOf (start .args .p) (start .args .weights .now) (start .args .costs .now) y) (length (start .args .weights .now))) e) g (start .pre .1 .1 .0 .of-rests) (omega (arith, c .before .before .sent .kept, start .pre .1 .1 .0 .of-rests)) (c .before .before .sent .ensures ∙ sent-same (length (start .args .weights .now)) (start .args .rests .now) (r .rule-of .ensures .0) (r .rule-of .ensures .1 .0) (r .rule-of .ensures .1 .1) t),
+        rests-law (a .p) (a .weights .now) (a .costs .now) (start .pre .0) (at-lines .lines .last .1 .1 .1 .1 .1 .1 .0) (a .rests .now)
+            (at-lines .lines .ensures .1 .1 .0
+            ∙ ap (λ y. blocks (restsOf (a .p) (a .weights .now) (a .costs .now) y) (length (a .weights .now))) e)
+            g (start .pre .1 .1 .0 .0 .of-rests) (omega (arith, c .before .before .sent .kept, start .pre .1 .1 .0 .0 .of-rests))
+            (c .before .before .sent .ensures
+            ∙ sent-same (length (a .weights .now)) (a .rests .now) (o .0) (o .1 .0) (o .1 .1) t),
         shifts-law (start .args .p) (start .args .weights .now) (start .args .costs .now) (start .pre .0) (at-lines .lines .ensures .0) (at-lines .lines .ensures .1 .1 .1) (c .before .before .before .before .before .before .before .before .shift-all .ensures),
       ),
     )
