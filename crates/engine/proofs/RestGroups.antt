@@ -1,7 +1,7 @@
 -- The bytes of one a, listed from the rests of the costs sent, are those of the record.
 use mathlib.Core.Path.{_≡_, refl, sym, ap, ap₂, _∙_}
 use mathlib.Core.Bool.{Bool, true, false, cond}
-use mathlib.Core.List.{List, [], _∷_, _++_, append-assoc, Memᴰ·map, Memᴰ·of-map}
+use mathlib.Core.List.{List, [], _∷_, _++_, append-assoc}
 use Prim.Native.Nat.{ℕ, zero, suc, _+_, _-_, _*_, _≤_, _<_, min, max}
 use native.Mathlib.Nat.{zero-add, add-zero}
 use native.Mathlib.Decide.{ℕ-discrete}
@@ -11,12 +11,11 @@ use lib.ListN.{length, length-append}
 use borrow.Author.Tests.{lt-ltb, le-ltb}
 use native.Mathlib.Decide.{decLt}
 use Rattle.trellis.specs.Lists.{pick, blocks, each, keep, upTo}
-use Rattle.trellis.specs.Check.{Rule, Column, sentAt, extra, leastSent}
+use Rattle.trellis.specs.Check.{Rule, Column, sentAt, extra}
 use Rattle.trellis.specs.Record.{above, group}
 use Rattle.trellis.proofs.Places.{length-each}
 use Rattle.trellis.proofs.Loops.{blocks-ext, blocks-front, each-blocks}
-use Rattle.trellis.proofs.Lists.{in-upTo, of-upTo, smallest-in}
-use Rattle.trellis.proofs.Sent.{Proper, extra-is, extra-le, above-few}
+use Rattle.trellis.proofs.Sent.{Proper, extra-sent, extra-le, above-few}
 use Rattle.engine.specs.Rests.{mostTo}
 use Rattle.engine.specs.Groups.{pushed, listedColumn, listedRest, listedGroup}
 
@@ -120,17 +119,13 @@ module _ (R : Rule) (cs : List Column) (P : Proper R cs) (a : ℕ) (small : a < 
   abbrev E : ℕ
   E = mostTo S d
 
-  -- E is the least of the S_n, so its rest is the best of theirs. Only this law looks at what E is
+  -- E is the least of the S_n, so its rest is the best of theirs
   extra-most : extra R cs a ≡ 255 - E
-  unfolding leastSent
   extra-most =
-      let r = Memᴰ·of-map (λ n. sentAt R cs n a) (upTo d)
-      (smallest-in (Memᴰ·map (λ n. sentAt R cs n a) (in-upTo {n = d} {x = 0} (omega (arith, P .two))))) in
-      let n : ℕ = r .0 in
-      let l : n < d = of-upTo (r .1) in
-      let u = most-ge S d n l in
+      let r = extra-sent R cs P a small in
+      let u = most-ge S d (r .0) (r .1) in
       let v = most-le S d (255 - extra R cs a) (λ j h. omega (arith, S-is j h, extra-le R cs P a small j h)) in
-      omega (arith, u, v, S-is n l, r .2, bytes n l, extra-is R cs P a small)
+      omega (arith, u, v, S-is (r .0) (r .1), r .2, bytes (r .0) (r .1))
 
   same-test : (n : ℕ) → n < d → ltb (extra R cs a) (sentAt R cs n a) ≡ ltb (S n) E
   same-test n l =

@@ -122,6 +122,29 @@ pub whole-offset : Ends code-3 frame-6 found 2
 unfolding run go iteration update spread arriving outgoing incoming message settled symbols records sent leastCost choices xor recordOf shifts group above extra sentAt shift decided
 whole-offset = record { status = refl; iterations = refl; costs = refl; decisions = refl; store = refl }
 
+-- Checks of degree 2, one behind the other: each hands a column the other's costs
+abbrev code-4 : Code
+code-4 = record { p = 2; columns = 3; scale = 16; limit = 2; checks = (edge 0 1 ∷ edge 1 1 ∷ []) ∷ (edge 1 1 ∷ edge 2 3 ∷ []) ∷ [] }
+
+pub two-columns : Ends code-4 (0 ∷ 5 ∷ 7 ∷ 9 ∷ 4 ∷ 0 ∷ 8 ∷ 3 ∷ 6 ∷ 2 ∷ 0 ∷ 10 ∷ []) found 2
+    (5 ∷ 0 ∷ 20 ∷ 9 ∷ 5 ∷ 0 ∷ 20 ∷ 9 ∷ 5 ∷ 9 ∷ 0 ∷ 20 ∷ [])
+    (1 ∷ 1 ∷ 2 ∷ [])
+    (1 ∷ 0 ∷ 5 ∷ 0 ∷ 10 ∷ 255 ∷ 0 ∷ 5 ∷ 1 ∷ 7 ∷ 255 ∷ 0 ∷ 9 ∷ 0 ∷ 18 ∷ 255 ∷ 0 ∷ 1 ∷ 0 ∷ 1 ∷ 0 ∷ 6 ∷ 255 ∷ 0 ∷ 2 ∷ 1 ∷ 11 ∷ 255 ∷ 0 ∷ 8 ∷ 0 ∷ 10 ∷ 255 ∷ 0 ∷ [])
+unfolding run go iteration update spread arriving outgoing incoming message settled symbols records sent leastCost choices xor recordOf shifts group above extra sentAt shift decided
+two-columns = record { status = refl; iterations = refl; costs = refl; decisions = refl; store = refl }
+
+-- N = 2, the least that a check of two columns leaves room for
+abbrev line-2 : List ℕ
+line-2 = 2 ∷ 0 ∷ 2 ∷ 1 ∷ 16 ∷ 3 ∷ 2 ∷ 0 ∷ 0 ∷ 1 ∷ 0 ∷ 1 ∷ 1 ∷ []
+
+abbrev call-2 : After
+call-2 = decoding line-2 (0 ∷ 5 ∷ 7 ∷ 9 ∷ 4 ∷ 0 ∷ 8 ∷ 3 ∷ []) (replicate 3 7) (replicate 9 7) (replicate 18 7)
+
+pub least-code : (call-2 .reply ≡ foundIn 1) × ((call-2 .symbols ≡ 0 ∷ 0 ∷ 7 ∷ []) × ((call-2 .costs ≡ 0 ∷ 1 ∷ 11 ∷ 8 ∷ 0 ∷ 1 ∷ 11 ∷ 8 ∷ 7 ∷ [])
+    × (call-2 .store ≡ 1 ∷ 0 ∷ 4 ∷ 1 ∷ 5 ∷ 255 ∷ 0 ∷ 3 ∷ 1 ∷ 7 ∷ 255 ∷ 0 ∷ 8 ∷ 1 ∷ 9 ∷ 255 ∷ 0 ∷ 7 ∷ [])))
+unfolding decoding inBuffers parse checks checkAt edges readEdge frameFault place records run go iteration update spread arriving outgoing incoming message settled symbols sent leastCost choices xor recordOf shifts group above extra sentAt shift decided
+least-code = (refl, (refl, (refl, refl)))
+
 -- refusals, in their order
 pub record Case : Type 0 where
   pub code-bytes : List ℕ
@@ -147,7 +170,9 @@ table =
     case (2 ∷ 0 ∷ 3 ∷ 1 ∷ 17 ∷ 1 ∷ []) [] 0 0 0 8 ∷
     case (2 ∷ 0 ∷ 3 ∷ 1 ∷ 16 ∷ 0 ∷ []) [] 0 0 0 8 ∷
     case (2 ∷ 0 ∷ 3 ∷ 1 ∷ 16 ∷ 1 ∷ []) [] 0 0 0 5 ∷
-    case (2 ∷ 0 ∷ 3 ∷ 1 ∷ 16 ∷ 1 ∷ 2 ∷ []) [] 0 0 0 9 ∷
+    case (2 ∷ 0 ∷ 3 ∷ 1 ∷ 16 ∷ 1 ∷ 0 ∷ []) [] 0 0 0 9 ∷
+    case (2 ∷ 0 ∷ 3 ∷ 1 ∷ 16 ∷ 1 ∷ 1 ∷ []) [] 0 0 0 9 ∷
+    case (2 ∷ 0 ∷ 3 ∷ 1 ∷ 16 ∷ 1 ∷ 2 ∷ []) [] 0 0 0 5 ∷
     case (2 ∷ 0 ∷ 3 ∷ 1 ∷ 16 ∷ 1 ∷ 33 ∷ []) [] 0 0 0 9 ∷
     case (2 ∷ 0 ∷ 3 ∷ 1 ∷ 16 ∷ 1 ∷ 3 ∷ 0 ∷ 9 ∷ []) [] 0 0 0 5 ∷
     case (2 ∷ 0 ∷ 3 ∷ 1 ∷ 16 ∷ 1 ∷ 3 ∷ 0 ∷ 0 ∷ 4 ∷ 0 ∷ 0 ∷ 1 ∷ 0 ∷ 2 ∷ 1 ∷ []) [] 0 0 0 11 ∷
@@ -159,6 +184,9 @@ table =
     case line frame-0 3 11 0 3 ∷
     case line frame-0 3 12 17 4 ∷
     case line frame-0 3 12 18 0 ∷
+    case line-2 (replicate 8 0) 2 8 16 4 ∷
+    case line-2 (replicate 8 0) 2 8 17 0 ∷
+    case (2 ∷ 0 ∷ 1 ∷ 1 ∷ 16 ∷ 3 ∷ 2 ∷ 0 ∷ 0 ∷ 1 ∷ 0 ∷ 1 ∷ 1 ∷ []) [] 0 0 0 10 ∷
     []
 
 pub refusals : map answerTo table ≡ map (λ c. c .gives) table

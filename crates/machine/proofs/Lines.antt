@@ -92,7 +92,7 @@ edges-good (suc c) s at n q low es h =
         three (suc j) (suc k) a h = r .rising j k (omega arith) (omega arith)
 
 pub record GoodCheck (n q : ℕ) (es : List Edge) : Type 0 where
-  pub low : 3 ≤ length es
+  pub low : 2 ≤ length es
   pub high : length es ≤ 32
   pub each-edge : (k : ℕ) → k < length es → GoodEdge n q (edgeAt es k)
   pub rising : (j k : ℕ) → j < k → k < length es → edgeAt es j .column < edgeAt es k .column
@@ -101,9 +101,9 @@ check-good : (s : List ℕ) (at n q total : ℕ) (es : List Edge) → checkAt s 
 unfolding checkAt
 check-good s at n q total es h =
     let d : ℕ = getD s at 0 in
-    let a = passed ((leb (length s) at, 5) ∷ (ltb d 3, 9) ∷ (ltb 32 d, 9) ∷ (ltb 1024 (total + d), 9) ∷ (ltb (length s - (at + 1)) (3 * d), 5) ∷ []) _ es h in
+    let a = passed ((leb (length s) at, 5) ∷ (ltb d 2, 9) ∷ (ltb 32 d, 9) ∷ (ltb 1024 (total + d), 9) ∷ (ltb (length s - (at + 1)) (3 * d), 5) ∷ []) _ es h in
     let r = edges-good d s (at + 1) n q 0 es (a .1) in (
-      record { low = omega (arith, ltb-false d 3 (a .0 .1 .0), r .count); high = omega (arith, ltb-false 32 d (a .0 .1 .1 .0), r .count); each-edge = r .each-edge; rising = r .rising },
+      record { low = omega (arith, ltb-false d 2 (a .0 .1 .0), r .count); high = omega (arith, ltb-false 32 d (a .0 .1 .1 .0), r .count); each-edge = r .each-edge; rising = r .rising },
       omega (arith, ltb-false 1024 (total + d) (a .0 .1 .1 .1 .0), r .count),
     )
 
@@ -111,7 +111,7 @@ pub check-count : (s : List ℕ) (at n q total : ℕ) (es : List Edge) → check
 unfolding checkAt
 check-count s at n q total es h =
     let d : ℕ = getD s at 0 in
-    let a = passed ((leb (length s) at, 5) ∷ (ltb d 3, 9) ∷ (ltb 32 d, 9) ∷ (ltb 1024 (total + d), 9) ∷ (ltb (length s - (at + 1)) (3 * d), 5) ∷ []) _ es h in
+    let a = passed ((leb (length s) at, 5) ∷ (ltb d 2, 9) ∷ (ltb 32 d, 9) ∷ (ltb 1024 (total + d), 9) ∷ (ltb (length s - (at + 1)) (3 * d), 5) ∷ []) _ es h in
     edges-good d s (at + 1) n q 0 es (a .1) .count
 
 -- how many edges all checks have together

@@ -58,7 +58,7 @@ edges (suc c) s at n q low =
 unfoldable pub checkAt : List ℕ → ℕ → ℕ → ℕ → ℕ → Read (List Edge)
 checkAt s at n q total =
     pick (leb (length s) at) (bad 5)
-    (pick (ltb (getD s at 0) 3) (bad 9)
+    (pick (ltb (getD s at 0) 2) (bad 9)
     (pick (ltb 32 (getD s at 0)) (bad 9)
     (pick (ltb 1024 (total + getD s at 0)) (bad 9)
     (pick (ltb (length s - (at + 1)) (3 * getD s at 0)) (bad 5)

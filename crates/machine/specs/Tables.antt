@@ -25,7 +25,7 @@ edgesInto (suc c) s at n q low cs ws =
 unfoldable pub checkInto : List ℕ → ℕ → ℕ → ℕ → ℕ → List ℕ → List ℕ → Read Flat
 checkInto s at n q total cs ws =
     pick (leb (length s) at) (bad 5)
-    (pick (ltb (getD s at 0) 3) (bad 9)
+    (pick (ltb (getD s at 0) 2) (bad 9)
     (pick (ltb 32 (getD s at 0)) (bad 9)
     (pick (ltb 1024 (total + getD s at 0)) (bad 9)
     (pick (ltb (length s - (at + 1)) (3 * getD s at 0)) (bad 5)

@@ -9,6 +9,7 @@ pub mod Places
 pub mod Loops
 pub mod Records
 pub mod Form
+pub mod Before
 pub mod Ranks
 pub mod Kept
 pub mod Instances

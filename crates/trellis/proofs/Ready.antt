@@ -62,5 +62,5 @@ module _ (p : ℕ) (ws cs : List ℕ) (D : Ready p ws cs) where
   pub ready-proper : Proper (ruleFor p) theColumns
   ready-proper =
       let e : length theColumns ≡ length ws = length-columns q ws cs in
-      proper p (fields-at p (D .low) (D .high)) _+_ 2 theColumns (λ n l. accepted n (omega arith)) sum-joins (omega (arith, D .three)) (omega (arith, D .three)) (omega (arith, D .few)) (omega arith)
+      proper p (fields-at p (D .low) (D .high)) _+_ 2 theColumns (λ n l. accepted n (omega arith)) sum-joins (omega (arith, D .two)) (omega (arith, D .few)) (omega arith)
       (omega (arith, pow-mono {i = 1} {j = p} (omega (arith, D .low))))

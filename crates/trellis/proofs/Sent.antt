@@ -1,5 +1,6 @@
--- Sent costs of a proper check. One deviation is enough, so they exist; a cheapest choice for all columns leaves a column at its decision,
--- so E is the least of the S; and only its deviations can lie above E, so at most k columns do.
+-- Sent costs of a proper check. One deviation is enough, so they exist. E, the least of them, is the cost of a choice for all columns with at
+-- most k deviations, and only its deviations can lie above E, so at most k columns do. Where the degree exceeds k, a cheapest choice for all
+-- columns leaves a column at its decision, so its cost is E.
 use mathlib.Core.Path.{_≡_, refl, sym, _∙_}
 use mathlib.Core.Logic.{_≢_, _⊎_, inl, inr, ⊎-elim}
 use mathlib.Core.Bool.{Bool, true, false, cond}
@@ -13,7 +14,7 @@ use lib.ListN.{length, getD, set, List·getD-map}
 use lib.Seq.{getD-set-same, getD-set-other}
 use Rattle.trellis.specs.Lists.{put, others, keep, countFrom, upTo}
 use Rattle.trellis.specs.Field.{xor}
-use Rattle.trellis.specs.Check.{column, Rule, Column, Fits, none, more, Allowed, IsLeast, costOf, costAt, weigh, deviates, decision, decisions, decided, shift, sentAt, leastSent, extra, deviations, weightedSum, total}
+use Rattle.trellis.specs.Check.{column, Rule, Column, Fits, none, more, Allowed, IsLeast, costOf, costAt, weigh, deviates, decision, decisions, decided, shift, sentAt, extra, extraOfAll, deviations, weightedSum, total}
 use Rattle.trellis.specs.Record.{above}
 use Rattle.trellis.proofs.Lists.{in-upTo, of-upTo, smallest-in, smallest-le}
 use Rattle.trellis.proofs.Least.{least-is, is-least}
@@ -36,12 +37,11 @@ pub record Sound (R : Rule) (c : Column) : Type 0 where
   pub single : (x y : ℕ) → x < R .size → y < R .size → weigh R c x ≡ weigh R c y → x ≡ y
   pub solves : (b : ℕ) (h : b < R .size) → weigh R c (solve b h) ≡ b
 
--- an accepted check; its degree exceeds k
+-- an accepted check
 pub record Proper (R : Rule) (cs : List Column) : Type 0 where
   pub sound : (n : ℕ) → n < length cs → Sound R (column cs n)
   pub joins : Joins (R .join)
   pub two : 2 ≤ length cs
-  pub deep : R .most < length cs
   pub short : length cs ≤ 255
   pub one : 1 ≤ R .most
   pub p : ℕ
@@ -226,17 +226,24 @@ module _ (R : Rule) (cs : List Column) (P : Proper R cs) (a : ℕ) where
         by : (m : ℕ) → m < length cs → n ≢ m → IsLeast R (others n cs) (xor a (shift R cs n)) (sentAt R cs n a)
         by m j ne = least-is R (others n cs) (xor a (shift R cs n)) _ (take-out n l (single m j) (single-keeps n m l j ne) (single-allowed m j))
 
-    pub leastSent-le : (n : ℕ) → n < length cs → leastSent R cs a ≤ sentAt R cs n a
-    unfolding leastSent
-    leastSent-le n l = smallest-le (Memᴰ·map (λ n. sentAt R cs n a) (in-upTo l))
-
-    -- the least of the S is the cost of a choice for all columns with at most k deviations
-    leastSent-at : (w : List ℕ) × Allowed R cs goal w × (costOf R cs w ≡ leastSent R cs a)
-    unfolding leastSent
-    leastSent-at =
+    -- E is sent to a column
+    pub extra-sent : (n : ℕ) × (n < length cs) × (sentAt R cs n a ≡ extra R cs a)
+    unfolding extra
+    extra-sent =
         let r = Memᴰ·of-map (λ n. sentAt R cs n a) (upTo (length cs)) (smallest-in (Memᴰ·map (λ n. sentAt R cs n a) (in-upTo {n = length cs} {x = 0} (omega (arith, P .two))))) in
+        (r .0, of-upTo (r .1), r .2)
+
+    -- and to none less
+    pub extra-le : (n : ℕ) → n < length cs → extra R cs a ≤ sentAt R cs n a
+    unfolding extra
+    extra-le n l = smallest-le (Memᴰ·map (λ n. sentAt R cs n a) (in-upTo l))
+
+    -- It is the cost of a choice for all columns with at most k deviations, one column of which keeps its decision
+    pub extra-at : (w : List ℕ) × Allowed R cs goal w × (costOf R cs w ≡ extra R cs a)
+    extra-at =
+        let r = extra-sent in
         let n : ℕ = r .0 in
-        let l : n < length cs = of-upTo (r .1) in
+        let l : n < length cs = r .1 in
         let i = sent-is n l in
         let h = put-in n l (i .choice) (i .allowed) in (
           put n (z n l) (i .choice),
@@ -244,38 +251,36 @@ module _ (R : Rule) (cs : List Column) (P : Proper R cs) (a : ℕ) where
           cost-others n l _ (h .fits) (at-put cs n (z n l) l (i .allowed .fits)) ∙ rw (others-put cs n (z n l) l (i .allowed .fits), i .attained) (r .2),
         )
 
-    -- E, the least cost over choices for all columns, is attained
-    pub extra-least : IsLeast R cs goal (extra R cs a)
-    unfolding extra
-    extra-least = least-is R cs goal (leastSent-at .0) (leastSent-at .1)
-
-    -- document 01's E is the least of the S_n
-    pub extra-is : extra R cs a ≡ leastSent R cs a
-    unfolding extra
-    extra-is =
-        is-least R cs goal
-        record {
-          choice = leastSent-at .0;
-          allowed = leastSent-at .1;
-          attained = leastSent-at .2;
-          least = λ w h. let r = undeviated (h .fits) (omega (arith, h .few, P .deep)) in omega (arith, leastSent-le (r .0) (r .1), sent-below (r .0) (r .1) w h (r .2));
-        }
-
-    pub extra-le : (n : ℕ) → n < length cs → extra R cs a ≤ sentAt R cs n a
-    extra-le n l = omega (arith, extra-is, leastSent-le n l)
+    -- a column that keeps its decision in a choice of cost E is not above E
+    pub extra-keeps : (w : List ℕ) → Allowed R cs goal w → costOf R cs w ≡ extra R cs a → (n : ℕ) (l : n < length cs) → getD w n 0 ≡ z n l → sentAt R cs n a ≡ extra R cs a
+    extra-keeps w h c n l e = omega (arith, extra-le n l, sent-below n l w h e)
 
     -- "Never more than two are needed": at most k columns have S above E
     pub above-few : length (above R cs a) ≤ R .most
     unfolding above
     above-few =
-        let w = extra-least in
-        omega (arith, w .allowed .few, count-le (w .allowed .fits) (λ n. ltb (extra R cs a) (sentAt R cs n a)) 0 (clash (w .choice) (w .allowed) (w .attained)))
+        let w = extra-at in
+        omega (arith, w .1 .few, count-le (w .1 .fits) (λ n. ltb (extra R cs a) (sentAt R cs n a)) 0 (clash (w .0) (w .1) (w .2)))
       where
         clash : (w : List ℕ) → Allowed R cs goal w → costOf R cs w ≡ extra R cs a
             → (j n : ℕ) → n ≡ 0 + j → j < length cs → T (ltb (extra R cs a) (sentAt R cs n a)) → getD w j 0 ≡ decision (column cs j) → ⊥
         clash w h c j n e l t k =
             let s : extra R cs a < sentAt R cs j a = rw (e, zero-add j) at (ltb→lt (extra R cs a) (sentAt R cs n a) t) in
             omega (arith, sent-below j l w h k)
+
+    -- where the degree exceeds k, E is what document 01 says
+    pub extra-least : R .most < length cs → IsLeast R cs goal (extra R cs a)
+    extra-least deep =
+        record {
+          choice = extra-at .0;
+          allowed = extra-at .1;
+          attained = extra-at .2;
+          least = λ w h. let r = undeviated (h .fits) (omega (arith, h .few)) in omega (arith, extra-le (r .0) (r .1), sent-below (r .0) (r .1) w h (r .2));
+        }
+
+    pub extra-of-all : R .most < length cs → extraOfAll R cs a ≡ extra R cs a
+    unfolding extraOfAll
+    extra-of-all deep = is-least R cs goal (extra-least deep)
 
 -- S(0) = 0: the decisions
 pub sent-zero : (R : Rule) (cs : List Column) → Proper R cs → (n : ℕ) → n < length cs → sentAt R cs n 0 ≡ 0

@@ -1,19 +1,20 @@
--- Document 01's bench table, the cases marked #: what is asked and what is expected.
+-- Document 01's bench table, the cases marked #, and two checks of degree 2: what is asked and what is expected.
 use mathlib.Core.List.{List, [], _∷_, map, _++_}
 use Prim.Native.Nat.{ℕ}
 use lib.ListN.{replicate}
 use Rattle.trellis.specs.Lists.{each, countFrom, upTo}
 use Rattle.trellis.specs.Field.{product}
-use Rattle.trellis.specs.Check.{Column, extra}
+use Rattle.trellis.specs.Check.{Column, extra, extraOfAll}
 use Rattle.trellis.specs.Record.{shifts, recordOf}
 use Rattle.trellis.specs.Rules.{ruleFor}
 
--- a product, a check's record, its shifts, its E for each a from 1 on
+-- a product, a check's record, its shifts, its E for each a from 1 on, the least cost over choices for all columns
 pub data Case : Type 0 where
   productOf : (p a b : ℕ) → Case
   recordAt : List Column → Case
   shiftsAt : List Column → Case
   extrasAt : List Column → Case
+  ofAllAt : List Column → Case
 
 -- what a case means, as a list of numbers. "p = 2, weights 1, unless said."
 abbrev pub meaning : Case → List ℕ
@@ -21,6 +22,7 @@ meaning (productOf p a b) = product p a b ∷ []
 meaning (recordAt cs) = recordOf (ruleFor 2) cs
 meaning (shiftsAt cs) = shifts (ruleFor 2) cs
 meaning (extrasAt cs) = map (extra (ruleFor 2) cs) (countFrom 1 3)
+meaning (ofAllAt cs) = map (extraOfAll (ruleFor 2) cs) (countFrom 1 3)
 
 pub record Line : Type 0 where
   pub case : Case
@@ -62,4 +64,9 @@ table =
     -- Weights 1, 2, 3, decisions all 1: shifts 010203
     gives (shiftsAt (weighted 1 (9 ∷ 0 ∷ 9 ∷ 9 ∷ []) ∷ weighted 2 (9 ∷ 0 ∷ 9 ∷ 9 ∷ []) ∷ weighted 3 (9 ∷ 0 ∷ 9 ∷ 9 ∷ []) ∷ []))
     (0x01 ∷ 0x02 ∷ 0x03 ∷ []) ∷
+    -- Document 02, degree 2: "a cheapest choice may deviate in both columns, so E would be a cost nobody was sent". At a = 1 the symbols 2 and 3
+    -- cost 1 + 1, but either column is sent the other's 9
+    gives (recordAt (columns ((0 ∷ 9 ∷ 1 ∷ 9 ∷ []) ∷ (0 ∷ 9 ∷ 9 ∷ 1 ∷ []) ∷ [])))
+    (0x00 ∷ 0x00 ∷ 0x09 ∷ 0xFF ∷ 0x00 ∷ 0xFF ∷ 0x00 ∷ 0x01 ∷ 0x00 ∷ 0x09 ∷ 0xFF ∷ 0x00 ∷ 0x01 ∷ 0x01 ∷ 0x09 ∷ 0xFF ∷ 0x00 ∷ []) ∷
+    gives (ofAllAt (columns ((0 ∷ 9 ∷ 1 ∷ 9 ∷ []) ∷ (0 ∷ 9 ∷ 9 ∷ 1 ∷ []) ∷ []))) (2 ∷ 1 ∷ 1 ∷ []) ∷
     []

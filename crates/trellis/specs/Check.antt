@@ -116,14 +116,14 @@ sent R cs n x = leastCost R (others n cs) (weigh R (column cs n) x)
 unfoldable pub sentAt : Rule → List Column → ℕ → ℕ → ℕ
 sentAt R cs n a = leastCost R (others n cs) (xor a (shift R cs n))
 
--- "The extra column E(a), for a not 0, is the least cost over choices for all columns with at most two deviations whose weighted sum is a
--- plus the sum of all h_k times z_k." (SPEC 2.9)
+-- The extra column. Document 02: "E(a) is therefore the least of S_n(a) over the columns, at each degree." (SPEC 2.9)
 unfoldable pub extra : Rule → List Column → ℕ → ℕ
-extra R cs a = leastCost R cs (xor a (decided R cs))
+extra R cs a = smallest (map (λ n. sentAt R cs n a) (upTo (length cs)))
 
--- the least of S_n(a) over the columns. Where the degree exceeds k it is E(a) (proofs/Sent.antt, extra-is) (SPEC 2.10)
-unfoldable pub leastSent : Rule → List Column → ℕ → ℕ
-leastSent R cs a = smallest (map (λ n. sentAt R cs n a) (upTo (length cs)))
+-- Document 01's words for it: "the least cost over choices for all columns with at most two deviations whose weighted sum is a plus the sum
+-- of all h_k times z_k." Where the degree exceeds k it is E(a) (proofs/Sent.antt, extra-of-all) (SPEC 2.10)
+unfoldable pub extraOfAll : Rule → List Column → ℕ → ℕ
+extraOfAll R cs a = leastCost R cs (xor a (decided R cs))
 
 abbrev pub weights : List Column → List ℕ
 weights = map (λ c. c .weight)

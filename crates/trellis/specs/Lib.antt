@@ -4,6 +4,7 @@ pub mod Lists
 pub mod Field
 pub mod Check
 pub mod Record
+pub mod Before
 pub mod Rows
 pub mod Rules
 pub mod Ready

@@ -11,7 +11,7 @@ use Rattle.trellis.specs.Rules.{costsAt}
 pub record Ready (p : ℕ) (ws cs : List ℕ) : Type 0 where
   pub low : 2 ≤ p
   pub high : p ≤ 6
-  pub three : 3 ≤ length ws
+  pub two : 2 ≤ length ws
   pub few : length ws ≤ 32
   pub weight-some : (n : ℕ) → n < length ws → getD ws n 0 ≢ 0
   pub weight-small : (n : ℕ) → n < length ws → getD ws n 0 < 2 ^ p
