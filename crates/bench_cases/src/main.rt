@@ -1,5 +1,5 @@
-// Runs the cases of document 01's bench table through the public calls and prints what they answer, a line each; the file stdout beside
-// src/ holds what is expected.
+// Runs the cases of document 01's bench table, with the degrees of document 02, through the public calls and prints what they answer, a line
+// each; the file stdout beside src/ holds what is expected.
 use checknode::Element;
 use checknode::Written;
 use libc::STDOUT_FILENO;
@@ -142,8 +142,8 @@ fn record_cases() {
 fn degree_cases() {
     let weights = [1u8; 33];
     let costs = [0u8; 132];
+    degree_case(&weights[..1], &costs[..4]);
     degree_case(&weights[..2], &costs[..8]);
-    degree_case(&weights[..3], &costs[..12]);
     degree_case(&weights[..32], &costs[..128]);
     degree_case(&weights, &costs);
 }

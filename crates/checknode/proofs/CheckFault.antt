@@ -54,7 +54,7 @@ module _ (p : ℕ) (ws cs : List ℕ) (room : ℕ) where
     unfolding checkFault
     by-fault bad good =
         rw f
-        (go (ltb p 2) (ltb 6 p) (ltb (length ws) 3) (ltb 32 (length ws)) (weightsOk (2 ^ p) ws) (eqb (length cs) (length ws * 2 ^ p)) (allTo (zeroOk (2 ^ p) cs) (length ws)) (ltb room (recordLength (ruleFor p) (length ws))))
+        (go (ltb p 2) (ltb 6 p) (ltb (length ws) 2) (ltb 32 (length ws)) (weightsOk (2 ^ p) ws) (eqb (length cs) (length ws * 2 ^ p)) (allTo (zeroOk (2 ^ p) cs) (length ws)) (ltb room (recordLength (ruleFor p) (length ws))))
       where
         cases : {B : Type 0} → (ℕ → B) → B → Bool → Bool → Bool → Bool → Bool → Bool → Bool → Bool → B
         cases bad good a b c d o x y z = pick a (bad 6) (pick b (bad 6) (pick c (bad 9) (pick d (bad 9) (pick o (pick x (pick y (pick z (bad 4) good) (bad 13)) (bad 12)) (bad 11)))))

@@ -50,7 +50,7 @@ mul-small d w h k = omega (arith, mul-le-mul-right w h)
 pub record Weighed (p : ℕ) (ws : List ℕ) : Type 0 where
   pub low : 2 ≤ p
   pub high : p ≤ 6
-  pub three : 3 ≤ length ws
+  pub two : 2 ≤ length ws
   pub few : length ws ≤ 32
   pub ok : weightsOk (2 ^ p) ws ≡ true
 
@@ -63,21 +63,21 @@ at-least {m} {n} e =
 
 pub no-fault : (p : ℕ) (ws : List ℕ) → weightsFault p ws ≡ 0 → Weighed p ws
 unfolding weightsFault
-no-fault p ws e = go (ltb p 2) refl (ltb 6 p) refl (ltb (length ws) 3) refl (ltb 32 (length ws)) refl (weightsOk (2 ^ p) ws) refl e
+no-fault p ws e = go (ltb p 2) refl (ltb 6 p) refl (ltb (length ws) 2) refl (ltb 32 (length ws)) refl (weightsOk (2 ^ p) ws) refl e
   where
-    go : (a : Bool) → ltb p 2 ≡ a → (b : Bool) → ltb 6 p ≡ b → (c : Bool) → ltb (length ws) 3 ≡ c → (d : Bool) → ltb 32 (length ws) ≡ d → (o : Bool) → weightsOk (2 ^ p) ws ≡ o
+    go : (a : Bool) → ltb p 2 ≡ a → (b : Bool) → ltb 6 p ≡ b → (c : Bool) → ltb (length ws) 2 ≡ c → (d : Bool) → ltb 32 (length ws) ≡ d → (o : Bool) → weightsOk (2 ^ p) ws ≡ o
         → _≡_ {A = ℕ} (pick a 6 (pick b 6 (pick c 9 (pick d 9 (pick o 0 11))))) 0 → Weighed p ws
     go true i b j c k d l o m e = absurd (omega arith)
     go false i true j c k d l o m e = absurd (omega arith)
     go false i false j true k d l o m e = absurd (omega arith)
     go false i false j false k true l o m e = absurd (omega arith)
     go false i false j false k false l false m e = absurd (omega arith)
-    go false i false j false k false l true m e = record { low = at-least i; high = at-least j; three = at-least k; few = at-least l; ok = m }
+    go false i false j false k false l true m e = record { low = at-least i; high = at-least j; two = at-least k; few = at-least l; ok = m }
 
 -- a refusal by its number, and none
 pub fault-case : {A : Type 0} (p : ℕ) (ws : List ℕ) (bad : ℕ → A) (rest : A) {k : ℕ} → k ≡ weightsFault p ws → k ≢ 0 → bad k ≡ weightCases p ws bad rest
 unfolding weightsFault
-fault-case p ws bad rest e n = go (ltb p 2) (ltb 6 p) (ltb (length ws) 3) (ltb 32 (length ws)) (weightsOk (2 ^ p) ws) e n
+fault-case p ws bad rest e n = go (ltb p 2) (ltb 6 p) (ltb (length ws) 2) (ltb 32 (length ws)) (weightsOk (2 ^ p) ws) e n
   where
     go : (a b c d o : Bool) {k : ℕ} → k ≡ pick a 6 (pick b 6 (pick c 9 (pick d 9 (pick o 0 11)))) → k ≢ 0 → bad k ≡ pick a (bad 6) (pick b (bad 6) (pick c (bad 9) (pick d (bad 9) (pick o rest (bad 11)))))
     go true b c d o e n = ap bad e
@@ -89,7 +89,7 @@ fault-case p ws bad rest e n = go (ltb p 2) (ltb 6 p) (ltb (length ws) 3) (ltb 3
 
 module _ (p : ℕ) (ws : List ℕ) (W : Weighed p ws) where
   pub rest-case : {A : Type 0} (bad : ℕ → A) (rest : A) → weightCases p ws bad rest ≡ rest
-  rest-case bad rest = simp (le-ltb _ _ (W .low), le-ltb _ _ (W .high), le-ltb _ _ (W .three), le-ltb _ _ (W .few), W .ok)
+  rest-case bad rest = simp (le-ltb _ _ (W .low), le-ltb _ _ (W .high), le-ltb _ _ (W .two), le-ltb _ _ (W .few), W .ok)
 
   pub weight-at : (n : ℕ) → n < length ws → (getD ws n 0 ≢ 0) × (getD ws n 0 < 2 ^ p)
   weight-at n k = weight-true (2 ^ p) (getD ws n 0) (all-at _ (length ws) (of-true (W .ok)) n k)
@@ -100,7 +100,7 @@ module _ (p : ℕ) (ws : List ℕ) (W : Weighed p ws) where
       record {
         low = W .low;
         high = W .high;
-        three = W .three;
+        two = W .two;
         few = W .few;
         count = c;
         weight-some = λ n k. weight-at n k .0;
@@ -127,7 +127,7 @@ ready-weighed p ws cs D =
     record {
       low = D .low;
       high = D .high;
-      three = D .three;
+      two = D .two;
       few = D .few;
       ok = to-true (all-of _ (length ws) (λ n h. rw (ne-eqb (getD ws n 0) 0 (D .weight-some n h)) (lt→ltb _ _ (D .weight-small n h))));
     }

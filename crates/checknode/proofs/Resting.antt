@@ -56,7 +56,7 @@ module _ (p : ℕ) (ws cs : List ℕ) (D : Ready p ws cs) where
   asked = record {
     rule = record { size = refl; join = refl; most = refl };
     degree = sym (length-columns q ws cs);
-    range = rw (le-leb 2 p (D .low), le-leb p 6 (D .high), le-leb 2 (length ws) (omega (arith, D .three)), le-leb (length ws) 32 (D .few)) refl;
+    range = rw (le-leb 2 p (D .low), le-leb p 6 (D .high), le-leb 2 (length ws) (omega (arith, D .two)), le-leb (length ws) 32 (D .few)) refl;
     proper = ready-proper p ws cs D;
   }
 

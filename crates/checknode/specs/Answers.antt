@@ -44,7 +44,7 @@ abbrev pub weightCases {ℓ} : {A : Type ℓ} → ℕ → List ℕ → (ℕ → 
 weightCases p ws bad rest =
     pick (ltb p 2) (bad 6)
     (pick (ltb 6 p) (bad 6)
-    (pick (ltb (length ws) 3) (bad 9)
+    (pick (ltb (length ws) 2) (bad 9)
     (pick (ltb 32 (length ws)) (bad 9)
     (pick (weightsOk (2 ^ p) ws) rest (bad 11)))))
 

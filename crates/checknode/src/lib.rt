@@ -46,7 +46,7 @@ pub fn product(p: u8, a: u8, b: u8) -> Element
 }
 
 // The record of a check: from p, d weights and d times q costs, column by column, d + 5 (q - 1) bytes. Refused: 6, p not 2 to 6; 9, degree
-// not 3 to 32; 11, a weight 0 or no element; 12, cost count; 13, a column without a cost of 0; 4, record buffer too short.
+// not 2 to 32; 11, a weight 0 or no element; 12, cost count; 13, a column without a cost of 0; 4, record buffer too short.
 pub fn check(p: u8, weights: &[u8], costs: &[u8], out: &mut [u8]) -> Written
     ensures { λ r. ⌜ writtenReply r ≡ checkReply p (now (weights .entry)) (now (costs .entry)) (now (out .entry)) ⌝ }
     ensures { λ _. ⌜ now (out .exit) ≡ checkLeaves p (now (weights .entry)) (now (costs .entry)) (now (out .entry)) ⌝ }
@@ -84,7 +84,7 @@ pub fn messages(p: u8, weights: &[u8], costs: &[u8], out: &mut [u8], sent: &mut 
 }
 
 // The expansion of a record: from p, d weights and a record, d times q bytes, column by column, each column by x. Refused: 6, p not 2 to 6;
-// 9, degree not 3 to 32; 11, a weight 0 or no element; 16, the record's form; 2, buffer too short.
+// 9, degree not 2 to 32; 11, a weight 0 or no element; 16, the record's form; 2, buffer too short.
 pub fn expand(p: u8, weights: &[u8], bytes: &[u8], out: &mut [u8]) -> Written
     ensures { λ r. ⌜ writtenReply r ≡ expandReply p (now (weights .entry)) (now (bytes .entry)) (now (out .entry)) ⌝ }
     ensures { λ _. ⌜ now (out .exit) ≡ expandLeaves p (now (weights .entry)) (now (bytes .entry)) (now (out .entry)) ⌝ }

@@ -43,7 +43,7 @@ pub fn weights_fault(p: u8, weights: &[u8]) -> u8
     if 6 < p {
         return 6;
     }
-    if weights.len() < 3 {
+    if weights.len() < 2 {
         return 9;
     }
     if 32 < weights.len() {

@@ -73,7 +73,7 @@ module _ (C : Code) (G : GoodCode C) (cs ws : List ℕ) (hc : take (length (tabl
             weighed = record {
               low = G .p-low;
               high = G .p-high;
-              three = omega (arith, H .low);
+              two = omega (arith, H .low);
               few = omega (arith, H .high);
               some = λ k u. rw (weight-table C cs ws hc hw m h k) (H .each-edge k (omega arith) .weight-some);
               small = λ k u. rw (weight-table C cs ws hc hw m h k) (H .each-edge k (omega arith) .weight-small);

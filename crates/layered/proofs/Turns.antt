@@ -136,7 +136,7 @@ weights-pass p ws W = to-true (all-of _ (length ws) (λ n h. rw (ne-eqb (getD ws
 pub expand-accepts : (p : ℕ) (ws r out : List ℕ) → Weighed p ws → recordOk (ruleFor p) (length ws) r ≡ true → length out ≡ length ws * 2 ^ p → expandLeaves p ws r out ≡ expansion (ruleFor p) ws r
 unfolding expandLeaves
 expand-accepts p ws r out W f e =
-    rw (le-ltb p 2 (W .low), le-ltb 6 p (W .high), le-ltb (length ws) 3 (W .three), le-ltb 32 (length ws) (W .few), weights-pass p ws W, f, ← e, le-ltb (length out) (length out) (omega arith), drop-length out)
+    rw (le-ltb p 2 (W .low), le-ltb 6 p (W .high), le-ltb (length ws) 2 (W .two), le-ltb 32 (length ws) (W .few), weights-pass p ws W, f, ← e, le-ltb (length out) (length out) (omega arith), drop-length out)
     (append-nil (expansion (ruleFor p) ws r))
 
 -- what the old record sent
@@ -150,7 +150,7 @@ recall-later p first ws r out new R f e = e ∙ expand-accepts p ws r out (R .we
 
 module _ (p : ℕ) (ws Q : List ℕ) (D : Ready p ws Q) where
   pub ready-weighed : Weighed p ws
-  ready-weighed = record { low = D .low; high = D .high; three = D .three; few = D .few; some = D .weight-some; small = D .weight-small }
+  ready-weighed = record { low = D .low; high = D .high; two = D .two; few = D .few; some = D .weight-some; small = D .weight-small }
 
   -- nor 12, 13, 4 or 2
   messages-pass : (r out : List ℕ) → length r ≡ recordLength (ruleFor p) (length ws) → length out ≡ length ws * 2 ^ p
@@ -161,7 +161,7 @@ module _ (p : ℕ) (ws Q : List ℕ) (D : Ready p ws Q) where
       rw (
         le-ltb p 2 (D .low),
         le-ltb 6 p (D .high),
-        le-ltb (length ws) 3 (D .three),
+        le-ltb (length ws) 2 (D .two),
         le-ltb 32 (length ws) (D .few),
         weights-pass p ws ready-weighed,
         eq-eqb (length Q) (length ws * 2 ^ p) (D .count),
@@ -195,7 +195,7 @@ module _ (p g : ℕ) (first : Bool) (cs ws P r Q S : List ℕ) (U : UpdateRoom p
       record {
         low = W .low;
         high = W .high;
-        three = W .three;
+        two = W .two;
         few = W .few;
         weight-some = W .some;
         weight-small = W .small;

@@ -34,7 +34,7 @@ costsNow p g first cs ws r P =
 pub record Weighed (p : ℕ) (ws : List ℕ) : Type 0 where
   pub low : 2 ≤ p
   pub high : p ≤ 6
-  pub three : 3 ≤ length ws
+  pub two : 2 ≤ length ws
   pub few : length ws ≤ 32
   pub some : (n : ℕ) → n < length ws → getD ws n 0 ≢ 0
   pub small : (n : ℕ) → n < length ws → getD ws n 0 < 2 ^ p
