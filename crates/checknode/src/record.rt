@@ -63,7 +63,8 @@ fn rests_with(
     tables::sent(rule_of(p), d, &lines[..n], rests);
 }
 
-// The same with room for the lines. The table is copied once for all columns, where it is taken; weights, at most 32, stand for no table.
+// The same with room for the lines, fresh and so cleared. The table is copied once for all columns, where it is taken; weights, at most
+// 32, stand for no table.
 fn rests_in(
     p: u8,
     weights: &[u8],

@@ -1,4 +1,4 @@
--- After x turns, x a multiple of four, the first x products stand, and base is the next.
+-- After some turns the first x products stand; x is a multiple of four, and base is 0 at first and then c, the product of 4.
 use mathlib.Core.Path.{_≡_, sym}
 use mathlib.Core.Bool.{cond}
 use mathlib.Core.List.{_++_}
