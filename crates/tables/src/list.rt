@@ -44,16 +44,18 @@ fn shift(s: &[u8], e: &[u8], j: usize, t: &mut [u8])
     lane::copy(&o, &mut t[m..n]);
 }
 
-// Row 0 of t put before the k rows behind it, where s is below e: from the last row to the first, so that each still stands where the next one
-// takes it.
-fn push(k: usize, s: &[u8], e: &[u8], t: &mut [u8])
+// Row 0 of each put before the k rows behind it, where s is below e: from the last row to the first, so that each still stands where the next
+// one takes it. Both in one loop, which the compiler then takes into its caller.
+fn push(k: usize, s: &[u8], e: &[u8], columns: &mut [u8], rests: &mut [u8])
     requires { ⌜ (length (now s) ≡ 16) × (length (now e) ≡ 16) ⌝ }
-    requires { ⌜ (k ≤ 3) × (16 * k + 16 ≤ length (now t)) ⌝ }
-    ensures { λ _. ⌜ Pushes k (now (s .entry)) (now (e .entry)) (λ i. getD (now (t .entry)) i 0) (now (t .entry)) (now (t .exit)) ⌝ }
+    requires { ⌜ (k ≤ 3) × ((16 * k + 16 ≤ length (now columns)) × (16 * k + 16 ≤ length (now rests))) ⌝ }
+    ensures { λ _. ⌜ Pushes k (now (s .entry)) (now (e .entry)) (λ i. getD (now (columns .entry)) i 0) (now (columns .entry)) (now (columns .exit)) ⌝ }
+    ensures { λ _. ⌜ Pushes k (now (s .entry)) (now (e .entry)) (λ i. getD (now (rests .entry)) i 0) (now (rests .entry)) (now (rests .exit)) ⌝ }
 {
     let mut j = k;
     while 0 < j {
-        shift(s, e, j, t);
+        shift(s, e, j, columns);
+        shift(s, e, j, rests);
         j -= 1;
     }
 }
@@ -77,9 +79,8 @@ fn column(k: usize, n: u8, s: &[u8], e: &[u8], columns: &mut [u8], rests: &mut [
     ensures { λ _. ⌜ Pushes k (now (s .entry)) (now (e .entry)) (λ i. getD (now (s .entry)) i 0) (now (rests .entry)) (now (rests .exit)) ⌝ }
 {
     fill(n, &mut columns[..16]);
-    push(k, s, e, columns);
     lane::copy(s, &mut rests[..16]);
-    push(k, s, e, rests);
+    push(k, s, e, columns, rests);
 }
 
 // Where the rows from v on of column n start.

@@ -19,9 +19,6 @@ slice-aggregate-fill c = simp length-take (omega arith)
 fill-requires : tie.Need-fill-requires
 fill-requires c κs = simp length-take (omega arith)
 
-push-requires : tie.Need-push-requires
-push-requires c κs = search needs
-
 slice-relend-prefix-copy : tie.Need-slice-relend-prefix-copy
 slice-relend-prefix-copy c = search needs
 
@@ -30,11 +27,11 @@ slice-aggregate-copy c = simp length-take (omega arith)
 
 copy-requires : tie.Need-copy-requires
 copy-requires c κs =
-    let start = c .before .before .before .before .before .before .before .before .before .before .before .before .before in
+    let start = c .before .before .before .before .before .before .before .before .before in
     (start .pre .0 .0, simp length-take (omega arith))
 
-push-requires-2 : tie.Need-push-requires-2
-push-requires-2 c κs = search needs
+push-requires : tie.Need-push-requires
+push-requires c κs = search needs
 
 same-length : tie.Need-same-length
 same-length c = search needs
@@ -44,15 +41,14 @@ same-length-2 c = search needs
 
 returns : tie.Need-returns
 returns c =
-    let at-push2 = c .before .before in
-    let at-copy = at-push2 .before .before .before .before in
-    let at-push = at-copy .before .before .before .before in
-    let at-fill = at-push .before .before .before .before in
+    let at-push = c .before .before .before .before in
+    let at-copy = at-push .before .before .before .before .before in
+    let at-fill = at-copy .before .before .before .before in
     let start = at-fill .before .before .before .before .before .before in (
       push-in (start .args .k) (start .args .s .now) (start .args .e .now) (start .args .columns .now) (lanes (λ (i : ℕ). start .args .n)) (λ (i : ℕ). start .args .n) (lanes-length (λ (i : ℕ). start .args .n)) (λ i h. lanes-at (λ (i : ℕ). start .args .n) i h)
-          (ap (λ y. y ++ drop 16 (start .args .columns .now)) (at-fill .fill .ensures)) (at-push .push .ensures),
+          (ap (λ y. y ++ drop 16 (start .args .columns .now)) (at-fill .fill .ensures)) (at-push .push .ensures .0),
       push-in (start .args .k) (start .args .s .now) (start .args .e .now) (start .args .rests .now) (start .args .s .now) (λ i. getD (start .args .s .now) i 0) (start .pre .0 .0) (λ i h. refl)
-          (ap (λ y. y ++ drop 16 (start .args .rests .now)) (at-copy .copy .ensures)) (at-push2 .push2 .ensures),
+          (ap (λ y. y ++ drop 16 (start .args .rests .now)) (at-copy .copy .ensures)) (at-push .push .ensures .1),
     )
 
 pub column-spec : {M : Type 1} → statement M
@@ -62,11 +58,10 @@ column-spec =
     slice-relend-prefix-fill
     slice-aggregate-fill
     fill-requires
-    push-requires
     slice-relend-prefix-copy
     slice-aggregate-copy
     copy-requires
-    push-requires-2
+    push-requires
     same-length
     same-length-2
     returns)

@@ -8,18 +8,22 @@ use Rattle.tables.proofs.list.push.Statement.{statement}
 use Rattle.tables.proofs.list.push.Tie as tie
 
 abbrev Inv-loop : tie.InvT-loop
-Inv-loop k s e t₀ j₀ t j = (j ≤ k) × ((length t ≡ length t₀) × Pushing k j s e t₀ t)
+Inv-loop k s e c₀ r₀ j₀ c r j = (j ≤ k) × (((length c ≡ length c₀) × (length r ≡ length r₀)) × (Pushing k j s e c₀ c × Pushing k j s e r₀ r))
 
 abbrev μ-loop : tie.MeasureT-loop
-μ-loop k s e t₀ j₀ t j = j
+μ-loop k s e c₀ r₀ j₀ c r j = j
 
 loop-holds : tie.Need-loop-holds Inv-loop μ-loop
 loop-holds c =
-    let start = c .before .before .before in
-    (omega arith, (refl, pushing-none (start .args .k) (start .args .s .now) (start .args .e .now) (start .args .t .now)))
+    let start = c .before .before .before .before in
+    let a = start .args in
+    (omega arith, ((refl, refl), (pushing-none (a .k) (a .s .now) (a .e .now) (a .columns .now), pushing-none (a .k) (a .s .now) (a .e .now) (a .rests .now))))
 
 shift-requires : tie.Need-shift-requires Inv-loop μ-loop
 shift-requires c κs = search needs
+
+shift-requires-2 : tie.Need-shift-requires-2 Inv-loop μ-loop
+shift-requires-2 c κs = search needs
 
 sub-j : tie.Need-sub-j Inv-loop μ-loop
 sub-j c = search needs
@@ -29,22 +33,38 @@ loop-less c = search needs
 
 loop-again : tie.Need-loop-again Inv-loop μ-loop
 loop-again c =
-    let at-shift = c .before .before in
+    let at-shift2 = c .before .before in
+    let at-shift = at-shift2 .before .before .before .before in
     let at-loop = at-shift .before .before .before in
-    let start = at-loop .before .before .before .before in (
+    let start = at-loop .before .before .before .before .before in
+    let a = start .args in
+    let l = at-loop .loop in (
       omega arith,
-      (omega arith, pushing-turn (start .args .k) (at-loop .loop .j) (start .args .s .now) (start .args .e .now) (start .args .t .now) (at-loop .loop .t) (omega arith) (omega arith) (omega arith) (at-loop .loop .inv .1 .1) (at-shift .shift .ensures)),
+      (
+        (omega arith, omega arith),
+        (
+          pushing-turn (a .k) (l .j) (a .s .now) (a .e .now) (a .columns .now) (l .columns) (omega arith) (omega arith) (omega arith) (l .inv .1 .1 .0) (at-shift .shift .ensures),
+          pushing-turn (a .k) (l .j) (a .s .now) (a .e .now) (a .rests .now) (l .rests) (omega arith) (omega arith) (omega arith) (l .inv .1 .1 .1) (at-shift2 .shift2 .ensures),
+        ),
+      ),
     )
 
 same-length : tie.Need-same-length Inv-loop μ-loop
 same-length c = search needs
 
+same-length-2 : tie.Need-same-length-2 Inv-loop μ-loop
+same-length-2 c = search needs
+
 returns : tie.Need-returns Inv-loop μ-loop
 returns c =
     let at-loop = c .before in
-    let start = at-loop .before .before .before .before in
-    let z : at-loop .loop .j ≡ 0 = omega arith in
-    pushing-end (start .args .k) (start .args .s .now) (start .args .e .now) (start .args .t .now) (at-loop .loop .t) (rw z at (at-loop .loop .inv .1 .1))
+    let start = at-loop .before .before .before .before .before in
+    let a = start .args in
+    let l = at-loop .loop in
+    let z : l .j ≡ 0 = omega arith in (
+      pushing-end (a .k) (a .s .now) (a .e .now) (a .columns .now) (l .columns) (rw z at (l .inv .1 .1 .0)),
+      pushing-end (a .k) (a .s .now) (a .e .now) (a .rests .now) (l .rests) (rw z at (l .inv .1 .1 .1)),
+    )
 
 pub push-spec : {M : Type 1} → statement M
 push-spec =
@@ -54,8 +74,10 @@ push-spec =
     μ-loop
     loop-holds
     shift-requires
+    shift-requires-2
     sub-j
     loop-less
     loop-again
     same-length
+    same-length-2
     returns)
