@@ -1,10 +1,10 @@
-//! One check. Document 01, "One check": "A check has degree d, 3 to 32, and a nonzero weight h_n
-//! for each column n, numbered from 0. It is satisfied when the sum of h_n times x_n is 0."
+//! One check. Document 01, "One check": "a nonzero weight h_n for each column n, numbered from 0. It
+//! is satisfied when the sum of h_n times x_n is 0." Document 02, §1: "Degree becomes 2 to 32."
 //!
-//! The sent costs and the extra column are found by listing every choice with at most two
-//! deviations. The choices are grouped by their set of deviating columns, so that each is listed
-//! once: a choice counts for the extra column always, and for the cost sent to column n when column
-//! n is not one of its deviations.
+//! The sent costs are found by listing every choice with at most two deviations. The choices are
+//! grouped by their set of deviating columns, so that each is listed once: a choice counts for the
+//! cost sent to column n when column n is not one of its deviations. The extra column is the least of
+//! what is sent.
 
 use std::ops::RangeInclusive;
 
@@ -12,8 +12,8 @@ use crate::field::{sum, Field};
 use crate::record;
 use crate::refusal::Refusal;
 
-/// "A check has degree d, 3 to 32"
-pub const DEGREES: RangeInclusive<usize> = 3..=32;
+/// Document 02, §1: "Degree becomes 2 to 32."
+pub const DEGREES: RangeInclusive<usize> = 2..=32;
 
 /// Stands where no choice has been listed yet; every cost is smaller.
 const NO_CHOICE: i32 = i32::MAX;
@@ -80,7 +80,7 @@ pub struct Messages {
     /// "Write S_n(a) for the cost sent at the x with h_n times x + s_n = a", as
     /// `sent_at_sum[n][a]`.
     pub sent_at_sum: Vec<Vec<u8>>,
-    /// E(a), as `extra[a]`. E is for a not 0; `extra[0]` is 0 and not part of document 01.
+    /// E(a), as `extra[a]`. E is for a not 0; `extra[0]` is 0 and in no record.
     pub extra: Vec<u8>,
 }
 
@@ -95,17 +95,10 @@ impl Messages {
             .map(|(&weight, costs)| Column::new(field, weight, costs))
             .collect();
         let shifts: Vec<u8> = (0..degree).map(|n| hard_sum(&columns, &[n])).collect();
-        let full_sum = usize::from(hard_sum(&columns, &[]));
 
         let mut sent = vec![vec![NO_CHOICE; q]; degree];
-        let mut extra = vec![NO_CHOICE; q];
         for set in sets_of_at_most_two(degree) {
             let least = least_costs(&columns, &set, q);
-            // "choices for all columns with at most two deviations whose weighted sum is a plus the
-            // sum of all h_k times z_k"
-            for (a, cost) in extra.iter_mut().enumerate() {
-                *cost = least[a ^ full_sum].min(*cost);
-            }
             // "choices for the other columns that have at most two deviations and whose weighted
             // sum is h_n times x": such a choice, with column n at z_n for a cost of 0, is a listed
             // one whose weighted sum over all columns is h_n times x plus h_n times z_n.
@@ -128,8 +121,8 @@ impl Messages {
             decisions: columns.iter().map(|column| column.decision).collect(),
             shifts,
             sent,
+            extra: (0..q).map(|a| least_sent(&sent_at_sum, a)).collect(),
             sent_at_sum,
-            extra: bytes(&extra),
         }
     }
 }
@@ -208,6 +201,12 @@ fn least_costs(columns: &[Column], set: &[usize], q: usize) -> Vec<i32> {
         _ => unreachable!("a set has at most two columns"),
     }
     least
+}
+
+/// Document 02, §1: "E(a) is therefore the least of S_n(a) over the columns, at each degree."
+fn least_sent(sent_at_sum: &[Vec<u8>], a: usize) -> u8 {
+    let costs = sent_at_sum.iter().map(|costs| costs[a]);
+    costs.min().expect("a check has columns")
 }
 
 /// Sent costs as bytes: "One always exists, with a cost of at most 255, since one deviation is

@@ -1,6 +1,7 @@
-//! The reference decoder: document 01 (`01-scope.md`) written out once more, in Rust. The proved
-//! library is compared with it, so it is written from the document alone, without that library's
-//! code: the least costs of a check come from listing the choices, as document 01 defines them.
+//! The reference decoder: document 01 (`01-scope.md`) and §1 of document 02
+//! (`02-change-requests.md`) written out once more, in Rust. The proved library is compared with it,
+//! so it is written from the documents alone, without that library's code: the least costs of a check
+//! come from listing the choices, as document 01 defines them.
 //!
 //! The entry points are [`product`], [`check`](check()), [`expand`], [`line`](line()),
 //! [`code_line`], [`decode`], [`frame_line`] and [`program`](program()). Each answers a [`Refusal`]

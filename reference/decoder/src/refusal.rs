@@ -25,7 +25,8 @@ pub enum Refusal {
     ColumnsOrChecks = 7,
     /// "8, g or I out of range"
     ScaleOrLimit = 8,
-    /// "9, degree out of range, or the edge total passes 1,024"
+    /// "9, degree out of range, or the edge total passes 1,024"; document 02, §1: "Refusal 9 now
+    /// starts below 2"
     Degree = 9,
     /// "10, column not below N or not rising"
     Column = 10,

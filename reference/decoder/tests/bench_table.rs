@@ -1,7 +1,8 @@
-//! Document 01, "Bench table": every case. "p = 2, weights 1, unless said."
+//! Document 01, "Bench table": every case. "p = 2, weights 1, unless said." Document 02, §1: "the bench
+//! cases of degree 2 and 3 become 1 and 2".
 
 use reference_decoder::sample::bytes;
-use reference_decoder::{check, code_line, product};
+use reference_decoder::{check, code_line, expand, product};
 
 /// The record of a check with p = 2.
 fn record(weights: &[u8], costs: &[u8]) -> Vec<u8> {
@@ -74,19 +75,33 @@ fn degrees_of_a_check() {
         let mut record = [0; 64];
         check(2, &vec![1; degree], &vec![0; 4 * degree], &mut record).map_err(|r| r.number())
     };
-    assert_eq!(outcome(2), Err(9));
-    assert_eq!(outcome(3), Ok(18));
+    assert_eq!(outcome(1), Err(9));
+    assert_eq!(outcome(2), Ok(17));
     assert_eq!(outcome(32), Ok(47));
+    assert_eq!(outcome(33), Err(9));
+}
+
+#[test]
+fn degrees_of_an_expansion() {
+    let outcome = |degree: usize| {
+        let mut record = vec![0; degree];
+        record.extend([0, 0xFF, 0, 0xFF, 0].repeat(3));
+        let answer = expand(2, &vec![1; degree], &record, &mut [0; 200]);
+        answer.map_err(|r| r.number())
+    };
+    assert_eq!(outcome(1), Err(9));
+    assert_eq!(outcome(2), Ok(8));
+    assert_eq!(outcome(32), Ok(128));
     assert_eq!(outcome(33), Err(9));
 }
 
 #[test]
 fn degrees_and_scales_of_a_code_line() {
     let outcome = |line: &[u8]| code_line(line).map(|_| ()).map_err(|r| r.number());
-    assert_eq!(outcome(&code_of_degree(2, 1)), Err(9));
-    assert_eq!(outcome(&code_of_degree(3, 1)), Ok(()));
+    assert_eq!(outcome(&code_of_degree(1, 1)), Err(9));
+    assert_eq!(outcome(&code_of_degree(2, 1)), Ok(()));
     assert_eq!(outcome(&code_of_degree(32, 1)), Ok(()));
     assert_eq!(outcome(&code_of_degree(33, 1)), Err(9));
-    assert_eq!(outcome(&code_of_degree(3, 16)), Ok(()));
-    assert_eq!(outcome(&code_of_degree(3, 17)), Err(8));
+    assert_eq!(outcome(&code_of_degree(2, 16)), Ok(()));
+    assert_eq!(outcome(&code_of_degree(2, 17)), Err(8));
 }

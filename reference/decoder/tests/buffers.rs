@@ -42,7 +42,7 @@ fn check_expand_and_line() {
         (BTreeSet::new(), BTreeSet::new(), BTreeSet::new());
     for _ in 0..2_000 {
         let style = generator.one_of(&Style::ALL);
-        let accepted = sample::check(&mut generator, 2..=4, 3..=6, style);
+        let accepted = sample::check(&mut generator, 2..=4, 2..=6, style);
         let (q, degree) = (accepted.q(), accepted.degree());
         let mut sample = accepted;
         let mut record = sample::record(&mut generator, sample.p, degree);

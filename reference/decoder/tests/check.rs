@@ -1,5 +1,6 @@
-//! Document 01, "One check", and of "Readings that go wrong" those about a check.
+//! Document 01, "One check", and of "Readings that go wrong" those about a check; document 02, §1.
 
+use reference_decoder::check;
 use reference_decoder::check::Messages;
 use reference_decoder::field::Field;
 use reference_decoder::sample::{self, bytes, CheckSample, Generator, Style};
@@ -63,11 +64,62 @@ fn column_after_column(sample: &CheckSample, columns: &[usize]) -> Vec<i32> {
         .collect()
 }
 
+/// The same, found by listing the choices with no, one and two deviations.
+fn by_deviations(sample: &CheckSample, columns: &[usize]) -> Vec<i32> {
+    let (field, q) = (Field::new(sample.p).unwrap(), sample.q());
+    // What each symbol adds to the weighted sum of the hard decisions, and its cost.
+    let mut hard_sum = 0;
+    let mut changes = Vec::new();
+    for &n in columns {
+        let costs = &sample.costs[n * q..(n + 1) * q];
+        let decision = costs.iter().position(|&cost| cost == 0).unwrap();
+        let term = |x: usize| usize::from(field.product(sample.weights[n], x as u8));
+        hard_sum ^= term(decision);
+        let deviations = (0..q).filter(|&x| x != decision);
+        let change = |x: usize| (term(x) ^ term(decision), i32::from(costs[x]));
+        changes.push(deviations.map(change).collect::<Vec<_>>());
+    }
+    let mut least = vec![i32::MAX; q];
+    let mut choose = |change: usize, cost: i32| {
+        let entry = &mut least[hard_sum ^ change];
+        *entry = cost.min(*entry);
+    };
+    choose(0, 0);
+    for (place, first) in changes.iter().enumerate() {
+        for &(change, cost) in first {
+            choose(change, cost);
+            for &(other, more) in changes[place + 1..].iter().flatten() {
+                choose(change ^ other, cost + more);
+            }
+        }
+    }
+    least
+}
+
+/// The least cost at each weighted sum, over the choices for some columns with at most two
+/// deviations.
+type Method = fn(&CheckSample, &[usize]) -> Vec<i32>;
+
+/// Document 01's words for E(a): "the least cost over choices for all columns with at most two
+/// deviations whose weighted sum is a plus the sum of all h_k times z_k."
+fn extra_of_all_columns(sample: &CheckSample, method: Method) -> Vec<i32> {
+    let field = Field::new(sample.p).unwrap();
+    let every_column: Vec<usize> = (0..sample.degree()).collect();
+    let decisions = messages(sample).decisions;
+    let hard_sum = sample.weights.iter().zip(decisions);
+    let hard_sum = hard_sum.fold(0, |sum, (&weight, decision)| {
+        sum ^ usize::from(field.product(weight, decision))
+    });
+    let least = method(sample, &every_column);
+    (0..sample.q()).map(|a| least[a ^ hard_sum]).collect()
+}
+
 /// Compares sent costs, S and E of one check with those that another method finds.
-fn compare(sample: &CheckSample, method: fn(&CheckSample, &[usize]) -> Vec<i32>) {
+fn compare(sample: &CheckSample, method: Method) {
     let field = Field::new(sample.p).unwrap();
     let messages = messages(sample);
     let every_column: Vec<usize> = (0..sample.degree()).collect();
+    let mut extra = vec![i32::MAX; sample.q()];
     for n in 0..sample.degree() {
         let mut others = every_column.clone();
         others.remove(n);
@@ -82,25 +134,32 @@ fn compare(sample: &CheckSample, method: fn(&CheckSample, &[usize]) -> Vec<i32>)
             );
             let a = usize::from(sum ^ messages.shifts[n]);
             assert_eq!(messages.sent_at_sum[n][a], sent);
+            extra[a] = extra[a].min(i32::from(sent));
         }
     }
-    let hard_sum = every_column.iter().fold(0, |sum, &n| {
-        sum ^ usize::from(field.product(sample.weights[n], messages.decisions[n]))
-    });
-    let least = method(sample, &every_column);
-    for a in 1..sample.q() {
-        assert_eq!(
-            i32::from(messages.extra[a]),
-            least[a ^ hard_sum],
-            "{sample:?} E({a})"
-        );
+    assert!(messages.extra.iter().copied().map(i32::from).eq(extra));
+    if sample.degree() >= 3 {
+        compare_extra(sample, method);
     }
+}
+
+/// Compares E with document 01's words for it. "Records of degree 3 and up keep their bytes", since
+/// nothing else in them depends on how E is worded.
+fn compare_extra(sample: &CheckSample, method: Method) {
+    let extra: Vec<i32> = messages(sample).extra.into_iter().map(i32::from).collect();
+    let of_all_columns = extra_of_all_columns(sample, method);
+    assert_eq!(extra[1..], of_all_columns[1..], "{sample:?}");
 }
 
 #[test]
 fn small_checks_agree_with_all_combinations() {
     let mut generator = Generator::new(1);
     let sizes = [
+        (2, 2, 100),
+        (3, 2, 50),
+        (4, 2, 20),
+        (5, 2, 10),
+        (6, 2, 4),
         (2, 3, 60),
         (2, 4, 60),
         (2, 5, 20),
@@ -122,10 +181,27 @@ fn small_checks_agree_with_all_combinations() {
 fn checks_of_every_size_agree_with_column_after_column() {
     let mut generator = Generator::new(4);
     for style in Style::ALL {
-        for (p, degree, count) in [(2..=6, 3..=12, 20), (6..=6, 32..=32, 1)] {
+        for (p, degree, count) in [(2..=6, 2..=2, 20), (2..=6, 3..=12, 60), (6..=6, 32..=32, 1)] {
             for _ in 0..count {
                 let sample = sample::check(&mut generator, p.clone(), degree.clone(), style);
                 compare(&sample, column_after_column);
+            }
+        }
+    }
+}
+
+#[test]
+fn from_degree_3_on_the_extra_column_is_document_01s() {
+    let mut generator = Generator::new(6);
+    for style in Style::ALL {
+        for (p, degree, count) in [
+            (2..=4, 3..=4, 200),
+            (2..=6, 3..=12, 100),
+            (6..=6, 32..=32, 2),
+        ] {
+            for _ in 0..count {
+                let sample = sample::check(&mut generator, p.clone(), degree.clone(), style);
+                compare_extra(&sample, by_deviations);
             }
         }
     }
@@ -136,7 +212,7 @@ fn hard_decisions_and_shifts_are_those_of_the_definition() {
     let mut generator = Generator::new(2);
     for style in Style::ALL {
         for _ in 0..20 {
-            let sample = sample::check(&mut generator, 2..=6, 3..=12, style);
+            let sample = sample::check(&mut generator, 2..=6, 2..=12, style);
             let field = Field::new(sample.p).unwrap();
             let messages = messages(&sample);
             for (n, costs) in sample.costs.chunks(sample.q()).enumerate() {
@@ -157,18 +233,74 @@ fn hard_decisions_and_shifts_are_those_of_the_definition() {
 fn the_extra_column_is_the_least_and_few_columns_exceed_it() {
     let mut generator = Generator::new(3);
     for style in Style::ALL {
-        for count in 0..40 {
-            let degree = if count == 0 { 32..=32 } else { 3..=16 };
+        for count in 0..80 {
+            let degree = match count {
+                0 => 32..=32,
+                1..40 => 2..=2,
+                _ => 2..=16,
+            };
             let sample = sample::check(&mut generator, 2..=6, degree, style);
             let messages = messages(&sample);
+            // With two columns one of them is sent E.
+            let most = if sample.degree() == 2 { 1 } else { 2 };
             for a in 1..sample.q() {
                 let costs = messages.sent_at_sum.iter().map(|costs| costs[a]);
                 assert_eq!(costs.clone().min(), Some(messages.extra[a]));
-                assert!(costs.filter(|&cost| cost > messages.extra[a]).count() <= 2);
+                assert!(costs.filter(|&cost| cost > messages.extra[a]).count() <= most);
             }
             assert!(messages.sent_at_sum.iter().all(|costs| costs[0] == 0));
         }
     }
+}
+
+/// Document 02, §1: "In such a check a cheapest choice may deviate in both columns, so E would be a
+/// cost nobody was sent".
+#[test]
+fn the_cheapest_choice_of_two_columns_may_be_sent_to_nobody() {
+    // At a = 1 symbol 2 of column 0 and symbol 3 of column 1 together cost 2, and either column is
+    // sent the other's 9.
+    let sample = CheckSample {
+        p: 2,
+        weights: vec![1; 2],
+        costs: bytes("00090109 00090901"),
+    };
+    let messages = messages(&sample);
+    assert_eq!(extra_of_all_columns(&sample, by_all_combinations)[1], 2);
+    assert_eq!([0, 1].map(|n| messages.sent_at_sum[n][1]), [9, 9]);
+    assert_eq!(messages.extra[1..], [9, 1, 1]);
+    let mut record = [0; 17];
+    let written = check(sample.p, &sample.weights, &sample.costs, &mut record);
+    assert_eq!(written, Ok(17));
+    let expected = bytes("0000 09FF00FF00 010009FF00 010109FF00");
+    assert_eq!(record[..], expected);
+}
+
+/// Of two columns each is sent the other's costs, by the weights and from its own shift on.
+#[test]
+fn of_two_columns_each_is_sent_the_others_costs() {
+    let mut generator = Generator::new(5);
+    let (mut above, mut cheaper) = (0, 0);
+    for style in Style::ALL.repeat(60) {
+        let sample = sample::check(&mut generator, 2..=6, 2..=2, style);
+        let (field, q) = (Field::new(sample.p).unwrap(), sample.q());
+        let messages = messages(&sample);
+        for (n, other) in [(0, 1), (1, 0)] {
+            for x in 0..q {
+                let term = field.product(sample.weights[n], x as u8);
+                let partner = |&y: &usize| field.product(sample.weights[other], y as u8) == term;
+                let y = (0..q).find(partner).expect("a weight that is not 0");
+                assert_eq!(messages.sent[n][x], sample.costs[other * q + y]);
+            }
+        }
+        let of_all_columns = extra_of_all_columns(&sample, by_all_combinations);
+        for (a, of_all_columns) in of_all_columns.into_iter().enumerate().skip(1) {
+            let extra = i32::from(messages.extra[a]);
+            assert!(of_all_columns <= extra);
+            cheaper += usize::from(of_all_columns < extra);
+            above += usize::from(messages.sent_at_sum[0][a] != messages.sent_at_sum[1][a]);
+        }
+    }
+    assert!(above > 1_000 && cheaper > 1_000, "{above}, {cheaper}");
 }
 
 #[test]

@@ -1,4 +1,4 @@
-//! Document 01, "Code line as bytes".
+//! Document 01, "Code line as bytes", with the degrees of document 02, §1.
 
 use reference_decoder::sample::{self, bytes, Generator, Size};
 use reference_decoder::{code_line, CheckNode, Code};
@@ -36,15 +36,30 @@ fn the_lengths_of_frame_and_store() {
     assert_eq!(code.store_length(), 3 + 35 + 4 + 35);
 }
 
+/// A check has two columns or more, so that 1 is in the range of N and no line has it.
 #[test]
-fn no_line_with_fewer_than_three_columns_is_accepted() {
-    for n in [1, 2] {
-        let line = [2, 0, n, 1, 16, 1, 3, 0, 0, 1, 0, 1, 1, 0, 2, 1];
-        assert_eq!(
-            code_line(&line).map_err(|refusal| refusal.number()),
-            Err(10)
-        );
-    }
+fn the_least_number_of_columns_is_2() {
+    let number = |line: &str| code_line(&bytes(line)).map_err(|refusal| refusal.number());
+    assert_eq!(number("02 0001 01 10 01 02 000001 000101"), Err(10));
+    assert_eq!(number("02 0001 01 10 01 01 000001"), Err(9));
+    assert_eq!(number("02 0000 01 10 01 02 000001 000101"), Err(7));
+    assert_eq!(number("02 0002 01 10 01 03 000001 000101 000201"), Err(10));
+    let expected = Code {
+        p: 2,
+        n: 2,
+        m: 2,
+        g: 16,
+        limit: 1,
+        checks: vec![
+            CheckNode {
+                columns: vec![0, 1],
+                weights: vec![1, 3],
+            };
+            2
+        ],
+    };
+    let line = "02 0002 02 10 01 02 000001 000103 02 000001 000103";
+    assert_eq!(number(line), Ok(expected));
 }
 
 #[test]

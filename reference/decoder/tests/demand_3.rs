@@ -1,4 +1,5 @@
-//! Demand 3: when the stores of two decodings are equal.
+//! Demand 3: when the stores of two decodings are equal. Document 02, §1: "The equality of stores is to
+//! hold for degree 2 as well."
 
 use std::collections::HashMap;
 
@@ -49,28 +50,27 @@ fn frames_with_equal_sent_costs_and_different_stores() {
     assert_ne!(decoded(&line, &frames[0]).1, decoded(&line, &frames[1]).1);
 }
 
+/// Frames with equal stores in [`compare_stores`].
+#[derive(Default)]
+struct EqualStores {
+    count: usize,
+    with_different_iterations: usize,
+}
+
 /// Demand 3: the used parts of two stores are equal "exactly when the two runs agree in this: at
 /// the last update of every check, each column was sent the same sum of the other columns' weighted
-/// hard decisions and, at each symbol, the same least cost before scaling".
-#[test]
-fn stores_are_equal_exactly_when_the_last_updates_agree() {
+/// hard decisions and, at each symbol, the same least cost before scaling". Tried on pairs of random
+/// frames under random codes of the size.
+fn compare_stores(generator: &mut Generator, size: &Size) -> EqualStores {
     type Agreement = Vec<(Vec<u8>, Vec<Vec<u8>>)>;
-    let mut generator = Generator::new(42);
-    let size = Size {
-        p: 2..=2,
-        columns: 3..=4,
-        checks: 1..=3,
-        degree: 3..=3,
-        limit: 1..=3,
-    };
-    let (mut equal_stores, mut with_different_iterations) = (0, 0);
+    let mut equal = EqualStores::default();
     for _ in 0..40 {
-        let line = sample::code(&mut generator, &size).line;
+        let line = sample::code(generator, size).line;
         let code = code_line(&line).unwrap();
         let mut by_store: HashMap<Vec<u8>, (Agreement, u8)> = HashMap::new();
         let mut by_agreement: HashMap<Agreement, Vec<u8>> = HashMap::new();
         for _ in 0..150 {
-            let mut frame = sample::frame(&mut generator, &code, Style::NearZero);
+            let mut frame = sample::frame(generator, &code, Style::NearZero);
             frame.iter_mut().for_each(|cost| *cost = *cost % 2 * 16);
             let mut machine = Machine::start(&code, &frame);
             let t = machine.run().iterations();
@@ -86,11 +86,30 @@ fn stores_are_equal_exactly_when_the_last_updates_agree() {
             assert_eq!(known, &store);
             if let Some((known, known_t)) = by_store.get(&store) {
                 assert_eq!(known, &agreement);
-                equal_stores += 1;
-                with_different_iterations += usize::from(*known_t != t);
+                equal.count += 1;
+                equal.with_different_iterations += usize::from(*known_t != t);
             }
             by_store.insert(store, (agreement, t));
         }
     }
-    assert!(equal_stores > 100 && with_different_iterations > 0);
+    equal
+}
+
+#[test]
+fn stores_are_equal_exactly_when_the_last_updates_agree() {
+    let mut generator = Generator::new(42);
+    let mut with_different_iterations = 0;
+    for (columns, degree) in [(3..=4, 3..=3), (2..=4, 2..=3), (2..=4, 2..=2)] {
+        let size = Size {
+            p: 2..=2,
+            columns,
+            checks: 1..=3,
+            degree,
+            limit: 1..=3,
+        };
+        let equal = compare_stores(&mut generator, &size);
+        assert!(equal.count > 100);
+        with_different_iterations += equal.with_different_iterations;
+    }
+    assert!(with_different_iterations > 0);
 }

@@ -1,4 +1,4 @@
-//! Document 01, "Layered machine".
+//! Document 01, "Layered machine", with the checks of document 02, §1.
 
 use reference_decoder::machine::Machine;
 use reference_decoder::record::has_accepted_form;
@@ -127,6 +127,39 @@ fn runs_of_several_iterations() {
             .map(|p| p.iter().position(|&cost| cost == 0).unwrap());
         assert!(decisions.eq(decoded.symbols.into_iter().map(usize::from)));
     }
+}
+
+/// Two checks on two columns each, the second with weights 1 and 3. What column 2 brings reaches column
+/// 0 in the second iteration, and turns its decision.
+#[test]
+fn checks_on_two_columns() {
+    let code = bytes("020003021002 02 000001 000101 02 000101 000203");
+    let expected = Decoded {
+        outcome: Outcome::Found(2),
+        symbols: vec![1, 1, 2],
+        costs: vec![5, 0, 20, 9, 5, 0, 20, 9, 5, 9, 0, 20],
+        store: vec![
+            1, 0, 5, 0, 10, 255, 0, 5, 1, 7, 255, 0, 9, 0, 18, 255, 0, 1, 0, 1, 0, 6, 255, 0, 2, 1,
+            11, 255, 0, 8, 0, 10, 255, 0,
+        ],
+    };
+    let frame = [0, 5, 7, 9, 4, 0, 8, 3, 6, 2, 0, 10];
+    assert_eq!(decoded(&code, &frame), expected);
+}
+
+/// The least code there is: N = 2, and one check on both columns.
+#[test]
+fn the_code_of_two_columns() {
+    let code = bytes("020002011003 02 000001 000101");
+    // Each column is sent the other's costs, 4 0 8 3 and 0 5 7 9: both sums are 4 5 15 12.
+    let expected = Decoded {
+        outcome: Outcome::Found(1),
+        symbols: vec![0, 0],
+        costs: vec![0, 1, 11, 8, 0, 1, 11, 8],
+        store: bytes("0100 040105FF00 030107FF00 080109FF00"),
+    };
+    let frame = bytes("00050709 04000803");
+    assert_eq!(decoded(&code, &frame), expected);
 }
 
 #[test]

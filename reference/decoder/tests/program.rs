@@ -32,6 +32,17 @@ fn one_line_is_printed_for_each_frame() {
     assert_eq!(output(CODE), "");
 }
 
+/// Document 02, §1: two such checks on three columns, and one on two.
+#[test]
+fn checks_on_two_columns() {
+    let code = "0200030210020200000100010102000101000203";
+    let frame = "00050709040008030602000A";
+    assert_eq!(output(format!("{code}\n{frame}\n")), "0002010102\n");
+    let code = "02000201100302000001000101";
+    let frame = "0005070904000803";
+    assert_eq!(output(format!("{code}\n{frame}\n")), "00010000\n");
+}
+
 #[test]
 fn empty_input_and_empty_lines() {
     assert_eq!(output(""), "0500\n");
@@ -60,7 +71,9 @@ fn a_refused_code_line_ends_the_program() {
         ("070003011001", "0600\n"),
         ("020000011001", "0700\n"),
         ("020003011101", "0800\n"),
-        ("02000301100102", "0900\n"),
+        ("02000301100101", "0900\n"),
+        ("02000301100102", "0500\n"),
+        ("02000101100102000001000101", "0A00\n"),
         ("02000301100103000001000101000301", "0A00\n"),
         ("02000301100103000001000101000200", "0B00\n"),
         ("0200030110010300000100010100020", "0E00\n"),

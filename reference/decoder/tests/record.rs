@@ -1,4 +1,4 @@
-//! Document 01, "Record".
+//! Document 01, "Record", at the degrees of document 02, §1.
 
 use std::collections::HashMap;
 
@@ -30,7 +30,11 @@ fn the_expansion_of_a_record_is_the_sent_costs() {
     let mut generator = Generator::new(10);
     for style in Style::ALL {
         for count in 0..50 {
-            let degree = if count == 0 { 32..=32 } else { 3..=12 };
+            let degree = match count {
+                0 => 32..=32,
+                1..10 => 2..=2,
+                _ => 2..=12,
+            };
             let sample = sample::check(&mut generator, 2..=6, degree, style);
             let sent = messages(&sample).sent.concat();
             assert_eq!(expansion(sample.p, &sample.weights, &record(&sample)), sent);
@@ -41,7 +45,13 @@ fn the_expansion_of_a_record_is_the_sent_costs() {
 #[test]
 fn records_are_equal_exactly_when_shifts_and_sent_costs_are() {
     let mut generator = Generator::new(11);
-    for weights in [vec![1, 1, 1], vec![1, 2, 3], vec![3, 1, 1, 2]] {
+    for weights in [
+        vec![1, 1],
+        vec![2, 3],
+        vec![1, 1, 1],
+        vec![1, 2, 3],
+        vec![3, 1, 1, 2],
+    ] {
         let mut by_record: HashMap<Vec<u8>, (Vec<u8>, Vec<u8>)> = HashMap::new();
         let mut by_messages: HashMap<(Vec<u8>, Vec<u8>), Vec<u8>> = HashMap::new();
         let mut repeated = 0;
@@ -84,6 +94,15 @@ fn equal_sent_costs_with_different_shifts_make_different_records() {
     assert_ne!(record(&first), record(&second));
 }
 
+/// With two columns a check never lists both, but a record of accepted form may.
+#[test]
+fn a_record_of_degree_2_that_lists_both_columns_expands() {
+    let record = bytes("0102 0900FF010A FFFF00FF00 000101FF00");
+    // For x = 0 to 3, a is 1 0 3 2 in column 0 and 2 0 1 3 in column 1.
+    let expected = bytes("FF0000FF FF000A01");
+    assert_eq!(expansion(2, &[1, 2], &record), expected);
+}
+
 #[test]
 fn a_record_that_no_check_wrote_expands() {
     let record = bytes("010203 0900FF020A FFFF00FF00 000101FF00");
@@ -97,7 +116,7 @@ fn every_record_of_accepted_form_expands_to_its_entries() {
     let mut generator = Generator::new(12);
     for _ in 0..200 {
         let p = generator.byte(2..=6);
-        let degree = generator.between(3..=32);
+        let degree = generator.between(2..=32);
         let weights = sample::weights(&mut generator, p, degree);
         let record = sample::record(&mut generator, p, degree);
         let expansion = expansion(p, &weights, &record);

@@ -41,9 +41,9 @@ fn check_6_9_11_12_13_4() {
     let without_zero = [0, 9, 9, 9, 9, 9, 9, 9, 0, 9, 9, 9];
     for p in [0, 1, 7, 255] {
         assert_eq!(number(p, &weights, &costs, 18), 6);
-        assert_eq!(number(p, &[1, 2], &costs, 18), 6);
+        assert_eq!(number(p, &[1], &costs, 18), 6);
     }
-    for degree in [0, 1, 2, 33, 34, 256] {
+    for degree in [0, 1, 33, 34, 256, 258] {
         assert_eq!(number(2, &vec![1; degree], &vec![0; 4 * degree], 300), 9);
         assert_eq!(number(2, &vec![0; degree], &vec![0; 4 * degree], 300), 9);
     }
@@ -67,6 +67,32 @@ fn check_6_9_11_12_13_4() {
     assert_eq!(check(2, &weights, &costs, &mut [0; 18]), Ok(18));
 }
 
+/// The refusals after 9, at both bounds of the degree.
+#[test]
+fn check_11_12_13_4_at_degree_2_and_32() {
+    for degree in [2, 32] {
+        let number = |weights: &[u8], costs: &[u8], room| {
+            refused(room, |record| check(2, weights, costs, record))
+        };
+        let (weights, costs, length) = (vec![3; degree], vec![0; 4 * degree], degree + 15);
+        for place in [0, degree - 1] {
+            let mut weights = weights.clone();
+            weights[place] = 4;
+            assert_eq!(number(&weights, &costs, length), 11);
+            let mut costs = costs.clone();
+            costs[4 * place..][..4].fill(9);
+            assert_eq!(number(&vec![3; degree], &costs, length), 13);
+        }
+        for count in [0, 4 * degree - 4, 4 * degree - 1, 4 * degree + 1] {
+            assert_eq!(number(&weights, &vec![0; count], length), 12);
+        }
+        for room in [0, length - 1] {
+            assert_eq!(number(&weights, &costs, room), 4);
+        }
+        assert_eq!(check(2, &weights, &costs, &mut vec![0; length]), Ok(length));
+    }
+}
+
 #[test]
 fn expand_6_9_11_16_2() {
     let number = |p, weights: &[u8], record: &[u8], room| {
@@ -76,9 +102,9 @@ fn expand_6_9_11_16_2() {
     let record = bytes("010203 0900FF020A FFFF00FF00 000101FF00");
     for p in [0, 1, 7, 255] {
         assert_eq!(number(p, &weights, &record, 12), 6);
-        assert_eq!(number(p, &[1, 2], &record, 12), 6);
+        assert_eq!(number(p, &[1], &record, 12), 6);
     }
-    for degree in [0, 1, 2, 33, 256] {
+    for degree in [0, 1, 33, 256, 258] {
         assert_eq!(number(2, &vec![1; degree], &vec![0; degree + 15], 2_000), 9);
         assert_eq!(number(2, &vec![0; degree], &vec![0; degree + 15], 2_000), 9);
     }
@@ -92,6 +118,36 @@ fn expand_6_9_11_16_2() {
         assert_eq!(number(2, &weights, &record, room), 2);
     }
     assert_eq!(expand(2, &weights, &record, &mut [0; 12]), Ok(12));
+}
+
+/// The refusals after 9, at both bounds of the degree.
+#[test]
+fn expand_11_16_2_at_degree_2_and_32() {
+    for degree in [2, 32] {
+        let number = |weights: &[u8], record: &[u8], room| {
+            refused(room, |out| expand(2, weights, record, out))
+        };
+        let (weights, written) = (vec![3; degree], 4 * degree);
+        let last = u8::try_from(degree - 1).unwrap();
+        let mut record = vec![1; degree];
+        record.extend([0, 0, 1, last, 1]);
+        record.extend([0, last, 1, 0xFF, 0]);
+        record.extend([0, 0xFF, 0, 0xFF, 0]);
+        for place in [0, degree - 1] {
+            let mut weights = weights.clone();
+            weights[place] = 0;
+            assert_eq!(number(&weights, &record, written), 11);
+        }
+        let mut past_the_last = record.clone();
+        past_the_last[degree + 3] = last + 1;
+        assert_eq!(number(&weights, &past_the_last, written), 16);
+        assert_eq!(number(&weights, &record[1..], written), 16);
+        for room in [0, written - 1] {
+            assert_eq!(number(&weights, &record, room), 2);
+        }
+        let answer = expand(2, &weights, &record, &mut vec![0; written]);
+        assert_eq!(answer, Ok(written));
+    }
 }
 
 #[test]

@@ -73,7 +73,7 @@ fn g_and_i_are_8_before_5_and_9() {
     for fault in ["00 01", "11 01", "FF 01", "10 00"] {
         assert_eq!(refused_code(&with(4, fault)), 8);
         assert_eq!(refused_code(&with(4, fault)[..6]), 8);
-        assert_eq!(refused_code(&with(4, &format!("{fault} 02"))), 8);
+        assert_eq!(refused_code(&with(4, &format!("{fault} 01"))), 8);
     }
     for accepted in ["01 01", "10 01", "10 FF"] {
         assert!(code_line(&with(4, accepted)).is_ok());
@@ -89,10 +89,24 @@ fn a_missing_degree_byte_is_5() {
 
 #[test]
 fn a_degree_is_9_before_5_for_the_edges() {
-    for degree in ["00", "02", "21", "FF"] {
+    for degree in ["00", "01", "21", "FF"] {
         assert_eq!(refused_code(&with(6, degree)), 9);
         assert_eq!(refused_code(&with(6, degree)[..7]), 9);
     }
+    for degree in ["02", "03", "20"] {
+        assert_eq!(refused_code(&with(6, degree)[..7]), 5);
+    }
+}
+
+/// A check of one edge that is right but for its degree, alone and behind an accepted check.
+#[test]
+fn a_check_on_one_column_is_9() {
+    let alone = bytes("020003011001 01 000001");
+    assert_eq!(refused_code(&alone), 9);
+    let second = [with(3, "02"), bytes("01 000001")].concat();
+    assert_eq!(refused_code(&second), 9);
+    let of_two_columns = [with(3, "02"), bytes("02 000001 000101")].concat();
+    assert!(code_line(&of_two_columns).is_ok());
 }
 
 #[test]
@@ -103,9 +117,9 @@ fn an_edge_total_above_1024_is_9_before_5_for_the_edges() {
         line.extend((0..32).flat_map(|column| [0, column, 1]));
     }
     assert_eq!(refused_code(&line), 5);
-    line.push(3);
+    line.push(2);
     assert_eq!(refused_code(&line), 9);
-    line.extend(bytes("000001 000101 000201"));
+    line.extend(bytes("000001 000101"));
     assert_eq!(refused_code(&line), 9);
 }
 
@@ -141,7 +155,7 @@ fn a_weight_is_11_before_later_faults() {
         assert_eq!(refused_code(&next_column_too), 11);
         let left_over_too = [with(15, weight), vec![0]].concat();
         assert_eq!(refused_code(&left_over_too), 11);
-        let mut next_degree_too = [with(15, weight), vec![2]].concat();
+        let mut next_degree_too = [with(15, weight), vec![1]].concat();
         next_degree_too[3] = 2;
         assert_eq!(refused_code(&next_degree_too), 11);
     }
