@@ -31,6 +31,7 @@ fn rising_numbers_are_different_and_below_the_bound() {
 fn codes_are_accepted_and_their_words_satisfy_them() {
     let mut generator = Generator::new(91);
     let mut sizes = BTreeSet::new();
+    let (mut of_two_columns, mut checks_on_two_columns) = (0, 0);
     for size in [
         Size::SMALL,
         Size::MEDIUM,
@@ -48,13 +49,16 @@ fn codes_are_accepted_and_their_words_satisfy_them() {
                     sum ^= field.product(weight, sample.word[column]);
                 }
                 assert_eq!(sum, 0);
-                assert!(size.degree.contains(&check.weights.len()) || size == Size::FULL);
+                assert!(size.degree.contains(&check.weights.len()));
+                checks_on_two_columns += usize::from(check.weights.len() == 2);
             }
             assert!(size.columns.contains(&code.n) && size.checks.contains(&code.m));
             sizes.insert(code.p);
+            of_two_columns += usize::from(code.n == 2);
         }
     }
     assert_eq!(sizes, BTreeSet::from([2, 3, 4, 5, 6]));
+    assert!(of_two_columns > 0 && checks_on_two_columns > 100);
 }
 
 #[test]
@@ -109,7 +113,7 @@ fn records_have_accepted_form() {
     let mut generator = Generator::new(94);
     for _ in 0..300 {
         let p = generator.byte(2..=6);
-        let degree = generator.between(3..=32);
+        let degree = generator.between(2..=32);
         let record = sample::record(&mut generator, p, degree);
         let field = reference_decoder::field::Field::new(p).unwrap();
         assert!(has_accepted_form(field, degree, &record));
@@ -126,6 +130,29 @@ fn damaged_codes_meet_every_refusal() {
         numbers.insert(code_line(&damaged).err().map_or(0, Refusal::number));
     }
     assert_eq!(numbers, BTreeSet::from([0, 5, 6, 7, 8, 9, 10, 11]));
+}
+
+/// A line of one check with all edges but the first taken off, so that only its degree is wrong, and
+/// with all but the first two.
+#[test]
+fn damaged_codes_are_on_both_sides_of_the_least_degree() {
+    let mut generator = Generator::new(97);
+    let size = Size {
+        checks: 1..=1,
+        ..Size::SMALL
+    };
+    let mut met = [0, 0];
+    for _ in 0..4_000 {
+        let line = sample::code(&mut generator, &size).line;
+        let [one, two] = [1, 2]
+            .map(|edges| [&line[..6], &[edges], &line[7..][..3 * usize::from(edges)]].concat());
+        assert_eq!(code_line(&one).err().map(Refusal::number), Some(9));
+        assert!(code_line(&two).is_ok());
+        let damaged = sample::damaged_code(&mut generator, &line);
+        met[0] += usize::from(damaged == one);
+        met[1] += usize::from(damaged == two && damaged != line);
+    }
+    assert!(met.iter().all(|&count| count > 5), "{met:?}");
 }
 
 #[test]

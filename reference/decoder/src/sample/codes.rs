@@ -3,6 +3,7 @@
 use std::ops::RangeInclusive;
 
 use super::{checks, costs, Generator, Style};
+use crate::check::DEGREES;
 use crate::code::{Code, MOST_EDGES, MOST_SCALE};
 use crate::field::{sum, Field};
 
@@ -12,7 +13,7 @@ use crate::field::{sum, Field};
 pub struct Size {
     /// p.
     pub p: RangeInclusive<u8>,
-    /// N, at least 3.
+    /// N, at least 2.
     pub columns: RangeInclusive<usize>,
     /// M.
     pub checks: RangeInclusive<usize>,
@@ -26,9 +27,9 @@ impl Size {
     /// Codes of a few columns, for many runs.
     pub const SMALL: Size = Size {
         p: 2..=3,
-        columns: 3..=8,
+        columns: 2..=8,
         checks: 1..=4,
-        degree: 3..=5,
+        degree: 2..=5,
         limit: 1..=5,
     };
     /// Codes of every p on which a decoding is still short.
@@ -36,15 +37,15 @@ impl Size {
         p: 2..=6,
         columns: 8..=48,
         checks: 2..=16,
-        degree: 3..=8,
+        degree: 2..=8,
         limit: 1..=10,
     };
     /// Every accepted size. A decoding may take up to 255 iterations over 1,024 edges.
     pub const FULL: Size = Size {
         p: 2..=6,
-        columns: 3..=256,
+        columns: 2..=256,
         checks: 1..=128,
-        degree: 3..=32,
+        degree: 2..=32,
         limit: 1..=255,
     };
     /// The limits of p, N, M and the edge total together.
@@ -87,7 +88,8 @@ pub fn code(generator: &mut Generator, size: &Size) -> CodeSample {
     line.push(generator.byte(size.limit.clone()));
     let mut edges_left = MOST_EDGES;
     for checks_left in (0..m).rev() {
-        let most = n.min(edges_left - 3 * checks_left).min(*size.degree.end());
+        let room = edges_left - DEGREES.start() * checks_left;
+        let most = n.min(room).min(*size.degree.end());
         let degree = generator.between(most.min(*size.degree.start())..=most);
         edges_left -= degree;
         let columns = generator.rising(degree, n);
@@ -133,7 +135,7 @@ pub fn noisy_frame(
     frame
 }
 
-/// All 0, or all different from 0: for both, some weights satisfy a check on any three columns.
+/// All 0, or all different from 0: for both, some weights satisfy a check on any two columns or more.
 fn word(generator: &mut Generator, p: u8, n: usize) -> Vec<u8> {
     let greatest = (1 << p) - 1;
     let zero = generator.once_in(4);

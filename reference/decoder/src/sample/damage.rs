@@ -65,7 +65,7 @@ pub fn damaged_code(generator: &mut Generator, line: &[u8]) -> Vec<u8> {
                 let edge = generator.below(code.checks[target].columns.len());
                 let edge_start = start + 1 + EDGE_LENGTH * edge;
                 match kind {
-                    3 => line[start] = generator.one_of(&[0, 2, 3, 32, 33, 255]),
+                    3 => change_degree(generator, line, start),
                     4 => line[edge_start + generator.below(2)] = generator.byte(0..=255),
                     _ => line[edge_start + 2] = generator.one_of(&[0, 4, 8, 16, 32, 64, 255]),
                 }
@@ -73,6 +73,18 @@ pub fn damaged_code(generator: &mut Generator, line: &[u8]) -> Vec<u8> {
             _ => change_bytes(generator, line),
         }
     })
+}
+
+/// Changes the degree byte at this place. Where the check has more edges than the new degree says,
+/// they are taken off once in two times, so that nothing but the degree is wrong, or nothing at all.
+fn change_degree(generator: &mut Generator, line: &mut Vec<u8>, place: usize) {
+    let before = line[place];
+    let after = generator.one_of(&[0, 1, 2, 3, 32, 33, 255]);
+    line[place] = after;
+    if after < before && generator.once_in(2) {
+        let [from, to] = [after, before].map(|edges| place + 1 + EDGE_LENGTH * usize::from(edges));
+        line.drain(from..to);
+    }
 }
 
 /// A frame or a check's costs, column by column with `q` costs each, with changes that aim at 12
@@ -97,9 +109,15 @@ pub fn damaged_check(generator: &mut Generator, sample: &CheckSample) -> CheckSa
     damaged(generator, sample, |generator, sample| {
         match generator.below(5) {
             0 => sample.p = generator.one_of(&[0, 1, 2, 6, 7, 255]),
-            1 => sample
-                .weights
-                .resize(generator.one_of(&[0, 2, 3, 32, 33, 256]), 1),
+            1 => {
+                // 256 and 258 would be 0 and 2 in a byte.
+                let degree = generator.one_of(&[0, 1, 2, 3, 32, 33, 256, 258]);
+                sample.weights.resize(degree, 1);
+                // Once in two times the costs have the new degree too.
+                if generator.once_in(2) {
+                    sample.costs.resize(degree * q, 0);
+                }
+            }
             2 => {
                 let weight = generator.one_of(&[0, 4, 8, 16, 32, 64, 255]);
                 replace(generator, &mut sample.weights, weight);
