@@ -6,6 +6,9 @@ mod expand;
 mod line;
 mod product;
 
+use std::ops::RangeInclusive;
+
+use reference_decoder::check::DEGREES;
 use reference_decoder::sample::Generator;
 
 use crate::comparison::Difference;
@@ -63,6 +66,26 @@ impl EntryPoint {
     /// The first difference.
     pub fn compare_every(&self, tally: &mut Tally) -> Result<(), Difference> {
         (self.every)(tally)
+    }
+}
+
+/// The degrees from which that of an accepted check is taken: one of 2, 3 and 32, or more often all.
+fn degrees(generator: &mut Generator) -> RangeInclusive<usize> {
+    match generator.below(10) {
+        0 => 2..=2,
+        1 => 3..=3,
+        2 => 32..=32,
+        _ => DEGREES,
+    }
+}
+
+/// The degrees next to the accepted ones, each of which must be refused by 9.
+const REFUSED_DEGREES: [&str; 2] = ["degree 1 refused", "degree 33 refused"];
+
+/// Counts a refused degree that is next to an accepted one.
+fn see_refused(tally: &mut Tally, degree: usize, refused: bool) {
+    for (name, beside) in REFUSED_DEGREES.into_iter().zip([1, 33]) {
+        tally.seen(name, refused && degree == beside);
     }
 }
 

@@ -19,13 +19,15 @@ pub fn tally() -> Tally {
     let mut expected = vec![Class::FoundAtStart, Class::FoundLater, Class::NotFound];
     // The program's own buffers are long enough, so 2, 3 and 4 are never printed.
     expected.extend((5..=15).map(Class::Refused));
-    expected.push(Class::Seen(MOST_COLUMNS));
+    expected.extend([LEAST_COLUMNS, MOST_COLUMNS].map(Class::Seen));
     Tally::new("the program decode", expected)
 }
 
+const LEAST_COLUMNS: &str = "N 2";
 const MOST_COLUMNS: &str = "N 256";
 
-/// Compares the program on document 01's example and on inputs made for one rule each.
+/// Compares the program on document 01's example, on checks of two columns and on inputs made for one
+/// rule each.
 ///
 /// # Errors
 ///
@@ -138,6 +140,8 @@ fn count(output: &[u8], tally: &mut Tally) {
             status @ 0..=1 => Class::of_outcome(status, bytes[1]),
             number => Class::Refused(u16::from(number)),
         });
+        // A refused line has two bytes.
+        tally.seen(LEAST_COLUMNS, bytes.len() == 2 + 2);
         tally.seen(MOST_COLUMNS, bytes.len() == 2 + 256);
     }
 }

@@ -2,7 +2,10 @@
 
 use reference_decoder::sample::{self, CheckSample, Generator, Style};
 
-use super::{accepted_or_refused, class_of, of_library, of_reference, EntryPoint};
+use super::{
+    accepted_or_refused, class_of, degrees, of_library, of_reference, see_refused, EntryPoint,
+    REFUSED_DEGREES,
+};
 use crate::comparison::{Comparison, Difference, Inputs};
 use crate::lent::{length_around, length_enough, Lent};
 use crate::tally::{Class, Tally};
@@ -15,8 +18,12 @@ pub const CHECK: EntryPoint = EntryPoint {
     every: |_| Ok(()),
 };
 
+const DEGREE_2: &str = "degree 2";
 const DEGREE_3: &str = "degree 3";
 const DEGREE_32: &str = "degree 32";
+/// Document 02, §1: "a cheapest choice may deviate in both columns, so E would be a cost nobody was
+/// sent".
+const CHEAPER_THAN_E: &str = "degree 2, a choice for both columns cheaper than E";
 const SIZES: [&str; 5] = ["p 2", "p 3", "p 4", "p 5", "p 6"];
 /// How many pairs some a of a record uses.
 const PAIRS: [&str; 3] = ["0 pairs used", "1 pair used", "2 pairs used"];
@@ -24,7 +31,8 @@ const GREATEST_COST: &str = "E 255";
 
 fn expected() -> Vec<Class> {
     let mut classes = accepted_or_refused(&[4, 6, 9, 11, 12, 13]);
-    let seen = [DEGREE_3, DEGREE_32, GREATEST_COST].into_iter();
+    let seen = [DEGREE_2, DEGREE_3, DEGREE_32, CHEAPER_THAN_E, GREATEST_COST];
+    let seen = seen.into_iter().chain(REFUSED_DEGREES);
     let seen = seen.chain(SIZES).chain(PAIRS);
     classes.extend(seen.map(Class::Seen));
     classes
@@ -64,6 +72,7 @@ fn call(generator: &mut Generator, tally: &mut Tally) -> Result<(), Difference> 
     ));
 
     tally.answer(class_of(&expected));
+    see_refused(tally, input.degree(), expected == Err(9));
     if let Ok(written) = expected {
         see(tally, &input, &record_expected.slice()[..written]);
     }
@@ -84,11 +93,7 @@ fn call(generator: &mut Generator, tally: &mut Tally) -> Result<(), Difference> 
 /// An accepted check of any size, more often than not of a degree between the limits, with all
 /// columns in one style or each in its own.
 fn accepted(generator: &mut Generator) -> CheckSample {
-    let degree = match generator.below(8) {
-        0 => 3..=3,
-        1 => 32..=32,
-        _ => 3..=32,
-    };
+    let degree = degrees(generator);
     let style = generator.one_of(&Style::ALL);
     let mut sample = sample::check(generator, 2..=6, degree, style);
     if generator.once_in(3) {
@@ -104,6 +109,8 @@ fn accepted(generator: &mut Generator) -> CheckSample {
 /// Counts what an accepted check and its record show.
 fn see(tally: &mut Tally, input: &CheckSample, record: &[u8]) {
     tally.seen(SIZES[usize::from(input.p) - 2], true);
+    tally.seen(DEGREE_2, input.degree() == 2);
+    tally.seen(CHEAPER_THAN_E, cheaper_than_extra(input, record));
     tally.seen(DEGREE_3, input.degree() == 3);
     tally.seen(DEGREE_32, input.degree() == 32);
     let entries = record[input.degree()..].chunks_exact(5);
@@ -112,4 +119,49 @@ fn see(tally: &mut Tally, input: &CheckSample, record: &[u8]) {
         tally.seen(name, entries.clone().any(|entry| used(entry) == pairs));
     }
     tally.seen(GREATEST_COST, entries.clone().any(|entry| entry[0] == 255));
+}
+
+/// Whether the check has two columns and, for some a, a choice of their two symbols costs less than
+/// E(a): neither column is sent that cost.
+fn cheaper_than_extra(input: &CheckSample, record: &[u8]) -> bool {
+    let (&[first, second], &[shift, other_shift]) = (&input.weights[..], &record[..2]) else {
+        return false;
+    };
+    let term = |weight, x: usize| {
+        let product = reference_decoder::product(input.p, weight, x as u8);
+        product.expect("a weight and a symbol")
+    };
+    let (costs, other_costs) = input.costs.split_at(input.q());
+    (0..input.q()).any(|x| {
+        (0..input.q()).any(|y| {
+            // The shifts of two columns add up to the sum of all h_k times z_k.
+            let a = term(first, x) ^ term(second, y) ^ shift ^ other_shift;
+            let cost = u16::from(costs[x]) + u16::from(other_costs[y]);
+            a != 0 && cost < u16::from(record[2 + 5 * (usize::from(a) - 1)])
+        })
+    })
+}
+
+#[cfg(test)]
+mod tests {
+    use super::*;
+
+    #[test]
+    fn a_choice_for_both_columns_may_be_cheaper_than_e() {
+        let cheaper = |costs: &str, record: &str| {
+            let input = CheckSample {
+                p: 2,
+                weights: vec![1, 1],
+                costs: sample::bytes(costs),
+            };
+            cheaper_than_extra(&input, &sample::bytes(record))
+        };
+        let record = "0000 09FF00FF00 010009FF00 010109FF00";
+        assert!(cheaper("00090109 00090901", record));
+        // Column 0 decides on 1, so that the shifts are 0 and 1.
+        let record = "0001 09FF00FF00 010109FF00 010009FF00";
+        assert!(cheaper("09000901 00090901", record));
+        let record = "0000 0100090101 0100090101 01FF00FF00";
+        assert!(!cheaper("00010101 00010101", record));
+    }
 }

@@ -18,6 +18,8 @@ pub const DECODE: EntryPoint = EntryPoint {
 };
 
 const SIZES: [&str; 5] = ["p 2", "p 3", "p 4", "p 5", "p 6"];
+const LEAST_COLUMNS: &str = "N 2";
+const LEAST_DEGREE: &str = "degree 2";
 const MOST_COLUMNS: &str = "N 256";
 const MOST_CHECKS: &str = "M 128";
 const MOST_EDGES: &str = "1,024 edges";
@@ -29,6 +31,8 @@ fn expected() -> Vec<Class> {
     let mut classes = vec![Class::FoundAtStart, Class::FoundLater, Class::NotFound];
     classes.extend((2..=13).map(Class::Refused));
     let seen = [
+        LEAST_COLUMNS,
+        LEAST_DEGREE,
         MOST_COLUMNS,
         MOST_CHECKS,
         MOST_EDGES,
@@ -45,7 +49,7 @@ const LONG: Size = Size {
     p: 2..=3,
     columns: 6..=10,
     checks: 3..=6,
-    degree: 3..=5,
+    degree: 2..=5,
     limit: 250..=255,
 };
 
@@ -246,6 +250,8 @@ fn see(tally: &mut Tally, code: &Code, t: u8, costs: &[u16]) {
     }
     let degrees = code.checks.iter().map(|check| check.weights.len());
     tally.seen(SIZES[usize::from(code.p) - 2], true);
+    tally.seen(LEAST_COLUMNS, code.n == 2);
+    tally.seen(LEAST_DEGREE, degrees.clone().min() == Some(2));
     tally.seen(MOST_COLUMNS, code.n == 256);
     tally.seen(MOST_CHECKS, code.m == 128);
     tally.seen(MOST_EDGES, degrees.clone().sum::<usize>() == 1_024);

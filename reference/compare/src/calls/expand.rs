@@ -4,7 +4,10 @@ use std::collections::BTreeSet;
 
 use reference_decoder::sample::{self, CheckSample, Generator, Style};
 
-use super::{accepted_or_refused, class_of, of_library, of_reference, EntryPoint};
+use super::{
+    accepted_or_refused, class_of, degrees, of_library, of_reference, see_refused, EntryPoint,
+    REFUSED_DEGREES,
+};
 use crate::comparison::{Comparison, Difference, Inputs};
 use crate::lent::{length_around, length_enough, Lent};
 use crate::tally::{Class, Tally};
@@ -36,9 +39,16 @@ const NOT_RISING: &str = "16 by columns not rising alone";
 const NOT_BELOW_D: &str = "16 by a column not below d alone";
 const NOT_ABOVE_E: &str = "16 by an S not above E alone";
 
+const DEGREE_2: &str = "degree 2";
+const DEGREE_32: &str = "degree 32";
+/// No check writes such a record.
+const BOTH_COLUMNS: &str = "degree 2, both columns in the pairs of an a";
+
 fn expected() -> Vec<Class> {
     let mut classes = accepted_or_refused(&[2, 6, 9, 11, 16]);
     classes.extend(CAUSES.map(Class::Seen));
+    classes.extend([DEGREE_2, DEGREE_32, BOTH_COLUMNS].map(Class::Seen));
+    classes.extend(REFUSED_DEGREES.map(Class::Seen));
     classes
 }
 
@@ -77,11 +87,15 @@ fn call(generator: &mut Generator, tally: &mut Tally) -> Result<(), Difference> 
     ));
 
     tally.answer(class_of(&expected));
+    see_refused(tally, input.degree(), expected == Err(9));
     if expected == Err(16) {
         let causes = causes(input.q(), input.degree(), record.slice());
         for cause in CAUSES {
             tally.seen(cause, causes == BTreeSet::from([cause]));
         }
+    }
+    if expected.is_ok() {
+        see(tally, input.degree(), record.slice());
     }
     let mut comparison = Comparison::default();
     comparison.answers(&answer, &expected);
@@ -100,11 +114,7 @@ fn call(generator: &mut Generator, tally: &mut Tally) -> Result<(), Difference> 
 /// Accepted weights (the sample has no costs) and a record of accepted form: written by a check, or
 /// arbitrary.
 fn accepted(generator: &mut Generator) -> (CheckSample, Vec<u8>) {
-    let degree = match generator.below(8) {
-        0 => 3..=3,
-        1 => 32..=32,
-        _ => 3..=32,
-    };
+    let degree = degrees(generator);
     if generator.once_in(8) {
         let style = generator.one_of(&Style::ALL);
         let mut sample = sample::check(generator, 2..=6, degree, style);
@@ -123,6 +133,15 @@ fn accepted(generator: &mut Generator) -> (CheckSample, Vec<u8>) {
         };
         (sample, sample::record(generator, p, degree))
     }
+}
+
+/// Counts what an accepted expansion shows.
+fn see(tally: &mut Tally, degree: usize, record: &[u8]) {
+    tally.seen(DEGREE_2, degree == 2);
+    tally.seen(DEGREE_32, degree == 32);
+    let mut entries = record[degree..].chunks_exact(5);
+    let both = entries.any(|entry| entry[1] != 0xFF && entry[3] != 0xFF);
+    tally.seen(BOTH_COLUMNS, degree == 2 && both);
 }
 
 /// Every cause of 16 that a record has.

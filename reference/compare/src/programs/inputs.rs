@@ -15,9 +15,11 @@ pub fn random(generator: &mut Generator, size: &Size, frames: usize) -> Vec<u8> 
     sample::program_input(generator, size, frames)
 }
 
-/// Document 01's example, and inputs each made for one rule of its section "Program".
+/// Document 01's example, and inputs each made for one rule of its section "Program" or for document 02,
+/// §1.
 pub fn chosen() -> Vec<Vec<u8>> {
     let mut inputs = vec![lines(&[CODE, FRAME])];
+    inputs.extend(few_columns());
     inputs.extend(ends());
     inputs.extend(other_bytes());
     inputs.extend(long_lines());
@@ -26,6 +28,21 @@ pub fn chosen() -> Vec<Vec<u8>> {
     many.extend(vec![FRAME; 20_000]);
     inputs.push(lines(&many));
     inputs
+}
+
+/// Document 02, §1, "Checks on two columns": codes of three, two and one column, each with a frame, and
+/// checks on two and one, with their edges and without.
+fn few_columns() -> Vec<Vec<u8>> {
+    let three = b"00050709040008030602000A";
+    vec![
+        lines(&[b"0200030210020200000100010102000101000203", three]),
+        lines(&[b"02000201100302000001000101", b"0005070904000803"]),
+        lines(&[b"02000101100302000001000101", b"00050709"]),
+        lines(&[b"02000101100301000001", b"00050709"]),
+        lines(&[b"02000301100101000001", three]),
+        lines(&[b"02000301100101", three]),
+        lines(&[b"02000301100102", three]),
+    ]
 }
 
 /// "Lines end in byte 0A; a last line without it counts if not empty." "Empty input prints the line
