@@ -44,7 +44,7 @@ enum petsivola_number {
     PETSIVOLA_FIELD_SIZE = 6,       /* p not 2 to 6 */
     PETSIVOLA_COLUMNS_CHECKS = 7,   /* N not 1 to 256, or M not 1 to 128 */
     PETSIVOLA_SCALE_LIMIT = 8,      /* g not 1 to 16, or I not 1 to 255 */
-    PETSIVOLA_DEGREE = 9,           /* degree not 3 to 32, or more than 1,024 edges */
+    PETSIVOLA_DEGREE = 9,           /* degree not 2 to 32, or more than 1,024 edges */
     PETSIVOLA_COLUMN = 10,          /* column not below N, or not above the one before */
     PETSIVOLA_WEIGHT = 11,          /* weight 0, or a weight or element not below q */
     /* by the frame's sender */
@@ -79,9 +79,9 @@ enum petsivola_number {
 
 /* Decodes one frame: the layered trellis extended min-sum decoder.
  *
- *   code     the code line: p, N (two bytes, high first), M, g, I, then M checks: the degree, then
- *            for each edge the column (two bytes, high first, rising in the check) and the weight.
- *            g/16 scales the sent costs; I limits the iterations.
+ *   code     the code line: p, N (two bytes, high first), M, g, I, then M checks: the degree, 2 to
+ *            32, then for each edge the column (two bytes, high first, rising in the check) and the
+ *            weight. g/16 scales the sent costs; I limits the iterations.
  *   frame    N * q costs, column by column, each 0 to 255, a 0 in every column:
  *            PETSIVOLA_FRAME_LENGTH(p, N), exactly
  *   symbols  gets the N decisions: at least N
@@ -111,7 +111,7 @@ uint32_t petsivola_line(const uint8_t *text, size_t text_len,
 /* Works out one check's messages and writes their packed record.
  *
  *   p        2 to 6
- *   weights  one for each column, 1 to q - 1; their number is the degree d, 3 to 32
+ *   weights  one for each column, 1 to q - 1; their number is the degree d, 2 to 32
  *   costs    d * q costs, column by column, each 0 to 255, a 0 in every column
  *   record   gets d shifts, then for each a from 1 to q - 1: E(a), column, its S, column, its S: at
  *            least PETSIVOLA_RECORD_LENGTH(p, d)

@@ -4,7 +4,7 @@
 
 /// "p is 2 to 6, q = 2^p": q at its greatest.
 pub const MOST_ELEMENTS: usize = 64;
-/// "A check has degree d, 3 to 32"
+/// Document 02, §1: "Degree becomes 2 to 32."
 pub const MOST_DEGREE: usize = 32;
 /// "N as two bytes, high first (1 to 256)": also the longest used part of a symbol buffer.
 pub const MOST_COLUMNS: usize = 256;
@@ -70,6 +70,8 @@ mod tests {
 
     #[test]
     fn of_small_inputs() {
+        assert_eq!(record(2, 2), Some(2 + 15));
+        assert_eq!(expansion(2, 2), Some(8));
         assert_eq!(record(2, 3), Some(3 + 15));
         assert_eq!(expansion(2, 3), Some(12));
         assert_eq!(frame(3, 5), Some(40));

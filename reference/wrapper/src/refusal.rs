@@ -22,7 +22,7 @@ pub enum Refusal {
     ColumnsOrChecks,
     /// "8, g or I out of range"
     ScaleOrLimit,
-    /// "9, degree out of range, or the edge total passes 1,024"
+    /// "9, degree out of range, or the edge total passes 1,024"; a degree is 2 to 32
     Degree,
     /// "10, column not below N or not rising"
     Column,
@@ -96,7 +96,7 @@ impl Refusal {
             Refusal::FieldSize => "p is not 2 to 6",
             Refusal::ColumnsOrChecks => "N is not 1 to 256, or M is not 1 to 128",
             Refusal::ScaleOrLimit => "g is not 1 to 16, or I is 0",
-            Refusal::Degree => "a degree is not 3 to 32, or there are more than 1,024 edges",
+            Refusal::Degree => "a degree is not 2 to 32, or there are more than 1,024 edges",
             Refusal::Column => "a column is not below N, or not greater than the one before",
             Refusal::Weight => "a weight is 0, or a weight or element is not below q",
             Refusal::CostCount => "the number of costs is wrong",
@@ -160,6 +160,10 @@ mod tests {
         assert_eq!(
             Refusal::FieldSize.to_string(),
             "refused by 6: p is not 2 to 6"
+        );
+        assert_eq!(
+            Refusal::Degree.to_string(),
+            "refused by 9: a degree is not 2 to 32, or there are more than 1,024 edges"
         );
     }
 }

@@ -1,4 +1,4 @@
-//! `product`, `check` and `expand` on document 01's own values and on inputs that no caller means. The
+//! `product`, `check` and `expand` on the documents' own values and on inputs that no caller means. The
 //! comparison with the reference decoder is in the package `compare`.
 
 use petsivola::{check, expand, lengths, product, Refusal};
@@ -25,6 +25,45 @@ fn check_writes_the_record_and_nothing_else() {
     assert_eq!(record[..18], RECORD);
     assert_eq!(record[18..], [0xA5; 2]);
     assert_eq!(lengths::record(2, 3), Some(18));
+}
+
+/// Document 02, §1: "In such a check a cheapest choice may deviate in both columns, so E would be a
+/// cost nobody was sent". At a = 1 symbols 2 and 3 cost 2 together, and either column is sent 9.
+#[test]
+fn check_and_expand_of_two_columns() {
+    let costs = [0, 9, 1, 9, 0, 9, 9, 1];
+    let expected = [0, 0, 9, 255, 0, 255, 0, 1, 0, 9, 255, 0, 1, 1, 9, 255, 0];
+    let (mut record, mut sent) = ([0xA5; 18], [0xA5; 9]);
+    assert_eq!(check(2, &[1, 1], &costs, &mut record), Ok(17));
+    assert_eq!(record[..17], expected);
+    assert_eq!(record[17], 0xA5);
+    assert_eq!(expand(2, &[1, 1], &record[..17], &mut sent), Ok(8));
+    assert_eq!(sent, [0, 9, 9, 1, 0, 9, 1, 9, 0xA5]);
+    assert_eq!(lengths::record(2, 2), Some(17));
+    assert_eq!(lengths::expansion(2, 2), Some(8));
+}
+
+/// "Degree 2 and 33: 9. Degree 3 and 32 pass." Document 02, §1: "the bench cases of degree 2 and 3
+/// become 1 and 2".
+#[test]
+fn degrees_of_the_bench_table() {
+    for degree in 0..=40 {
+        let (weights, costs) = (vec![1; degree], vec![0; 4 * degree]);
+        let mut unused = vec![0; degree];
+        unused.extend([0, 255, 0, 255, 0].repeat(3));
+        let (mut record, mut sent) = ([0xA5; 55], [0xA5; 160]);
+        let answers = (
+            check(2, &weights, &costs, &mut record),
+            expand(2, &weights, &unused, &mut sent),
+        );
+        if (2..=32).contains(&degree) {
+            assert_eq!(answers, (Ok(degree + 15), Ok(4 * degree)));
+            assert_eq!(record[..degree + 15], unused);
+        } else {
+            assert_eq!(answers, (Err(Refusal::Degree), Err(Refusal::Degree)));
+            assert_eq!((record, sent), ([0xA5; 55], [0xA5; 160]));
+        }
+    }
 }
 
 #[test]

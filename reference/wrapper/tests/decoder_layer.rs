@@ -1,4 +1,4 @@
-//! `line` and `decode` on document 01's own values and on inputs that no caller means. The comparison
+//! `line` and `decode` on the documents' own values and on inputs that no caller means. The comparison
 //! with the reference decoder is in the package `compare`.
 
 use petsivola::{decode, lengths, line, Outcome, Refusal};
@@ -37,7 +37,43 @@ fn decode_decodes_the_example() {
     assert_eq!(lengths::store(2, 1, 3), Some(18));
 }
 
-/// "Degree 2 and 33: 9. Degree 3 and 32 pass. g 16 passes, 17 gives 8."
+/// Document 02, §1: two checks on two columns each, with weights 1 1 and 1 3.
+#[test]
+fn decode_with_checks_on_two_columns() {
+    let code = [2, 0, 3, 2, 16, 2, 2, 0, 0, 1, 0, 1, 1, 2, 0, 1, 1, 0, 2, 3];
+    let frame = [0, 5, 7, 9, 4, 0, 8, 3, 6, 2, 0, 10];
+    let (mut symbols, mut costs, mut store) = ([0xA5; 4], [0xA5A5; 13], [0xA5; 35]);
+    let outcome = decode(&code, &frame, &mut symbols, &mut costs, &mut store);
+    assert_eq!(outcome, Ok(Outcome::Found(2)));
+    assert_eq!(symbols, [1, 1, 2, 0xA5]);
+    assert_eq!(costs, [5, 0, 20, 9, 5, 0, 20, 9, 5, 9, 0, 20, 0xA5A5]);
+    let first = [1, 0, 5, 0, 10, 255, 0, 5, 1, 7, 255, 0, 9, 0, 18, 255, 0];
+    let second = [1, 0, 1, 0, 6, 255, 0, 2, 1, 11, 255, 0, 8, 0, 10, 255, 0];
+    assert_eq!(store[..34], [first, second].concat());
+    assert_eq!(store[34], 0xA5);
+    assert_eq!(lengths::store(2, 2, 4), Some(34));
+}
+
+/// The least code there is: N = 2, and one check on both columns. With N = 1 no check fits.
+#[test]
+fn decode_with_two_columns() {
+    let frame = [0, 5, 7, 9, 4, 0, 8, 3];
+    let (mut symbols, mut costs, mut store) = ([0xA5; 3], [0xA5A5; 9], [0xA5; 18]);
+    let mut answer = |n: u8, frame: &[u8]| {
+        let code = [2, 0, n, 1, 16, 3, 2, 0, 0, 1, 0, 1, 1];
+        decode(&code, frame, &mut symbols, &mut costs, &mut store)
+    };
+    assert_eq!(answer(1, &frame[..4]), Err(Refusal::Column));
+    assert_eq!(answer(2, &frame), Ok(Outcome::Found(1)));
+    assert_eq!(symbols, [0, 0, 0xA5]);
+    assert_eq!(costs, [0, 1, 11, 8, 0, 1, 11, 8, 0xA5A5]);
+    let record = [1, 0, 4, 1, 5, 255, 0, 3, 1, 7, 255, 0, 8, 1, 9, 255, 0];
+    assert_eq!(store[..17], record);
+    assert_eq!(store[17], 0xA5);
+}
+
+/// "Degree 2 and 33: 9. Degree 3 and 32 pass. g 16 passes, 17 gives 8." Document 02, §1: "the bench
+/// cases of degree 2 and 3 become 1 and 2".
 #[test]
 fn degrees_and_scales_of_the_bench_table() {
     let answer = |degree: u8, g: u8| {
@@ -47,12 +83,14 @@ fn degrees_and_scales_of_the_bench_table() {
         let (mut symbols, mut costs, mut store) = ([0xA5; 40], [0xA5A5; 160], [0xA5; 47]);
         decode(&code, &frame, &mut symbols, &mut costs, &mut store)
     };
-    assert_eq!(answer(2, 1), Err(Refusal::Degree));
+    assert_eq!(answer(0, 1), Err(Refusal::Degree));
+    assert_eq!(answer(1, 1), Err(Refusal::Degree));
+    assert_eq!(answer(2, 1), Ok(Outcome::Found(0)));
     assert_eq!(answer(3, 1), Ok(Outcome::Found(0)));
     assert_eq!(answer(32, 1), Ok(Outcome::Found(0)));
     assert_eq!(answer(33, 1), Err(Refusal::Degree));
-    assert_eq!(answer(3, 16), Ok(Outcome::Found(0)));
-    assert_eq!(answer(3, 17), Err(Refusal::ScaleOrLimit));
+    assert_eq!(answer(2, 16), Ok(Outcome::Found(0)));
+    assert_eq!(answer(2, 17), Err(Refusal::ScaleOrLimit));
 }
 
 #[test]
