@@ -1,6 +1,6 @@
 /* check.h - the check of one node by hand, with SSE2 and with AVX2 intrinsics.
  *
- * A baseline for the benchmark: at most two deviations, costs added, p 2 to 6, degree 3 to 32.
+ * A baseline for the benchmark: at most two deviations, costs added, p 2 to 6, degree 2 to 32.
  * Arguments, answer, refusals and record are those of petsivola_check (include/petsivola.h).
  */
 #ifndef HAND_CHECK_H

@@ -14,6 +14,7 @@
 #define INLINE static inline __attribute__((always_inline))
 
 enum {
+    LEAST_COLUMNS = 2,
     MOST_COLUMNS = 32,
     MOST_ROWS = 64,
     GROUP = 5 /* the bytes of each a in a record */
@@ -58,7 +59,7 @@ static inline uint32_t refused(uint8_t p, const uint8_t *weights, size_t d, size
 {
     if (p < 2 || 6 < p)
         return 6;
-    if (d < 3 || MOST_COLUMNS < d)
+    if (d < LEAST_COLUMNS || MOST_COLUMNS < d)
         return 9;
     for (size_t n = 0; n < d; n++)
         if (weights[n] == 0 || weights[n] >> p != 0)

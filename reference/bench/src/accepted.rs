@@ -1,4 +1,6 @@
-//! Which checks document 01 accepts, for the calls of this package.
+//! Which checks are accepted, for the calls of this package.
+
+use std::ops::RangeInclusive;
 
 /// Document 01's number of a refusal.
 pub type Refusal = u8;
@@ -6,12 +8,15 @@ pub type Refusal = u8;
 /// The most columns of a check.
 pub const MOST_COLUMNS: usize = 32;
 
-/// 6, 9 or 11, in this order.
-pub fn weights(p: u8, weights: &[u8]) -> Result<(), Refusal> {
+/// Document 02, §1: "Degree becomes 2 to 32."
+pub const DEGREES: RangeInclusive<usize> = 2..=MOST_COLUMNS;
+
+/// 6, 9 or 11, in this order, where these degrees are accepted.
+pub fn weights(p: u8, degrees: RangeInclusive<usize>, weights: &[u8]) -> Result<(), Refusal> {
     if !(2..=6).contains(&p) {
         return Err(6);
     }
-    if !(3..=MOST_COLUMNS).contains(&weights.len()) {
+    if !degrees.contains(&weights.len()) {
         return Err(9);
     }
     if weights

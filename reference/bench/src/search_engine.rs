@@ -7,15 +7,21 @@ mod minima;
 mod rows;
 mod search;
 
-use crate::accepted::{self, Refusal};
+use std::ops::RangeInclusive;
+
+use crate::accepted::{self, Refusal, MOST_COLUMNS};
 use field::MOST;
 use rows::Rows;
 use search::{put_groups, GROUP};
 
+/// The degrees of this engine: for E it takes the cheapest choice of all columns, which of two columns
+/// may be sent to neither, and it keeps three entries of a row, which two columns do not have.
+const DEGREES: RangeInclusive<usize> = 3..=MOST_COLUMNS;
+
 /// "Check: 6, 9, 11, 12, 13, 4."
 #[inline(never)]
 pub fn check(p: u8, weights: &[u8], costs: &[u8], out: &mut [u8]) -> Result<usize, Refusal> {
-    accepted::weights(p, weights)?;
+    accepted::weights(p, DEGREES, weights)?;
     let (d, q) = (weights.len(), 1 << p);
     accepted::costs(d, q, costs)?;
     let length = d + GROUP * (q - 1);

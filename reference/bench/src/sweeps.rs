@@ -138,8 +138,8 @@ impl Engine {
         self.pack(q, shifts, groups);
     }
 
-    /// "The columns are those with S_n(a) greater than E(a), rising; an unused pair is FF 00." With a
-    /// degree above 2, E is the least of the S_n.
+    /// "The columns are those with S_n(a) greater than E(a), rising; an unused pair is FF 00." Document
+    /// 02, §1: "E(a) is therefore the least of S_n(a) over the columns, at each degree."
     fn pack(&self, q: usize, shifts: &[u8], groups: &mut [[u8; 5]]) {
         let columns = || {
             let columns = self.terms.chunks_exact(q).zip(self.sent.chunks_exact(q));

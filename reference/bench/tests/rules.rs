@@ -73,7 +73,7 @@ const SIZES: [(u8, usize, usize); 5] = [(2, 6, 30), (3, 5, 10), (4, 4, 5), (5, 4
 fn sent_costs_are_the_least() {
     let mut generator = Generator::new(1);
     for (p, most, rounds) in SIZES {
-        for degree in 3..=most {
+        for degree in 2..=most {
             for style in Style::ALL.repeat(rounds) {
                 let check = sample::check(&mut generator, p..=p, degree..=degree, style);
                 for (k, greatest) in [(2, false), (2, true), (3, false), (3, true)] {

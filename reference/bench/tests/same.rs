@@ -14,7 +14,8 @@ fn numbered<T>(answer: Result<T, Refusal>) -> Result<T, u8> {
 fn expansions() {
     let mut generator = Generator::new(1);
     for round in 0..3_000 {
-        let (p, degree) = (generator.byte(2..=6), generator.between(3..=32));
+        let degree = if round % 8 < 2 { 2..=2 } else { 2..=32 };
+        let (p, degree) = (generator.byte(2..=6), generator.between(degree));
         let mut record = sample::record(&mut generator, p, degree);
         if round % 4 == 1 {
             record = sample::damaged_record(&mut generator, degree, &record);

@@ -1,7 +1,7 @@
 //! The code line, read once into tables.
 
 use super::rule::Rule;
-use crate::accepted::Refusal;
+use crate::accepted::{Refusal, DEGREES};
 
 /// "M (1 to 128)"
 const MOST_CHECKS: usize = 128;
@@ -56,7 +56,7 @@ impl Code {
         for check in 0..self.m {
             let (&degree, after) = left.split_first().ok_or(5)?;
             let d = usize::from(degree);
-            if !(3..=32).contains(&d) || edges + d > MOST_EDGES {
+            if !DEGREES.contains(&d) || edges + d > MOST_EDGES {
                 return Err(9);
             }
             let (line, after) = after.split_at_checked(EDGE * d).ok_or(5)?;

@@ -5,7 +5,7 @@ use super::lists::Lists;
 use super::products::Products;
 use super::rule::{Rule, MOST_BLOCKS};
 use super::symbols;
-use crate::accepted::{self, Refusal};
+use crate::accepted::{self, Refusal, DEGREES};
 
 /// "Expand: 6, 9, 11, 16, 2."
 pub fn expand(p: u8, weights: &[u8], record: &[u8], out: &mut [u8]) -> Result<usize, Refusal> {
@@ -20,7 +20,7 @@ pub fn expand_by(
     record: &[u8],
     out: &mut [u8],
 ) -> Result<usize, Refusal> {
-    accepted::weights(rule.p, weights)?;
+    accepted::weights(rule.p, DEGREES, weights)?;
     let d = weights.len();
     if record.len() != rule.record_length(d) {
         return Err(16);

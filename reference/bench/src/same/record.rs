@@ -4,7 +4,7 @@ use super::joins::COPIES;
 use super::lanes::{Block, LANES};
 use super::rule::{Rule, MOST_DEVIATIONS};
 use super::{groups, lines, symbols, tables};
-use crate::accepted::{self, Refusal, MOST_COLUMNS};
+use crate::accepted::{self, Refusal, DEGREES, MOST_COLUMNS};
 
 /// "Check: 6, 9, 11, 12, 13, 4."
 pub fn check(p: u8, weights: &[u8], costs: &[u8], out: &mut [u8]) -> Result<usize, Refusal> {
@@ -21,7 +21,7 @@ pub fn messages(
     record: &mut [u8],
     sent: Option<&mut [u8]>,
 ) -> Result<usize, Refusal> {
-    accepted::weights(rule.p, weights)?;
+    accepted::weights(rule.p, DEGREES, weights)?;
     accepted::costs(weights.len(), rule.q, costs)?;
     let length = rule.record_length(weights.len());
     let record = record.get_mut(..length).ok_or(4)?;
