@@ -1,9 +1,10 @@
--- What a reader must believe: Line, CodeLine, Machine, Decoding, Printing, Program, in document 01's order. Blocks, Tables and Lent say the same
+-- What a reader must believe: Line, CodeLine, Machine, Decoding, Printing, Program, in document 01's order, and Encoding of document 02. Blocks, Tables and Lent say the same
 -- in the shape of the code's loops; proofs/ shows that they do.
 pub mod Line
 pub mod CodeLine
 pub mod Machine
 pub mod Decoding
+pub mod Encoding
 pub mod Printing
 pub mod Program
 pub mod Blocks

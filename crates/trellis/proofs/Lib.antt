@@ -14,6 +14,7 @@ pub mod Ranks
 pub mod Kept
 pub mod Instances
 pub mod FieldLaws
+pub mod Quotients
 pub mod Recurrence
 pub mod Ready
 pub mod Messages

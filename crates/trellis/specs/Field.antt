@@ -5,6 +5,7 @@ use Prim.Native.Nat.{ℕ, zero, suc, _*_, _/_, _%_, _^_}
 use lib.Bits.{bitXor}
 use lib.Dec.{eqb}
 use lib.ListN.{getD}
+use Rattle.trellis.specs.Lists.{upTo, firstOf}
 
 -- "Addition is exclusive or." Shut, so that proofs go by its laws alone (proofs/Xor.antt) (SPEC 1.3)
 unfoldable pub xor : ℕ → ℕ → ℕ
@@ -27,3 +28,7 @@ productIn (suc n) p a b = xor (cond (eqb (b % 2) 1) a 0) (productIn n p (doubled
 -- an element has p bits: after p halvings the second factor is 0
 abbrev pub product : ℕ → ℕ → ℕ → ℕ
 product p a b = productIn p p a b
+
+-- s divided by h: the element that times h is s, by looking at each. For h not 0 there is just one (proofs/Quotients.antt)
+unfoldable pub quotient : ℕ → ℕ → ℕ → ℕ
+quotient p h s = firstOf (λ x. eqb (product p h x) s) (upTo (2 ^ p))
