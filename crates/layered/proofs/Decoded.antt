@@ -14,7 +14,7 @@ use Rattle.trellis.specs.Lists.{tab, part, allTo, pick}
 use Rattle.trellis.specs.Check.{firstZero}
 use Rattle.trellis.proofs.Loops.{tab-whole, length-tab, getD-tab}
 use Rattle.trellis.specs.Reply.{Reply, refusal}
-use Rattle.machine.specs.CodeLine.{Read, good, bad, Code, Numbers, numbersOf, parse, size, columnOf, zeroIn, frameFault}
+use Rattle.machine.specs.CodeLine.{good, Code, numbersOf, parse, size, columnOf, zeroIn, frameFault}
 use Rattle.machine.specs.Machine.{none as none′, Status, lastOf, symbols, start, run, used}
 use Rattle.machine.specs.Lent.{Lent, Ended, ended, goLent}
 use Rattle.machine.specs.Decoding.{After, outcome, filled, refused, inBuffers, underCode, decoding, Decodes}
@@ -22,12 +22,14 @@ use Rattle.machine.specs.Tables.{Tabled}
 use Rattle.machine.proofs.Lines.{parse-good}
 use Rattle.machine.proofs.Ranges.{frame-ranged}
 use Rattle.machine.proofs.Lent.{held-none, run-stands}
+use Rattle.codeline.specs.declared.Header.{Header}
+use Rattle.codeline.specs.declared.Header.the-variants.{Read as HeaderRead, Refused as HeaderRefused}
+use Rattle.codeline.specs.Answers.{headerNumbers}
+use Rattle.codeline.proofs.Answered.{Accepted, header-refused, header-read}
 use Rattle.layered.specs.declared.Outcome.{Outcome}
 use Rattle.layered.specs.declared.Outcome.the-variants.{Found, NotFound}
 use Rattle.layered.specs.declared.Answer.the-variants.{Decoded}
-use Rattle.layered.specs.declared.Header.{Header}
-use Rattle.layered.specs.declared.Header.the-variants.{Read as HeaderRead, Refused as HeaderRefused}
-use Rattle.layered.specs.Answers.{headerNumbers, answerReply}
+use Rattle.layered.specs.Answers.{answerReply}
 use Rattle.layered.specs.Columns.{Below}
 use Rattle.layered.specs.Parity.{decisionsOf}
 use Rattle.layered.specs.Passes.{graph, lent, placeAt, goOn, endedIn, Tables, RunRoom}
@@ -241,17 +243,10 @@ module _ (C : Code) (p n m g limit : ℕ) (ds cs ws : List ℕ) (H : Coded C p n
 
 -- what the reader's answer says of the line
 module _ (s₀ : List ℕ) (h : Header) (e : headerNumbers h ≡ numbersOf (parse s₀)) where
-  read-refused : (k : ℕ) → h ≡ HeaderRefused k → parse s₀ ≡ bad k
-  read-refused k i = go (parse s₀) (sym e ∙ ap headerNumbers i)
-    where
-      go : (r : Read Code) → numbersOf r ≡ bad k → r ≡ bad k
-      go (good C) o = let z : _≡_ {A = ℕ} 0 1 = cc in absurd (omega arith)
-      go (bad l) o = cc
-
   pub refused-decodes : (k : ℕ) → h ≡ HeaderRefused k → (f y c s : List ℕ) → Decodes s₀ f y c s (refusal k) y c s
   unfolding decoding
   refused-decodes k i f y c s =
-      let x : underCode (parse s₀) f y c s ≡ refused k y c s = ap (λ r. underCode r f y c s) (read-refused k i) in
+      let x : underCode (parse s₀) f y c s ≡ refused k y c s = ap (λ r. underCode r f y c s) (header-refused s₀ h e k i) in
       record {
         replies = sym (ap (λ (a : After). a .reply) x);
         symbols-then = sym (ap (λ (a : After). a .symbols) x);
@@ -260,42 +255,33 @@ module _ (s₀ : List ℕ) (h : Header) (e : headerNumbers h ≡ numbersOf (pars
       }
 
   module _ (p n m g limit : ℕ) (i : h ≡ HeaderRead p n m g limit) where
-    abbrev numbers : Numbers
-    numbers = record { p = p; columns = n; checks = m; scale = g; limit = limit }
-
-    read : (C : Code) × (parse s₀ ≡ good C) × (numbersOf (good C) ≡ good numbers)
-    read = go (parse s₀) refl (sym e ∙ ap headerNumbers i)
-      where
-        go : (r : Read Code) → parse s₀ ≡ r → numbersOf r ≡ good numbers → (C : Code) × (parse s₀ ≡ good C) × (numbersOf (good C) ≡ good numbers)
-        go (good C) j o = (C, j, o)
-        go (bad l) j o = let z : _≡_ {A = ℕ} 0 1 = cc in absurd (omega arith)
+    read : Accepted s₀ p n m g limit
+    read = header-read s₀ h e p n m g limit i
 
     -- with the numbers as wider ones
     module _ (N M G : ℕ) (j : N ≡ n) (k : M ≡ m) (l : G ≡ g) (ds cs ws : List ℕ) (T : (C : Code) → parse s₀ ≡ good C → Tabled C ds cs ws) where
-      coded : Coded (read .0) p N M G limit ds cs ws
+      coded : Coded (read .code) p N M G limit ds cs ws
       coded =
-          let x : _≡_ {A = Read Numbers} (numbersOf (good (read .0))) (good numbers) = read .2 in
-          let v : record { p = read .0 .p; columns = read .0 .columns; checks = length (read .0 .checks); scale = read .0 .scale; limit = read .0 .limit } ≡ numbers = cc in
           record {
-            good = parse-good s₀ (read .0) (read .1);
-            p-is = sym (ap (λ (a : Numbers). a .p) v);
-            columns-is = j ∙ sym (ap (λ (a : Numbers). a .columns) v);
-            checks-is = k ∙ sym (ap (λ (a : Numbers). a .checks) v);
-            scale-is = l ∙ sym (ap (λ (a : Numbers). a .scale) v);
-            limit-is = sym (ap (λ (a : Numbers). a .limit) v);
-            tabled = T (read .0) (read .1);
+            good = parse-good s₀ (read .code) (read .parsed);
+            p-is = read .p-is;
+            columns-is = j ∙ read .columns-is;
+            checks-is = k ∙ read .checks-is;
+            scale-is = l ∙ read .scale-is;
+            limit-is = read .limit-is;
+            tabled = T (read .code) (read .parsed);
           }
 
       pub coded-room : (A S : List ℕ) → length A ≡ 2048 → length S ≡ 2048 → CodeRoom p N M G limit ds cs ws A S
-      coded-room A S a b = record { code = read .0; coded = coded; arrived = omega arith; sent = omega arith }
+      coded-room A S a b = record { code = read .code; coded = coded; arrived = omega arith; sent = omega arith }
 
       pub coded-decodes : (f y c s : List ℕ) (r : Reply) (y′ c′ s′ : List ℕ)
           → ((C : Code) → Coded C p N M G limit ds cs ws → Leaves (underCode (good C) f y c s) r y′ c′ s′)
           → Decodes s₀ f y c s r y′ c′ s′
       unfolding decoding
       coded-decodes f y c s r y′ c′ s′ L =
-          let x : underCode (parse s₀) f y c s ≡ underCode (good (read .0)) f y c s = ap (λ a. underCode a f y c s) (read .1) in
-          let v = L (read .0) coded in
+          let x : underCode (parse s₀) f y c s ≡ underCode (good (read .code)) f y c s = ap (λ a. underCode a f y c s) (read .parsed) in
+          let v = L (read .code) coded in
           record {
             replies = v .replies ∙ sym (ap (λ (a : After). a .reply) x);
             symbols-then = v .symbols-then ∙ sym (ap (λ (a : After). a .symbols) x);

@@ -47,11 +47,3 @@ pub record Leaves (A : After) (reply : Reply) (symbols costs store : List ℕ) :
   pub symbols-then : symbols ≡ A .symbols
   pub costs-then : costs ≡ A .costs
   pub store-then : store ≡ A .store
-
--- tables for the largest code, and two lists for the columns of its largest check
-pub record WorkRoom (ds cs ws A S : List ℕ) : Type 0 where
-  pub degrees : length ds ≡ 128
-  pub columns : length cs ≡ 1024
-  pub weights : length ws ≡ 1024
-  pub arrived : length A ≡ 2048
-  pub sent : length S ≡ 2048

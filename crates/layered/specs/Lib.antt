@@ -1,6 +1,5 @@
 -- Answers has the replies of the public calls; the rest are what the loops leave and ask, in the shape of the code.
 pub mod Answers
-pub mod Reading
 pub mod Columns
 pub mod Parity
 pub mod Turns

@@ -1,17 +1,16 @@
 // Decoding over lent tables and lists to work in: the code is read, then its refusals, or the run.
 use crate::Answer;
 use crate::Counted;
-use crate::Header;
-use crate::code;
 use crate::frame;
 use crate::iterate;
 use crate::num;
+use codeline::Header;
 ghost use mathlib.Core.Path.{_≡_};
 ghost use Prim.Native.Nat.{_≤_};
 ghost use Rattle.machine.specs.CodeLine.{Code, good, parse, numbersOf, columnsRead};
 ghost use Rattle.machine.specs.Decoding.{underCode, Decodes};
 ghost use Rattle.layered.specs.Answers.{answerReply};
-ghost use Rattle.layered.specs.Frames.{Coded, CodeRoom, Leaves, WorkRoom};
+ghost use Rattle.layered.specs.Frames.{Coded, CodeRoom, Leaves};
 
 // "Decode: code, 12, 13, 2, 3, 4." Nothing is written before the last refusal has been tested.
 fn under_code(
@@ -62,17 +61,16 @@ pub fn decode_in(
     symbols: &mut [u8],
     costs: &mut [u16],
     store: &mut [u8],
-    degrees: &mut [u8],
-    columns: &mut [u16],
-    weights: &mut [u8],
-    arrived: &mut [u8],
-    sent: &mut [u8],
+    degrees: &mut [u8; 128],
+    columns: &mut [u16; 1024],
+    weights: &mut [u8; 1024],
+    arrived: &mut [u8; 2048],
+    sent: &mut [u8; 2048],
 ) -> Counted
-    requires { ⌜ WorkRoom (now degrees) (now columns) (now weights) (now arrived) (now sent) ⌝ }
     ensures { λ r. ⌜ Decodes (now (code .entry)) (now (frame .entry)) (now (symbols .entry)) (now (costs .entry)) (now (store .entry)) (answerReply (r .answer)) (now (symbols .exit)) (now (costs .exit)) (now (store .exit)) ⌝ }
     ensures { λ r. ⌜ (r .columns ≡ columnsRead (numbersOf (parse (now (code .entry))))) × (r .columns ≤ 256) ⌝ }
 {
-    match code::tables(code, degrees, columns, weights) {
+    match codeline::code_tables(code, degrees, columns, weights) {
         Header::Refused(k) => Counted {
             answer: Answer::Refused(k),
             columns: 0,

@@ -1,31 +1,17 @@
-// Above the check layer: the code line and the layered decoder.
-mod code;
+// Above the check layer and the code line: the layered decoder.
 mod column;
 mod decoding;
 mod frame;
 mod iterate;
 mod num;
 mod parity;
-mod reader;
 mod update;
 
 ghost use mathlib.Core.Path.{_≡_};
 ghost use Prim.Native.Nat.{_≤_};
 ghost use Rattle.machine.specs.CodeLine.{parse, numbersOf, columnsRead};
 ghost use Rattle.machine.specs.Decoding.{Decodes};
-ghost use Rattle.layered.specs.Answers.{headerNumbers, answerReply};
-
-// The numbers of a code line, or the number of the refusal.
-pub enum Header {
-    Read {
-        p: u8,
-        columns: u16,
-        checks: u8,
-        scale: u8,
-        limit: u8,
-    },
-    Refused(u8),
-}
+ghost use Rattle.layered.specs.Answers.{answerReply};
 
 // How a run of the machine ended, with its iterations.
 pub enum Outcome {
@@ -37,16 +23,6 @@ pub enum Outcome {
 pub enum Answer {
     Decoded(Outcome),
     Refused(u8),
-}
-
-// The numbers of a code line, whose checks are read too.
-pub fn code_line(code: &[u8]) -> Header
-    ensures { λ r. ⌜ headerNumbers r ≡ numbersOf (parse (now (code .entry))) ⌝ }
-{
-    let mut degrees = [0u8; 128];
-    let mut columns = [0u16; 1024];
-    let mut weights = [0u8; 1024];
-    code::tables(code, &mut degrees, &mut columns, &mut weights)
 }
 
 // Decodes a frame of N times q costs under a code line: found or not found with the iterations made, the decisions in `symbols`, the costs P

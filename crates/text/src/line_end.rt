@@ -2,7 +2,7 @@
 use crate::State;
 use crate::num;
 use checknode::Written;
-use layered::Header;
+use codeline::Header;
 ghost use mathlib.Core.Path.{_≡_};
 ghost use mathlib.Core.Bool.{false, not};
 ghost use mathlib.Core.List.{_++_};
@@ -59,7 +59,7 @@ fn code_bytes(text: &[u8], code: &mut [u8]) -> usize
 fn accepted(code: &[u8]) -> bool
     ensures { λ r. ⌜ r ≡ accepts (now (code .entry)) ⌝ }
 {
-    match layered::code_line(code) {
+    match codeline::code_line(code) {
         Header::Read { .. } => true,
         Header::Refused(_) => false,
     }

@@ -1,0 +1,91 @@
+-- What the readers of the code line answer, in the terms of the definitions.
+use mathlib.Core.Path.{_≡_}
+use mathlib.Core.Bool.{Bool, _||_}
+use mathlib.Core.List.{List}
+use Prim.Native.Nat.{ℕ, _+_, _*_, _≤_, _<_}
+use lib.Dec.{ltb}
+use lib.ListN.{length, take, getD}
+use Rattle.trellis.specs.Lists.{pick}
+use Rattle.machine.specs.CodeLine.{Read, good, bad, Edge as Pair, edge, wordAt, Numbers}
+use Rattle.machine.specs.Tables.{Flat, flat, Tables, tables}
+use Rattle.codeline.specs.declared.Header.{Header}
+use Rattle.codeline.specs.declared.Header.the-variants.{Read as HeaderRead, Refused as HeaderRefused}
+use Rattle.codeline.specs.declared.reader.Field.{Field}
+use Rattle.codeline.specs.declared.checks.Edge.{Edge}
+use Rattle.codeline.specs.declared.checks.Edge.the-variants.{Is, Refused as EdgeRefused}
+use Rattle.codeline.specs.declared.checks.Edges.{Edges}
+use Rattle.codeline.specs.declared.checks.Edges.the-variants.{Read as EdgesRead, Refused as EdgesRefused}
+use Rattle.codeline.specs.declared.checks.Check.{Check}
+use Rattle.codeline.specs.declared.checks.Check.the-variants.{Degree, Refused as CheckRefused}
+use Rattle.codeline.specs.declared.checks.Checks.{Checks}
+use Rattle.codeline.specs.declared.checks.Checks.the-variants.{Total, Refused as ChecksRefused}
+
+-- a field of one byte, and of two, with the place behind it
+abbrev pub ByteAt : Field → List ℕ → ℕ → Type 0
+ByteAt f s at = (f .value ≡ getD s at 0) × ((f .value < 256) × (f .next ≡ at + 1))
+
+abbrev pub WordAt : Field → List ℕ → ℕ → Type 0
+WordAt f s at = (f .value ≡ wordAt s at) × ((f .value < 65536) × (f .next ≡ at + 2))
+
+abbrev pub edgeRead : Edge → Read Pair
+edgeRead (Is c w next) = good (edge c w)
+edgeRead (EdgeRefused k) = bad k
+
+-- where an edge ends
+abbrev pub EdgeEnds : Edge → ℕ → Type 0
+EdgeEnds (Is c w next) at = next ≡ at + 3
+EdgeEnds (EdgeRefused k) at = Unit {0}
+
+-- with the columns and weights that are read by then
+abbrev pub edgesRead : Edges → List ℕ → List ℕ → Read Flat
+edgesRead (EdgesRead next) cs ws = good (flat cs ws)
+edgesRead (EdgesRefused k) cs ws = bad k
+
+-- where count edges end
+abbrev pub EdgesEnd : Edges → ℕ → ℕ → Type 0
+EdgesEnd (EdgesRead next) at count = next ≡ at + 3 * count
+EdgesEnd (EdgesRefused k) at count = Unit {0}
+
+-- a check after total edges
+abbrev pub checkRead : Check → ℕ → List ℕ → List ℕ → Read Flat
+checkRead (Degree d next) total cs ws = good (flat (take (total + d) cs) (take (total + d) ws))
+checkRead (CheckRefused k) total cs ws = bad k
+
+-- the degree is the check's first byte; the line and the tables have room for the check; the place behind it
+abbrev pub CheckFits : Check → List ℕ → ℕ → ℕ → Type 0
+CheckFits (Degree d next) s at total = (d ≡ getD s at 0) × ((d ≤ 32) × ((total + d ≤ 1024) × ((at + 1 + 3 * d ≤ length s) × (next ≡ at + 1 + 3 * d))))
+CheckFits (CheckRefused k) s at total = Unit {0}
+
+-- count checks
+abbrev pub checksRead : Checks → ℕ → List ℕ → List ℕ → List ℕ → Read Tables
+checksRead (Total total) count ds cs ws = good (tables (take count ds) (take total cs) (take total ws))
+checksRead (ChecksRefused k) count ds cs ws = bad k
+
+abbrev pub isOutside : ℕ → ℕ → ℕ → Bool
+isOutside x low high = ltb x low || ltb high x
+
+-- the line before its checks, in its order, a stage for each number: "p; N as two bytes, high first (1 to 256); M (1 to 128); scale g
+-- (1 to 16); iteration limit I (1 to 255)"; "5 if under six bytes, 6, 7, 8"
+abbrev pub fromLimit : List ℕ → Read Numbers
+fromLimit s =
+    pick (ltb (getD s 5 0) 1) (bad 8) (good (record { p = getD s 0 0; columns = wordAt s 1; checks = getD s 3 0; scale = getD s 4 0; limit = getD s 5 0 }))
+
+abbrev pub fromScale : List ℕ → Read Numbers
+fromScale s = pick (isOutside (getD s 4 0) 1 16) (bad 8) (fromLimit s)
+
+abbrev pub fromChecks : List ℕ → Read Numbers
+fromChecks s = pick (isOutside (getD s 3 0) 1 128) (bad 7) (fromScale s)
+
+abbrev pub fromColumns : List ℕ → Read Numbers
+fromColumns s = pick (isOutside (wordAt s 1) 1 256) (bad 7) (fromChecks s)
+
+abbrev pub fromField : List ℕ → Read Numbers
+fromField s = pick (isOutside (getD s 0 0) 2 6) (bad 6) (fromColumns s)
+
+unfoldable pub headOf : List ℕ → Read Numbers
+headOf s = pick (ltb (length s) 6) (bad 5) (fromField s)
+
+-- the numbers' bounds, and the place behind them
+abbrev pub HeadFits : Header → ℕ → List ℕ → Type 0
+HeadFits (HeaderRead p n m g i) next s = (p ≤ 6) × ((m ≤ 128) × ((next ≡ 6) × (next ≤ length s)))
+HeadFits (HeaderRefused k) next s = Unit {0}

@@ -1,0 +1,70 @@
+// The numbers of a code line before its checks.
+use crate::Header;
+use crate::reader;
+ghost use mathlib.Core.Path.{_≡_};
+ghost use Rattle.codeline.specs.Answers.{headerNumbers};
+ghost use Rattle.codeline.specs.Reading.{isOutside, headOf, HeadFits};
+ghost use Rattle.codeline.specs.declared.Header.the-variants.{Refused as HeaderRefused};
+
+// What stands before the checks, and the place behind it.
+pub struct Front {
+    pub header: Header,
+    pub next: usize,
+}
+
+// Whether x is not low to high.
+fn outside(x: usize, low: usize, high: usize) -> bool
+    ensures { λ r. ⌜ r ≡ isOutside x low high ⌝ }
+{
+    if x < low { true } else { high < x }
+}
+
+fn refused(k: u8) -> Front
+    ensures { λ r. ⌜ r .header ≡ HeaderRefused k ⌝ }
+{
+    Front {
+        header: Header::Refused(k),
+        next: 0,
+    }
+}
+
+// "p; N as two bytes, high first (1 to 256); M (1 to 128); scale g (1 to 16); iteration limit I (1 to 255)";
+// "5 if under six bytes, 6, 7, 8".
+pub fn head(code: &[u8]) -> Front
+    ensures { λ r. ⌜ headerNumbers (r .header) ≡ headOf (now (code .entry)) ⌝ }
+    ensures { λ r. ⌜ HeadFits (r .header) (r .next) (now (code .entry)) ⌝ }
+{
+    if reader::left_at(code, 0) < 6 {
+        return refused(5);
+    }
+    let p = reader::byte_at(code, 0);
+    if outside(p.value, 2, 6) {
+        return refused(6);
+    }
+    let n = reader::word_at(code, p.next);
+    if outside(n.value, 1, 256) {
+        return refused(7);
+    }
+    let m = reader::byte_at(code, n.next);
+    if outside(m.value, 1, 128) {
+        return refused(7);
+    }
+    let g = reader::byte_at(code, m.next);
+    if outside(g.value, 1, 16) {
+        return refused(8);
+    }
+    let i = reader::byte_at(code, g.next);
+    if i.value < 1 {
+        return refused(8);
+    }
+    Front {
+        header: Header::Read {
+            p: p.value as u8,
+            columns: n.value as u16,
+            checks: m.value as u8,
+            scale: g.value as u8,
+            limit: i.value as u8,
+        },
+        next: i.next,
+    }
+}
