@@ -1,7 +1,6 @@
 -- Demand 3, stated of petsivola_decode's own contract: any two calls with one code line, whatever their buffers held before. The results are
 -- numbers, as include/petsivola.h reads them: PETSIVOLA_NUMBER(r) is r / 65536, PETSIVOLA_VALUE(r) is r % 65536.
 use mathlib.Core.Path.{_≡_, refl, _∙_, subst}
-use mathlib.Core.Logic.{_↔_}
 use mathlib.Core.List.{List}
 use Prim.Native.Nat.{ℕ, _≤_, _<_}
 use native.Mathlib.Omega.{arith}
@@ -12,8 +11,8 @@ use borrow.Fn.Kinds.{endedOf}
 use borrow.Fn.World.{ArgsD, ResD}
 use Rattle.trellis.specs.Reply.{Reply}
 use Rattle.machine.specs.CodeLine.{Code}
-use Rattle.machine.specs.Machine.{Status, found, notFound, run, used}
-use Rattle.machine.specs.Decoding.{After, outcome, decoding, Accepts, Room, Kept, Agree}
+use Rattle.machine.specs.Machine.{Status, found, notFound, run}
+use Rattle.machine.specs.Decoding.{After, outcome, decoding, Accepts, Room, Kept}
 use Rattle.petsivola.specs.Packed.{Packs}
 use Rattle.petsivola.specs.Demand.{Returned, ComparedCalls}
 use Rattle.machine.proofs.Demand.{demand-3}

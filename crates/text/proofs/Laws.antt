@@ -1,16 +1,16 @@
 -- What the buffers hold stands for what the definition keeps, byte by byte.
-use mathlib.Core.Path.{_≡_, refl, sym, ap, ap₂, _∙_}
+use mathlib.Core.Path.{_≡_, refl, sym, ap, _∙_}
 use mathlib.Core.Bool.{Bool, true, false, not, true≢false}
 use mathlib.Core.Logic.{_⊎_, inl, inr, ⊎-elim}
 use mathlib.Core.List.{List, [], _∷_, _++_, append-nil, append-assoc}
-use Prim.Native.Nat.{ℕ, zero, suc, _+_, _-_, _*_, _/_, _≤_, _<_, min}
+use Prim.Native.Nat.{ℕ, zero, suc, _+_, _-_, _/_, _≤_, _<_, min}
 use native.Mathlib.Numerals.{add-one}
 use native.Mathlib.Decide.{decLe}
 use native.Mathlib.Omega.{arith}
 use lib.Dec.{eqb, ltb}
 use lib.ListN.{length, take, drop, set, getD, length-append, length-take, length-set, take-append-drop}
 use lib.Seq.{take-all, take-length, drop-length, take-at, drop-at, drop-drop, take-suc, take-suc-set, drop-cons, set-at, append-snoc, length-take-le}
-use borrow.Author.Tests.{eqb-true, ltb-false, ltb-true, lt-ltb, le-ltb, eq-eqb, ne-eqb}
+use borrow.Author.Tests.{eqb-true, ltb-false, ltb-true, eq-eqb, ne-eqb}
 use Rattle.trellis.specs.Lists.{pick}
 use Rattle.trellis.specs.Reply.{accepted, refusal}
 use Rattle.trellis.proofs.Loops.{length-tab}
@@ -19,7 +19,7 @@ use Rattle.machine.specs.CodeLine.{Read, good, bad, Code, parse, Numbers, numbe
 use Rattle.machine.specs.Printing.{frameSaid, frameLine}
 use Rattle.machine.specs.Program.{readCode, refusedLine}
 use Rattle.machine.specs.Blocks.{Kept, first, later, ended, longer, kept, codeKept, codeOut, finished, finishedOut, fed, fedOut, closeOut}
-use Rattle.machine.proofs.Program.{fed-more, ended-silent, fed-few, turn-short}
+use Rattle.machine.proofs.Program.{fed-more, turn-short}
 use Rattle.text.specs.Held.{Held, keptOf, putAt, byteHeld, codeBytes, isGood, accepts, codeHeld, finishedHeld, stepHeld, fedHeld, quiet, closeHeld}
 
 -- a line that is kept longer
@@ -152,7 +152,7 @@ copy-end s d i h k =
     let b : drop i d ≡ [] = rw j (drop-length d) in
     rw (a, b) (append-nil s)
 
--- the bytes of a code line, as layered::line leaves them
+-- the bytes of a code line, as `line` leaves them
 module _ (t out : List ℕ) (room : length out ≡ 16384) where
   pub bytes-refused : (k : ℕ) → refusal k ≡ lineReply t out → (codeBytes t ≡ []) × (lineLeaves t out ≡ out)
   unfolding lineReply lineLeaves codeBytes

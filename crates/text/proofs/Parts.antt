@@ -2,7 +2,7 @@
 use mathlib.Core.Path.{_≡_, refl, sym, ap, ap₂, _∙_}
 use mathlib.Core.Bool.{Bool, true, false, true≢false}
 use mathlib.Core.List.{List, [], _∷_, _++_, append-nil, append-assoc}
-use Prim.Native.Nat.{ℕ, zero, suc, _+_, _-_, _*_, _≤_, _<_, min}
+use Prim.Native.Nat.{ℕ, suc, _+_, _-_, _*_, _≤_, _<_, min}
 use native.Mathlib.Numerals.{add-one}
 use native.Mathlib.Decide.{decLe}
 use native.Mathlib.Omega.{arith}
@@ -11,7 +11,7 @@ use lib.ListN.{length, take, drop, set, getD, length-append, length-take, length
 use lib.Seq.{drop-cons, drop-length, drop-drop, drop-set-lt, take-add, take-suc, take-suc-set, append-snoc, take-all, take-length, getD-drop}
 use borrow.Author.Tests.{eqb-true, eq-eqb, ne-eqb, lt-ltb, le-ltb}
 use Rattle.trellis.specs.Lists.{pick}
-use Rattle.machine.specs.Blocks.{Kept, kept, finished, finishedOut, fed, fedOut, first, later, ended}
+use Rattle.machine.specs.Blocks.{Kept, kept, finished, finishedOut, fed, fedOut}
 use Rattle.machine.proofs.Program.{fed-more, fed-few, ended-silent}
 use Rattle.text.specs.Held.{Held, keptOf, putAt, byteHeld, stepHeld, fedHeld, finishedHeld, toNewline, roomFor, partHeld}
 use Rattle.text.proofs.Laws.{put-none, put-mid, put-more, fedHeld-more, fed-stands, add-none, put-nothing, part-same}

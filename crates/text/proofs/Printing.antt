@@ -6,14 +6,14 @@ use mathlib.Core.List.{List, [], _∷_, _++_, append-nil}
 use Prim.Native.Nat.{ℕ, suc, _+_, _-_, _*_, _/_, _≤_, _<_}
 use native.Mathlib.Omega.{arith}
 use lib.Dec.{eqb, ltb}
-use lib.ListN.{length, take, drop, getD, set, length-append, length-drop, length-map}
+use lib.ListN.{length, take, drop, getD, set, length-append, length-map}
 use lib.Seq.{drop-cons, set-at, append-snoc, take-at, take-length, drop-length}
 use borrow.Author.Tests.{eqb-true, ltb-false}
 use Rattle.trellis.specs.Lists.{pick, each, blocks, patch}
 use Rattle.trellis.specs.Reply.{Reply, accepted, refusal}
 use Rattle.trellis.proofs.Loops.{blocks-front, length-even, length-tab}
 use Rattle.trellis.proofs.Places.{length-count}
-use Rattle.machine.specs.CodeLine.{Read, good, bad, Code, parse, frameFault, Numbers, numbersOf, columnsRead}
+use Rattle.machine.specs.CodeLine.{Read, good, bad, Code, parse, frameFault, numbersOf, columnsRead}
 use Rattle.machine.specs.Line.{byteAt, lineBytes, lineOk, lineReply, lineLeaves}
 use Rattle.machine.specs.Machine.{run, symbols}
 use Rattle.machine.specs.Decoding.{Decodes, decoding, outcome}
@@ -142,7 +142,3 @@ length-of a r y n e h = h ∙ ap (λ x. length (printed (said x y))) (sym e)
 pub length-line : (a b : ℕ) (l : List ℕ) → length l * 2 + 5 ≡ length (asLine (a ∷ b ∷ l))
 unfolding asLine
 length-line a b l = simp (length-append, length-digits l) (omega arith)
-
--- a buffer is no shorter for what is put over it
-pub over-long : (l o out : List ℕ) → out ≡ over l o → length o ≤ length out
-over-long l o out e = rw e (simp (length-append, length-drop) (omega arith))

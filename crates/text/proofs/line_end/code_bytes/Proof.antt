@@ -1,4 +1,4 @@
--- The bytes that layered::line leaves, or none where it refuses.
+-- The bytes that `line` leaves, or none where it refuses.
 use mathlib.Core.Path.{refl, _∙_}
 use native.Mathlib.Omega.{arith}
 use borrow.Author.Needs.{needs}

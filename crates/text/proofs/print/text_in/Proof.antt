@@ -1,5 +1,5 @@
 -- A refused line of text prints its refusal; the bytes of an accepted one are the frame.
-use mathlib.Core.Path.{_≡_, ap, sym}
+use mathlib.Core.Path.{_≡_}
 use mathlib.Core.List.{List}
 use Prim.Native.Nat.{ℕ, _≤_}
 use native.Mathlib.Omega.{arith}
