@@ -6,6 +6,7 @@ use Prim.Native.Nat.{ℕ, zero, suc, _+_, _-_, _*_}
 use lib.Dec.{eqb, ltb, leb}
 use lib.ListN.{length, getD, take}
 use Rattle.trellis.specs.Lists.{each, pick, upto}
+use Rattle.trellis.specs.Field.{xor, product}
 use Rattle.machine.specs.CodeLine.{Read, good, bad, then, Edge, Code, edge, readEdge}
 
 -- columns and weights
@@ -57,6 +58,14 @@ edgesOf (c ∷ cs) (w ∷ ws) = edge c w ∷ edgesOf cs ws
 -- where check m's edges start
 abbrev pub before : List ℕ → ℕ → ℕ
 before ds m = upto (λ k a. a + getD ds k 0) m 0
+
+-- h times x at edge k, in the order of the tables
+abbrev pub term : ℕ → List ℕ → List ℕ → List ℕ → ℕ → ℕ
+term p cs ws z k = product p (getD ws k 0) (getD z (getD cs k 0) 0)
+
+-- the sum of n of them from place at on
+unfoldable pub sumFrom : ℕ → List ℕ → List ℕ → List ℕ → ℕ → ℕ → ℕ
+sumFrom p cs ws z at n = upto (λ k a. xor a (term p cs ws z (at + k))) n 0
 
 -- tables that start with those of a code's checks
 pub record Tabled (C : Code) (ds cs ws : List ℕ) : Type 0 where
