@@ -1,0 +1,5 @@
+-- Laws by topic; a function's own proof stands in a folder of its name.
+pub mod Quotients
+pub mod Filling
+pub mod Refusals
+pub mod Encoded

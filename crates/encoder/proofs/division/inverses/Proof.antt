@@ -1,0 +1,12 @@
+-- One computed test: each entry of the constant is the inverse of its element.
+use Rattle.trellis.specs.Field.{xor}
+use Rattle.encoder.specs.Table.{allInverted}
+use Rattle.encoder.proofs.division.inverses.Statement.{statement}
+use Rattle.encoder.proofs.division.inverses.Tie as tie
+
+returns : tie.Need-returns
+unfolding allInverted xor
+returns c = tt
+
+pub inverses-spec : {M : Type 1} → statement M
+inverses-spec = tie.close (tie.spec returns)

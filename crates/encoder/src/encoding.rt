@@ -1,0 +1,57 @@
+// Encoding over the tables of a code: the refusals in their order, then the message and the symbols of the checks.
+use crate::fill;
+use crate::form;
+use crate::message;
+use crate::num;
+use checknode::Written;
+ghost use mathlib.Core.Path.{_≡_};
+ghost use Rattle.checknode.specs.Answers.{writtenReply};
+ghost use Rattle.encoder.specs.Words.{encodeFaultOf};
+ghost use Rattle.encoder.specs.Rooms.{FormRoom, LineRoom, LeavesLined};
+
+// "17, the code line lacks this form, after all code refusals; 18, message length is not N - M or a symbol is not below q, after 17;
+// then 2"; 0 for none.
+fn fault(q: usize, n: usize, degrees: &[u8], columns: &[u16], message: &[u8], room: usize) -> u8
+    requires { ⌜ FormRoom (now degrees) (now columns) ⌝ }
+    ensures { λ r. ⌜ r ≡ encodeFaultOf q n (now (degrees .entry)) (now (columns .entry)) (now (message .entry)) room ⌝ }
+{
+    if !form::formed(n, degrees, columns) {
+        return 17;
+    }
+    if message.len() + degrees.len() != n {
+        return 18;
+    }
+    if !message::elements(message, q) {
+        return 18;
+    }
+    if room < n {
+        return 2;
+    }
+    0
+}
+
+// Nothing is written before the last refusal has been tested.
+pub fn under_code(
+    p: u8,
+    n: usize,
+    m: usize,
+    degrees: &[u8],
+    columns: &[u16],
+    weights: &[u8],
+    message: &[u8],
+    symbols: &mut [u8],
+) -> Written
+    requires { ⌜ LineRoom p n m (now degrees) (now columns) (now weights) ⌝ }
+    ensures { λ r. ⌜ LeavesLined p n m (now (degrees .entry)) (now (columns .entry)) (now (weights .entry))
+        (now (message .entry)) (now (symbols .entry)) (writtenReply r) (now (symbols .exit)) ⌝ }
+{
+    let q = num::size(p);
+    let k = fault(q, n, &degrees[..m], columns, message, symbols.len());
+    if k != 0 {
+        return Written::Refused(k);
+    }
+    let w = message.len();
+    message::copy(message, &mut symbols[..w]);
+    fill::fill(p, &degrees[..m], columns, weights, w, &mut symbols[..n]);
+    Written::Bytes(n)
+}

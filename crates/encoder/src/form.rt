@@ -1,0 +1,28 @@
+// The form of a code line that encoding needs, refusal 17.
+use crate::num;
+ghost use mathlib.Core.Path.{_≡_};
+ghost use Rattle.encoder.specs.Words.{formedOn};
+ghost use Rattle.encoder.specs.Rooms.{FormRoom};
+
+// "N exceeds M and check m, counted from 0, contains column N - M + m and no higher one": columns rise, so it is the last.
+pub fn formed(n: usize, degrees: &[u8], columns: &[u16]) -> bool
+    requires { ⌜ FormRoom (now degrees) (now columns) ⌝ }
+    ensures { λ r. ⌜ r ≡ formedOn n (now (degrees .entry)) (now (columns .entry)) ⌝ }
+{
+    if n <= degrees.len() {
+        return false;
+    }
+    let from = n - degrees.len();
+    let mut m = 0;
+    let mut at = 0;
+    while m < degrees.len() {
+        let d = num::index(degrees[m]);
+        let c = num::long(columns[at + (d - 1)]);
+        if c != from + m {
+            return false;
+        }
+        at += d;
+        m += 1;
+    }
+    true
+}
