@@ -9,16 +9,20 @@ use lib.ListN.{length, getD, take, drop, length-append, length-drop, length-take
 use lib.Seq.{length-take-le, take-at, take-append-add, drop-append-add, drop-drop}
 use borrow.Author.Tests.{eq-eqb, ne-eqb}
 use Rattle.trellis.specs.Field.{quotient}
-use Rattle.trellis.specs.Reply.{accepted, refusal}
-use Rattle.machine.specs.CodeLine.{good, Code, size, check, edgeAt}
+use Rattle.trellis.specs.Reply.{Reply, accepted, refusal}
+use Rattle.machine.specs.CodeLine.{good, Code, size, check, edgeAt, numbersOf, parse}
 use Rattle.machine.specs.Machine.{paritySum}
-use Rattle.machine.specs.Tables.{before, tablesOf, sumFrom}
-use Rattle.machine.specs.Encoding.{encodable, lastWeight, ownSymbol, encodeTo, encoded, encodeFault, Wrote, wrote, encodingUnder}
-use Rattle.machine.proofs.Lines.{GoodCode}
+use Rattle.machine.specs.Tables.{before, tablesOf, sumFrom, Tabled}
+use Rattle.machine.specs.Encoding.{encodable, lastWeight, ownSymbol, encodeTo, encoded, encodeFault, Wrote, wrote, encodingUnder, encoding}
+use Rattle.machine.proofs.Lines.{GoodCode, parse-good}
 use Rattle.machine.proofs.Places.{count, degree-at, column-flat, weight-flat, sum-flat, all-columns, all-weights}
 use Rattle.machine.proofs.Encoding.{all-ext, lastOwn, encodable-last, more-columns, others-lower, encode-none}
+use Rattle.codeline.specs.declared.Header.{Header}
+use Rattle.codeline.specs.declared.Header.the-variants.{Read as HeaderRead, Refused as HeaderRefused}
+use Rattle.codeline.specs.Answers.{headerNumbers}
+use Rattle.codeline.proofs.Answered.{Accepted, header-refused, header-read}
 use Rattle.encoder.specs.Words.{lastPlace, ownAt, encodeOn, ownTo, formedOn, encodeFaultOf, Leaves}
-use Rattle.encoder.specs.Rooms.{FillRoom, FormRoom, Lined}
+use Rattle.encoder.specs.Rooms.{FillRoom, FormRoom, Lined, LineRoom, LeavesLined}
 
 -- a front that comes back as long as it was lent
 pub front-kept : (l s : List ℕ) (n : ℕ) → n ≤ length l → length s ≡ length (take n l) → length (s ++ drop n l) ≡ length l
@@ -154,3 +158,32 @@ module _ (C : Code) (p n m : ℕ) (dt cs ws : List ℕ) (H : Lined C p n m dt cs
               replies = ap accepted (H .columns-is);
               out-then = ap₂ (λ l r. l ++ r) (j ∙ ap (λ l. encodeOn p (take m dt) cs ws l (length (take m dt))) a ∙ b) (d ∙ ap (λ k. drop k out) (H .columns-is));
             }
+
+-- what the reader's answer says of the line
+module _ (s : List ℕ) (h : Header) (e : headerNumbers h ≡ numbersOf (parse s)) where
+  pub line-refused : (k : ℕ) → h ≡ HeaderRefused k → (u out : List ℕ) → Leaves (encoding s u out) (refusal k) out
+  unfolding encoding
+  line-refused k i u out = rw (header-refused s h e k i) (record { replies = refl; out-then = refl })
+
+  module _ (p n m g limit : ℕ) (i : h ≡ HeaderRead p n m g limit) where
+    read : Accepted s p n m g limit
+    read = header-read s h e p n m g limit i
+
+    -- with the numbers as wider ones
+    module _ (N M : ℕ) (j : N ≡ n) (k : M ≡ m) (ds cs ws : List ℕ) (T : (C : Code) → parse s ≡ good C → Tabled C ds cs ws) where
+      lined : Lined (read .code) p N M ds cs ws
+      lined =
+          record {
+            good = parse-good s (read .code) (read .parsed);
+            p-is = read .p-is;
+            columns-is = j ∙ read .columns-is;
+            checks-is = k ∙ read .checks-is;
+            tabled = T (read .code) (read .parsed);
+          }
+
+      pub line-room : LineRoom p N M ds cs ws
+      line-room = record { code = read .code; lined = lined }
+
+      pub line-encodes : (u out : List ℕ) (r : Reply) (after : List ℕ) → LeavesLined p N M ds cs ws u out r after → Leaves (encoding s u out) r after
+      unfolding encoding
+      line-encodes u out r after L = rw (read .parsed) (L (read .code) lined)

@@ -143,7 +143,7 @@ const INVERSES: [u8; 128] = [
     55,
     16,
     3,
-    32,
+    32, // of 63
 ];
 
 // The whole table: a constant is copied to the stack where it is indexed.

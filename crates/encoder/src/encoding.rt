@@ -1,11 +1,13 @@
-// Encoding over the tables of a code: the refusals in their order, then the message and the symbols of the checks.
+// Encoding over lent tables: the code is read, then the refusals in their order, or the message and the symbols of the checks.
 use crate::fill;
 use crate::form;
 use crate::message;
 use crate::num;
 use checknode::Written;
+use codeline::Header;
 ghost use mathlib.Core.Path.{_≡_};
 ghost use Rattle.checknode.specs.Answers.{writtenReply};
+ghost use Rattle.machine.specs.Encoding.{encoding};
 ghost use Rattle.encoder.specs.Words.{encodeFaultOf};
 ghost use Rattle.encoder.specs.Rooms.{FormRoom, LineRoom, LeavesLined};
 
@@ -31,7 +33,7 @@ fn fault(q: usize, n: usize, degrees: &[u8], columns: &[u16], message: &[u8], ro
 }
 
 // Nothing is written before the last refusal has been tested.
-pub fn under_code(
+fn under_code(
     p: u8,
     n: usize,
     m: usize,
@@ -54,4 +56,31 @@ pub fn under_code(
     message::copy(message, &mut symbols[..w]);
     fill::fill(p, &degrees[..m], columns, weights, w, &mut symbols[..n]);
     Written::Bytes(n)
+}
+
+// The code line is read into lent tables; then the rest under its code.
+pub fn encode_in(
+    code: &[u8],
+    message: &[u8],
+    symbols: &mut [u8],
+    degrees: &mut [u8; 128],
+    columns: &mut [u16; 1024],
+    weights: &mut [u8; 1024],
+) -> Written
+    ensures { λ r. ⌜ writtenReply r ≡ encoding (now (code .entry)) (now (message .entry)) (now (symbols .entry)) .reply ⌝ }
+    ensures { λ _. ⌜ now (symbols .exit) ≡ encoding (now (code .entry)) (now (message .entry)) (now (symbols .entry)) .out ⌝ }
+{
+    match codeline::code_tables(code, degrees, columns, weights) {
+        Header::Refused(k) => Written::Refused(k),
+        Header::Read {
+            p,
+            columns: n,
+            checks: m,
+            ..
+        } => {
+            let n = num::long(n);
+            let m = num::index(m);
+            under_code(p, n, m, degrees, columns, weights, message, symbols)
+        }
+    }
 }
