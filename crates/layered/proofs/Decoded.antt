@@ -35,7 +35,7 @@ use Rattle.layered.specs.Parity.{decisionsOf}
 use Rattle.layered.specs.Passes.{graph, lent, placeAt, goOn, endedIn, Tables, RunRoom}
 use Rattle.layered.specs.Frames.{frameFaultOf, roomFault, faultOf, Coded, CodeRoom, Leaves}
 use Rattle.layered.proofs.Columns.{length-part}
-use Rattle.layered.proofs.Satisfied.{all-not}
+use Rattle.machine.proofs.Lists.{all-not}
 use Rattle.layered.proofs.Passes.{place-is, symbols-are, tables-go}
 
 -- the frame copied whole

@@ -1,29 +1,24 @@
 -- The tables' parts are the checks' edges, so the turns, the test and the run over the tables are those of the code.
 use mathlib.Core.Path.{_≡_, refl, sym, ap, ap₂, _∙_}
 use mathlib.Core.Bool.{Bool, true, false, _&&_}
-use mathlib.Core.List.{List, [], _++_, map}
+use mathlib.Core.List.{List}
 use Prim.Native.Nat.{ℕ, zero, suc, _+_, _-_, _*_, _^_, _≤_, _<_}
 use native.Mathlib.Numerals.{add-one}
 use native.Mathlib.Omega.{arith}
 use lib.Dec.{eqb}
-use lib.ListN.{length, take, drop, getD, length-map, length-append, take-append-drop, List·getD-map}
-use lib.Seq.{getD-take, getD-drop}
-use Rattle.trellis.specs.Lists.{each, upto, allTo, part}
-use Rattle.trellis.specs.Field.{xor, product}
+use lib.ListN.{length, take, getD}
+use Rattle.trellis.specs.Lists.{upto, allTo}
 use Rattle.trellis.specs.Check.{firstZero}
 use Rattle.trellis.specs.Record.{recordLength}
-use Rattle.machine.specs.CodeLine.{Edge, Code, size, rule, check, edgeAt, columnOf}
+use Rattle.machine.specs.CodeLine.{Code, size, rule, check, columnOf}
 use Rattle.machine.specs.Machine.{found, notFound, symbols, paritySum, settled, place}
-use Rattle.machine.specs.Tables.{tablesOf, edgesOf, before}
+use Rattle.machine.specs.Tables.{tablesOf, before, sumFrom}
 use Rattle.machine.specs.Lent.{Lent, turn, pass, ended, goLent}
-use Rattle.machine.proofs.Ranges.{part-front}
-use Rattle.machine.proofs.Tables.{check-slice}
-use Rattle.machine.proofs.Edges.{column-edge, weight-edge, length-table}
-use Rattle.layered.specs.Parity.{decisionsOf, term, sumFrom, allHold}
+use Rattle.machine.proofs.Places.{count, degree-at, edges-at, sum-flat}
+use Rattle.layered.specs.Parity.{decisionsOf, allHold}
 use Rattle.layered.specs.Turns.{recordNow, costsNow}
-use Rattle.layered.specs.Passes.{Graph, graph, tableAt, placeAt, turnAt, passOver, settledOn, goOn, Tables}
-use Rattle.layered.proofs.Columns.{upTo-tab, length-part}
-use Rattle.layered.proofs.Satisfied.{before-mono}
+use Rattle.layered.specs.Passes.{Graph, graph, placeAt, turnAt, passOver, settledOn, goOn, Tables}
+use Rattle.layered.proofs.Columns.{upTo-tab}
 
 -- loops whose turns agree
 pub upto-ext : {A : Type 0} (n : ℕ) (f g : ℕ → A → A) (s : A) → ((k : ℕ) → k < n → (x : A) → f k x ≡ g k x) → upto f n s ≡ upto g n s
@@ -39,17 +34,6 @@ pub place-more : (p : ℕ) (ds : List ℕ) (m at d q : ℕ) → at ≡ placeAt p
 unfolding placeAt
 place-more p ds m at d q e i j = rw (add-one m, e, i, j)
 
--- a list that starts with t
-module _ (l t : List ℕ) (h : take (length t) l ≡ t) where
-  starts : l ≡ t ++ drop (length t) l
-  starts = sym (take-append-drop (length t) l) ∙ ap (λ x. x ++ drop (length t) l) h
-
-  pub start-length : length t ≤ length l
-  start-length = omega (arith, ap length starts ∙ length-append t (drop (length t) l))
-
-  start-part : (a n : ℕ) → a + n ≤ length t → part l a n ≡ part t a n
-  start-part a n k = ap (λ x. part x a n) starts ∙ part-front t (drop (length t) l) a n k
-
 module _ (C : Code) (cs ws : List ℕ) (hc : take (length (tablesOf (C .checks) .edges .columns)) cs ≡ tablesOf (C .checks) .edges .columns)
     (hw : take (length (tablesOf (C .checks) .edges .weights)) ws ≡ tablesOf (C .checks) .edges .weights) where
   abbrev T : Graph
@@ -58,66 +42,20 @@ module _ (C : Code) (cs ws : List ℕ) (hc : take (length (tablesOf (C .checks) 
   abbrev ds : List ℕ
   ds = tablesOf (C .checks) .degrees
 
-  pub count : length ds ≡ length (C .checks)
-  count = length-map (C .checks) (λ es. length es)
-
-  pub degree-at : (m : ℕ) → getD ds m 0 ≡ length (check C m)
-  degree-at m = List·getD-map (λ es. length es) (C .checks) m []
-
-  module _ (m : ℕ) (h : m < length (C .checks)) where
-    within : (f : Edge → ℕ) → before ds m + getD ds m 0 ≤ length (each (map f) (C .checks))
-    within f = rw (length-table f (C .checks)) (before-mono ds (suc m) (length (C .checks)) h)
-
-    pub in-columns : before ds m + getD ds m 0 ≤ length cs
-    in-columns = omega (arith, within (λ e. e .column), start-length cs (tablesOf (C .checks) .edges .columns) hc)
-
-    pub in-weights : before ds m + getD ds m 0 ≤ length ws
-    in-weights = omega (arith, within (λ e. e .weight), start-length ws (tablesOf (C .checks) .edges .weights) hw)
-
-    pub edges-at : edgesOf (tableAt ds cs m) (tableAt ds ws m) ≡ check C m
-    edges-at =
-        ap₂ edgesOf (start-part cs (tablesOf (C .checks) .edges .columns) hc _ _ (within (λ e. e .column))) (start-part ws (tablesOf (C .checks) .edges .weights) hw _ _ (within (λ e. e .weight)))
-        ∙ check-slice (C .checks) m h
-
-    pub same-length : length (tableAt ds cs m) ≡ length (tableAt ds ws m)
-    same-length = length-part cs _ _ in-columns ∙ sym (length-part ws _ _ in-weights)
-
-    pub weights-length : length (tableAt ds ws m) ≡ length (check C m)
-    weights-length = length-part ws _ _ in-weights ∙ degree-at m
-
-    pub column-table : (n : ℕ) → getD (tableAt ds cs m) n 0 ≡ edgeAt (check C m) n .column
-    column-table n = sym (column-edge (tableAt ds cs m) (tableAt ds ws m) same-length n) ∙ ap (λ es. edgeAt es n .column) edges-at
-
-    pub weight-table : (n : ℕ) → getD (tableAt ds ws m) n 0 ≡ edgeAt (check C m) n .weight
-    weight-table n = sym (weight-edge (tableAt ds cs m) (tableAt ds ws m) same-length n) ∙ ap (λ es. edgeAt es n .weight) edges-at
-
-    -- the same in the whole table
-    pub column-flat : (n : ℕ) → n < getD ds m 0 → getD cs (before ds m + n) 0 ≡ edgeAt (check C m) n .column
-    column-flat n i = sym (rw (getD-take, getD-drop)) ∙ column-table n
-
-    pub weight-flat : (n : ℕ) → n < getD ds m 0 → getD ws (before ds m + n) 0 ≡ edgeAt (check C m) n .weight
-    weight-flat n i = sym (rw (getD-take, getD-drop)) ∙ weight-table n
-
-  pub all-columns : before ds (length ds) ≤ length cs
-  all-columns = rw (count, ← length-table (λ e. e .column) (C .checks)) (start-length cs (tablesOf (C .checks) .edges .columns) hc)
-
-  pub all-weights : before ds (length ds) ≤ length ws
-  all-weights = rw (count, ← length-table (λ e. e .weight) (C .checks)) (start-length ws (tablesOf (C .checks) .edges .weights) hw)
-
   pub place-is : (m : ℕ) → placeAt (C .p) ds m ≡ place C m
   unfolding placeAt place
-  place-is m = upto-ext m _ _ 0 (λ k i a. ap (λ d. a + recordLength (rule C) d) (degree-at k))
+  place-is m = upto-ext m _ _ 0 (λ k i a. ap (λ d. a + recordLength (rule C) d) (degree-at C cs ws hc hw k))
 
   pub turn-is : (first : Bool) (m : ℕ) → m < length (C .checks) → (l : Lent) → turnAt T first m l ≡ turn C first m l
   unfolding turnAt turn costsNow recordNow
-  turn-is first m h l = rw (edges-at m h, place-is m, degree-at m)
+  turn-is first m h l = rw (edges-at C cs ws hc hw m h, place-is m, degree-at C cs ws hc hw m)
 
   pub turns-are : (first : Bool) (m : ℕ) → m ≤ length (C .checks) → (l : Lent) → upto (turnAt T first) m l ≡ upto (turn C first) m l
   turns-are first m h l = upto-ext m _ _ l (λ k i x. turn-is first k (omega arith) x)
 
   pub pass-is : (first : Bool) (l : Lent) → passOver T first l ≡ pass C first l
   unfolding passOver pass
-  pass-is first l = rw count (turns-are first (length (C .checks)) (omega arith) l)
+  pass-is first l = rw (count C cs ws hc hw) (turns-are first (length (C .checks)) (omega arith) l)
 
   -- the test
   pub symbols-are : (P : List ℕ) → decisionsOf (size C) P (C .columns) ≡ symbols C P
@@ -125,17 +63,12 @@ module _ (C : Code) (cs ws : List ℕ) (hc : take (length (tablesOf (C .checks) 
   symbols-are P = sym (upTo-tab (λ c. firstZero (columnOf (size C) P c)) (C .columns))
 
   sum-is : (z : List ℕ) (m : ℕ) → m < length (C .checks) → sumFrom (C .p) cs ws z (before ds m) (getD ds m 0) ≡ paritySum (C .p) (check C m) z (length (check C m))
-  unfolding sumFrom
-  sum-is z m h =
-      ap (λ d. upto (λ k a. xor a (term (C .p) cs ws z (before ds m + k))) d 0) (degree-at m)
-      ∙ upto-ext (length (check C m)) _ _ 0 (λ k i a.
-      let j : k < getD ds m 0 = omega (arith, degree-at m) in
-      ap₂ (λ u v. xor a (product (C .p) u (getD z v 0))) (weight-flat m h k j) (column-flat m h k j))
+  sum-is z m h = sum-flat C cs ws hc hw m h z (getD ds m 0) (omega arith) ∙ ap (paritySum (C .p) (check C m) z) (degree-at C cs ws hc hw m)
 
   pub settled-is : (P : List ℕ) → settledOn T (C .columns) P ≡ settled C P
   unfolding allHold settled
   settled-is P =
-      rw (symbols-are P, count)
+      rw (symbols-are P, count C cs ws hc hw)
       (all-ext (length (C .checks)) _ _ (λ m h. ap (λ s. eqb s 0) (sum-is (symbols C P) m h)))
 
   -- the run

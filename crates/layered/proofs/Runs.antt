@@ -27,7 +27,8 @@ use Rattle.layered.specs.Parity.{SettledRoom}
 use Rattle.layered.specs.Turns.{costsNow, recordNow, UpdateRoom}
 use Rattle.layered.specs.Passes.{Graph, graph, lent, tableAt, lengthAt, placeAt, recordAt, turnAt, passOver, Running, RunRoom}
 use Rattle.layered.proofs.Columns.{length-part}
-use Rattle.layered.proofs.Passes.{count, degree-at, in-columns, in-weights, same-length, weights-length, column-table, weight-table, column-flat, weight-flat, all-columns, all-weights, place-is, turns-are, tables-pass}
+use Rattle.machine.proofs.Places.{count, degree-at, in-columns, in-weights, same-length, weights-length, column-table, weight-table, column-flat, weight-flat, all-columns, all-weights}
+use Rattle.layered.proofs.Passes.{place-is, turns-are, tables-pass}
 
 module _ (C : Code) (G : GoodCode C) (cs ws : List ℕ) (hc : take (length (tablesOf (C .checks) .edges .columns)) cs ≡ tablesOf (C .checks) .edges .columns)
     (hw : take (length (tablesOf (C .checks) .edges .weights)) ws ≡ tablesOf (C .checks) .edges .weights) (s₀ : List ℕ) (room : used C ≤ length s₀)

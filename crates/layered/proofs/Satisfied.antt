@@ -1,19 +1,17 @@
 -- The loops of the parity test: a search that goes on as long as the rest has the same first 0; a check's sum term by term; a check that fails
 -- makes the whole test fail, however many come after it.
 use mathlib.Core.Path.{_≡_, refl, sym, ap, ap₂, _∙_}
-use mathlib.Core.Bool.{Bool, true, false, _&&_}
+use mathlib.Core.Bool.{true, false}
 use mathlib.Core.List.{List, _∷_, _++_}
 use Prim.Native.Nat.{ℕ, zero, suc, _+_, _-_, _*_, _^_, _≤_, _<_}
-use native.Mathlib.Nat.{not-suc-le-zero, add-sub-cancel-left}
-use native.Mathlib.Decide.{ℕ-discrete}
+use native.Mathlib.Nat.{add-sub-cancel-left}
 use native.Mathlib.Numerals.{add-one}
 use native.Mathlib.Omega.{arith}
-use lib.Bits.{bitXor}
 use lib.ListN.{length, getD, drop, set}
 use lib.Seq.{drop-cons, drop-length}
 use borrow.Author.Tests.{eq-eqb, ne-eqb, le-ltb, lt-leb}
-use Rattle.trellis.specs.Lists.{allTo, tab, part}
-use Rattle.trellis.specs.Field.{xor, product}
+use Rattle.trellis.specs.Lists.{tab, part}
+use Rattle.trellis.specs.Field.{product}
 use Rattle.trellis.specs.Check.{firstZero}
 use Rattle.trellis.specs.Reply.{Reply, accepted}
 use Rattle.checknode.specs.Answers.{elementReply, productReply}
@@ -21,8 +19,10 @@ use Rattle.checknode.specs.declared.Element.{Element}
 use Rattle.checknode.specs.declared.Element.the-variants.{Is, Refused}
 use Rattle.trellis.proofs.Loops.{tab-more, tab-whole, length-tab, getD-tab}
 use Rattle.machine.specs.CodeLine.{columnOf}
-use Rattle.machine.specs.Tables.{before}
-use Rattle.layered.specs.Parity.{decisionsOf, term, sumFrom, allHold, EdgeRoom, ParityRoom, SettledRoom}
+use Rattle.machine.specs.Tables.{before, sumFrom}
+use Rattle.machine.proofs.Lists.{all-not}
+use Rattle.machine.proofs.Places.{edge-within}
+use Rattle.layered.specs.Parity.{decisionsOf, allHold, EdgeRoom, ParityRoom, SettledRoom}
 
 -- the search
 first-later : (x : ℕ) (l : List ℕ) → (x ≡ 0 → ⊥) → firstZero (x ∷ l) ≡ suc (firstZero l)
@@ -59,42 +59,7 @@ module _ (p a b : ℕ) (low : 2 ≤ p) (high : p ≤ 6) (h : a < 2 ^ p) (k : b <
   pub never-refused : (n : ℕ) → e ≡ Refused n → ⊥
   never-refused n i = let z : true ≡ false = ap (λ (r : Reply). r .refused) (ap elementReply (sym i) ∙ accepts) in let y : _≡_ {A = ℕ} 0 1 = cc in omega arith
 
--- the places of the edges
-pub before-more : (ds : List ℕ) (m at d : ℕ) → at ≡ before ds m → d ≡ getD ds m 0 → at + d ≡ before ds (m + 1)
-before-more ds m at d e i = rw (add-one m, e, i)
-
-pub before-mono : (ds : List ℕ) (m n : ℕ) → m ≤ n → before ds m ≤ before ds n
-before-mono ds m zero h = let e : m ≡ 0 = omega arith in rw e (omega arith)
-before-mono ds m (suc n) h =
-    elim (ℕ-discrete m (suc n)) [
-      | yes e ↦ rw e (omega arith)
-      | no e ↦ omega (arith, before-mono ds m n (omega arith))
-    ]
-
-pub edge-within : (ds : List ℕ) (m n at d : ℕ) → m < length ds → at ≡ before ds m → d ≡ getD ds m 0 → n < d → at + n < before ds (length ds)
-edge-within ds m n at d h e i k = omega (arith, before-mono ds (suc m) (length ds) h)
-
-pub end-within : (ds : List ℕ) (m at d : ℕ) → m < length ds → at ≡ before ds m → d ≡ getD ds m 0 → at + d ≤ before ds (length ds)
-end-within ds m at d h e i = omega (arith, before-mono ds (suc m) (length ds) h)
-
-and-false : (b : Bool) → b && false ≡ false
-and-false true = refl
-and-false false = refl
-
--- a test that fails once fails
-pub all-not : (f : ℕ → Bool) (m n : ℕ) → m < n → f m ≡ false → allTo f n ≡ false
-all-not f m zero h e = absurd (not-suc-le-zero h)
-all-not f m (suc n) h e =
-    elim (ℕ-discrete m n) [
-      | yes i ↦ rw (← i, e) (and-false (allTo f m))
-      | no i ↦ rw (all-not f m n (omega arith) e)
-    ]
-
 module _ (p : ℕ) (ds cs ws z : List ℕ) where
-  pub sum-more : (at n s t : ℕ) → s ≡ sumFrom p cs ws z at n → t ≡ term p cs ws z (at + n) → bitXor s t ≡ sumFrom p cs ws z at (n + 1)
-  unfolding sumFrom xor
-  sum-more at n s t e i = rw (add-one n, e, i)
-
   module _ (m at d n s : ℕ) (e : at ≡ before ds m) (i : d ≡ getD ds m 0) (j : n ≡ d) (u : s ≡ sumFrom p cs ws z at n) where
     whole : s ≡ sumFrom p cs ws z (before ds m) (getD ds m 0)
     whole = u ∙ ap₂ (sumFrom p cs ws z) e (j ∙ i)

@@ -4,23 +4,14 @@ use mathlib.Core.List.{List}
 use Prim.Native.Nat.{ℕ, _+_, _*_, _^_, _≤_, _<_}
 use lib.Dec.{eqb}
 use lib.ListN.{length, getD}
-use Rattle.trellis.specs.Lists.{upto, tab, allTo}
-use Rattle.trellis.specs.Field.{xor, product}
+use Rattle.trellis.specs.Lists.{tab, allTo}
 use Rattle.trellis.specs.Check.{firstZero}
 use Rattle.machine.specs.CodeLine.{columnOf}
-use Rattle.machine.specs.Tables.{before}
+use Rattle.machine.specs.Tables.{before, sumFrom}
 
 -- the decisions of n columns of q costs
 unfoldable pub decisionsOf : ℕ → List ℕ → ℕ → List ℕ
 decisionsOf q P n = tab (λ c. firstZero (columnOf q P c)) n
-
--- h times x at edge k, in the order of the tables
-abbrev pub term : ℕ → List ℕ → List ℕ → List ℕ → ℕ → ℕ
-term p cs ws z k = product p (getD ws k 0) (getD z (getD cs k 0) 0)
-
--- the sum of n of them from place at on
-unfoldable pub sumFrom : ℕ → List ℕ → List ℕ → List ℕ → ℕ → ℕ → ℕ
-sumFrom p cs ws z at n = upto (λ k a. xor a (term p cs ws z (at + k))) n 0
 
 -- the first m checks are satisfied
 unfoldable pub allHold : ℕ → List ℕ → List ℕ → List ℕ → List ℕ → ℕ → Bool

@@ -6,7 +6,8 @@ ghost use Prim.Native.Nat.{_*_, _^_, _≤_, _<_};
 ghost use lib.ListN.{length};
 ghost use Rattle.trellis.specs.Check.{firstZero};
 ghost use Rattle.trellis.specs.Field.{product};
-ghost use Rattle.layered.specs.Parity.{decisionsOf, term, EdgeRoom, ParityRoom, allHold, SettledRoom};
+ghost use Rattle.machine.specs.Tables.{term};
+ghost use Rattle.layered.specs.Parity.{decisionsOf, EdgeRoom, ParityRoom, allHold, SettledRoom};
 
 // "the smallest symbol of cost 0", or the number of costs where there is none.
 fn first_zero(costs: &[u16]) -> usize

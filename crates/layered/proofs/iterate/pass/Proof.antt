@@ -9,7 +9,7 @@ use Rattle.trellis.specs.Lists.{upto}
 use Rattle.machine.specs.Tables.{before}
 use Rattle.layered.specs.Passes.{graph, lent, placeAt, turnAt}
 use Rattle.layered.proofs.Columns.{part-kept, front-kept}
-use Rattle.layered.proofs.Satisfied.{before-more}
+use Rattle.machine.proofs.Places.{before-more}
 use Rattle.layered.proofs.Passes.{pass-done}
 use Rattle.layered.proofs.Runs.{turn-places, turn-asks, turn-done, next-place}
 use Rattle.layered.proofs.iterate.pass.Statement.{statement}

@@ -6,8 +6,10 @@ use native.Mathlib.Omega.{arith}
 use borrow.Author.Needs.{needs}
 use lib.ListN.{length}
 use Rattle.machine.specs.Tables.{before}
-use Rattle.layered.specs.Parity.{sumFrom, allHold}
-use Rattle.layered.proofs.Satisfied.{edge-room, before-more, edge-within, end-within, sum-more, hold-more, hold-not}
+use Rattle.machine.specs.Tables.{sumFrom}
+use Rattle.layered.specs.Parity.{allHold}
+use Rattle.machine.proofs.Places.{before-more, edge-within, end-within, sum-more}
+use Rattle.layered.proofs.Satisfied.{edge-room, hold-more, hold-not}
 use Rattle.layered.proofs.parity.holds.Statement.{statement}
 use Rattle.layered.proofs.parity.holds.Tie as tie
 
@@ -64,7 +66,7 @@ loop-again c =
     let l = c .before .before in
     let k = l .before .before .before .before in
     let a = k .before .before .before .before .before .args in
-    (omega arith, sum-more (a .p) (a .degrees .now) (a .columns .now) (a .weights .now) (a .symbols .now) (k .checks .at) (l .loop .n) (l .loop .sum) (c .term-at .result) (l .loop .inv .1) (c .term-at .ensures))
+    (omega arith, sum-more (a .p) (a .columns .now) (a .weights .now) (a .symbols .now) (k .checks .at) (l .loop .n) (l .loop .sum) (c .term-at .result) (l .loop .inv .1) (c .term-at .ensures))
 
 add-at : tie.Need-add-at Inv-loop μ-loop Inv-checks μ-checks
 add-at c =
