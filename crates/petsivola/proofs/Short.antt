@@ -1,15 +1,19 @@
--- A line that is accepted gives at most 16,384 bytes: it has at most 32,768 digits.
+-- What a call writes fits the lower half of its result: a line that is accepted gives at most 16,384 bytes, a word has at most 256 symbols.
+use mathlib.Core.Path.{_≡_, refl}
 use mathlib.Core.Bool.{Bool, true, false}
-use mathlib.Core.List.{List}
+use mathlib.Core.List.{List, _++_}
 use Prim.Native.Nat.{ℕ, _/_, _≤_}
 use native.Mathlib.Decide.{decLt}
 use native.Mathlib.Omega.{arith}
 use borrow.Author.Tests.{lt-ltb, le-ltb}
-use lib.Dec.{ltb}
-use lib.ListN.{length}
+use lib.Dec.{eqb, ltb}
+use lib.ListN.{length, drop}
 use Rattle.trellis.specs.Lists.{pick}
 use Rattle.trellis.specs.Reply.{accepted, refusal}
 use Rattle.machine.specs.Line.{lineOk, lineReply}
+use Rattle.machine.specs.CodeLine.{Read, good, bad, Code, parse}
+use Rattle.machine.specs.Encoding.{encoded, encodeFault, wrote, encodingUnder, encoding}
+use Rattle.machine.proofs.Lines.{parse-good}
 
 pub line-short : (t out : List ℕ) → lineReply t out .value ≤ 16384
 unfolding lineReply
@@ -23,3 +27,16 @@ line-short t out =
     rest h true true = omega arith
     rest h true false = omega arith
     rest h false b = omega arith
+
+pub word-short : (code u out : List ℕ) → encoding code u out .reply .value ≤ 16384
+unfolding encoding
+word-short code u out = under (parse code) refl
+  where
+    under : (r : Read Code) → parse code ≡ r → encodingUnder r u out .reply .value ≤ 16384
+    under (bad k) e = omega arith
+    under (good C) e = by (eqb (encodeFault C u (length out)) 0) (parse-good code C e .columns-high)
+      where
+        by : (b : Bool) → C .columns ≤ 256
+            → pick b (wrote (accepted (C .columns)) (encoded C u ++ drop (C .columns) out)) (wrote (refusal (encodeFault C u (length out))) out) .reply .value ≤ 16384
+        by true h = omega arith
+        by false h = omega arith

@@ -8,6 +8,7 @@ ghost use Prim.Native.Nat.{_≤_};
 ghost use Rattle.checknode.specs.Answers.{elementReply, productReply, writtenReply, checkReply, checkLeaves, expandReply, expandLeaves};
 ghost use Rattle.machine.specs.Line.{lineReply, lineLeaves};
 ghost use Rattle.machine.specs.Decoding.{decoding};
+ghost use Rattle.machine.specs.Encoding.{encoding};
 ghost use Rattle.layered.specs.Answers.{answerReply};
 ghost use Rattle.petsivola.specs.Packed.{Packs, outcomeReply};
 
@@ -93,4 +94,12 @@ pub extern "C" fn petsivola_decode(
     ensures { λ _. ⌜ now (store .exit) ≡ decoding (now (code .entry)) (now (frame .entry)) (now (symbols .entry)) (now (costs .entry)) (now (store .entry)) .store ⌝ }
 {
     of_answer(layered::decode(code, frame, symbols, costs, store))
+}
+
+#[no_mangle]
+pub extern "C" fn petsivola_encode(code: &[u8], message: &[u8], symbols: &mut [u8]) -> u32
+    ensures { λ r. ⌜ Packs r (encoding (now (code .entry)) (now (message .entry)) (now (symbols .entry)) .reply) ⌝ }
+    ensures { λ _. ⌜ now (symbols .exit) ≡ encoding (now (code .entry)) (now (message .entry)) (now (symbols .entry)) .out ⌝ }
+{
+    of_written(encoder::encode(code, message, symbols))
 }
