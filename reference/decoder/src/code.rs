@@ -53,6 +53,26 @@ impl Code {
         Field::new(self.p).expect("an accepted p")
     }
 
+    /// The bytes of the code line that [`code_line`] reads as this code.
+    pub fn line(&self) -> Vec<u8> {
+        let high_first = |number: usize| {
+            let number = u16::try_from(number).expect("N is at most 256");
+            number.to_be_bytes()
+        };
+        let mut line = vec![self.p];
+        line.extend(high_first(self.n));
+        line.push(u8::try_from(self.m).expect("M is at most 128"));
+        line.extend([self.g, self.limit]);
+        for check in &self.checks {
+            line.push(u8::try_from(check.columns.len()).expect("a degree is at most 32"));
+            for (&column, &weight) in check.columns.iter().zip(&check.weights) {
+                line.extend(high_first(column));
+                line.push(weight);
+            }
+        }
+        line
+    }
+
     /// "A frame is N times q costs, column by column."
     pub fn frame_length(&self) -> usize {
         self.n * self.field().size()

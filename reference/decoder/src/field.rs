@@ -59,6 +59,14 @@ impl Field {
         }
         u8::try_from(polynomial).expect("a remainder has a degree below p")
     }
+
+    /// The element whose product with `a`, which is not 0, is 1.
+    pub fn inverse(self, a: u8) -> u8 {
+        (1..=u8::MAX)
+            .take_while(|&b| self.contains(b))
+            .find(|&b| self.product(a, b) == 1)
+            .expect("an element that is not 0 has an inverse")
+    }
 }
 
 /// The sum of elements: "Addition is exclusive or."

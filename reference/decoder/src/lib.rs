@@ -1,18 +1,20 @@
-//! The reference decoder: document 01 (`01-scope.md`) and §1 of document 02
+//! The reference decoder: document 01 (`01-scope.md`) with §1 and §2 of document 02
 //! (`02-change-requests.md`) written out once more, in Rust. The proved library is compared with it,
 //! so it is written from the documents alone, without that library's code: the least costs of a check
-//! come from listing the choices, as document 01 defines them.
+//! come from listing the choices, as document 01 defines them, and a message is encoded by solving
+//! the checks as equations.
 //!
 //! The entry points are [`product`], [`check`](check()), [`expand`], [`line`](line()),
-//! [`code_line`], [`decode`], [`frame_line`] and [`program`](program()). Each answers a [`Refusal`]
-//! in document 01's order or fills the used part of its lent buffers. The module [`sample`] makes
-//! inputs for tests.
+//! [`code_line`], [`decode`], [`encode`](encode()), [`frame_line`] and [`program`](program()). Each
+//! answers a [`Refusal`] in the documents' order or fills the used part of its lent buffers. The
+//! module [`sample`] makes inputs for tests.
 
 #![forbid(unsafe_code)]
 #![deny(missing_docs)]
 
 pub mod check;
 pub mod code;
+pub mod encode;
 pub mod field;
 pub mod line;
 pub mod machine;
@@ -23,6 +25,7 @@ pub mod sample;
 
 pub use check::check;
 pub use code::{code_line, CheckNode, Code};
+pub use encode::encode;
 pub use field::product;
 pub use line::line;
 pub use machine::{decode, Outcome};

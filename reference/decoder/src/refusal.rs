@@ -7,7 +7,8 @@
 use std::error::Error;
 use std::fmt;
 
-/// Why an entry point refused its input; the discriminant is document 01's number.
+/// Why an entry point refused its input; the discriminant is document 01's number. Document 02: "New
+/// numbers, here and below, join document 01's list".
 #[derive(Clone, Copy, Debug, PartialEq, Eq, PartialOrd, Ord, Hash)]
 #[repr(u8)]
 pub enum Refusal {
@@ -43,6 +44,10 @@ pub enum Refusal {
     /// "16, length wrong, shift not below q, an unused pair that is not FF 00 or stands before a
     /// used one, columns not rising or not below d, or S not above E"
     Record = 16,
+    /// Document 02, §2: "17, the code line lacks this form"
+    NoForm = 17,
+    /// Document 02, §2: "18, message length is not N - M or a symbol is not below q"
+    Message = 18,
 }
 
 impl Refusal {

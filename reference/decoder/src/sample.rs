@@ -1,20 +1,24 @@
 //! Inputs for tests: a deterministic generator, and functions that make accepted checks, records,
-//! codes, frames and program inputs of any size, and damaged variants of them.
+//! codes, frames, messages and program inputs of any size, and damaged variants of them.
 //!
-//! The same seed always gives the same inputs. Nothing here is part of document 01's calls; the
+//! The same seed always gives the same inputs. Nothing here is part of the documents' calls; the
 //! tests of this package and the comparison with the proved library use it.
 
 mod checks;
 mod codes;
 mod costs;
 mod damage;
+mod encodings;
 mod generator;
 mod inputs;
 
 pub use checks::{check, record, weights, CheckSample};
 pub use codes::{code, frame, noisy_frame, CodeSample, Size};
 pub use costs::{column, column_deciding, columns, Style};
-pub use damage::{damaged_check, damaged_code, damaged_frame, damaged_record, damaged_text};
+pub use damage::{
+    damaged_check, damaged_code, damaged_frame, damaged_message, damaged_record, damaged_text,
+};
+pub use encodings::{certain_frame, encodable_code, message, near_miss, Miss};
 pub use generator::Generator;
 pub use inputs::program_input;
 

@@ -7,7 +7,7 @@ use std::collections::BTreeSet;
 
 use reference_decoder::line::hexadecimal;
 use reference_decoder::sample::{self, Generator, Size, Style};
-use reference_decoder::{check, code_line, decode, expand, line, Refusal};
+use reference_decoder::{check, code_line, decode, encode, expand, line, Refusal};
 
 /// Calls twice with buffers of different content and the same length, now and then too short, and
 /// gives the refusal's number or 0. Whatever the buffers held: the answers are equal, the bytes
@@ -68,6 +68,30 @@ fn check_expand_and_line() {
     assert_eq!(of_check, BTreeSet::from([0, 4, 6, 9, 11, 12, 13]));
     assert_eq!(of_expand, BTreeSet::from([0, 2, 6, 9, 11, 16]));
     assert_eq!(of_line, BTreeSet::from([0, 2, 14, 15]));
+}
+
+#[test]
+fn encoding() {
+    let mut generator = Generator::new(82);
+    let mut numbers = BTreeSet::new();
+    for _ in 0..3_000 {
+        let code = sample::encodable_code(&mut generator, &Size::SMALL);
+        let mut message = sample::message(&mut generator, &code);
+        let mut line = code.line();
+        if generator.once_in(3) {
+            line = sample::damaged_code(&mut generator, &line);
+        }
+        if generator.once_in(3) {
+            message = sample::damaged_message(&mut generator, code.field().size(), &message);
+        }
+        numbers.insert(call(&mut generator, code.n, |buffer| {
+            encode(&line, &message, buffer)
+        }));
+    }
+    assert_eq!(
+        numbers,
+        BTreeSet::from([0, 2, 5, 6, 7, 8, 9, 10, 11, 17, 18])
+    );
 }
 
 /// Arbitrary content for a decoding's symbol buffer, cost buffer and store.

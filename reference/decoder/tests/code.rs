@@ -25,6 +25,7 @@ fn the_fields_of_a_code_line() {
             },
         ],
     };
+    assert_eq!(expected.line(), line);
     assert_eq!(code_line(&line), Ok(expected));
 }
 

@@ -59,3 +59,13 @@ fn the_product_has_the_laws_of_a_field() {
         }
     }
 }
+
+#[test]
+fn a_product_with_the_inverse_is_1() {
+    for (field, q) in fields() {
+        for a in 1..q {
+            assert_eq!(field.product(a, field.inverse(a)), 1);
+            assert!(field.contains(field.inverse(a)));
+        }
+    }
+}

@@ -3,6 +3,7 @@
 
 use std::collections::BTreeSet;
 
+use reference_decoder::encode::has_encoding_form;
 use reference_decoder::record::has_accepted_form;
 use reference_decoder::sample::{self, Generator, Size, Style};
 use reference_decoder::{code_line, decode, program, Outcome, Refusal};
@@ -130,6 +131,60 @@ fn damaged_codes_meet_every_refusal() {
         numbers.insert(code_line(&damaged).err().map_or(0, Refusal::number));
     }
     assert_eq!(numbers, BTreeSet::from([0, 5, 6, 7, 8, 9, 10, 11]));
+}
+
+/// N to 256, M to 128, degrees 2 to 32 and 1,024 edges, each with the form.
+#[test]
+fn encodable_codes_are_accepted_and_spread_over_their_ranges() {
+    let mut generator = Generator::new(98);
+    let mut met = BTreeSet::new();
+    for size in [
+        Size::SMALL,
+        Size::MEDIUM,
+        Size::FULL,
+        Size::MOST_CHECKS,
+        Size::MOST_DEGREE,
+    ] {
+        for _ in 0..200 {
+            let code = sample::encodable_code(&mut generator, &size);
+            assert_eq!(code_line(&code.line()).as_ref(), Ok(&code));
+            assert!(has_encoding_form(&code));
+            assert!(size.columns.contains(&code.n) && code.m <= *size.checks.end());
+            let degrees = code.checks.iter().map(|check| check.columns.len());
+            let edges = degrees.clone().sum();
+            met.extend([("p", usize::from(code.p)), ("N", code.n), ("M", code.m)]);
+            met.extend([("N - M", code.n - code.m), ("edges", edges)]);
+            met.extend(degrees.map(|degree| ("degree", degree)));
+            let message = sample::message(&mut generator, &code);
+            assert_eq!(message.len(), code.n - code.m);
+            assert!(message.iter().all(|&symbol| code.field().contains(symbol)));
+        }
+    }
+    let most = [("N", 256), ("M", 128), ("edges", 1_024)];
+    let least = [("N", 2), ("M", 1), ("N - M", 1), ("edges", 2)];
+    for bound in most.into_iter().chain(least) {
+        assert!(met.contains(&bound), "{bound:?}");
+    }
+    assert!((2..=6).all(|p| met.contains(&("p", p))));
+    assert!((2..=32).all(|degree| met.contains(&("degree", degree))));
+}
+
+#[test]
+fn damaged_messages_are_of_another_length_or_hold_another_number() {
+    let mut generator = Generator::new(99);
+    let (mut lengths, mut symbols) = (BTreeSet::new(), BTreeSet::new());
+    for _ in 0..2_000 {
+        let message = [3; 10];
+        let damaged = sample::damaged_message(&mut generator, 8, &message);
+        lengths.insert(damaged.len());
+        symbols.extend(damaged.into_iter().filter(|&symbol| symbol >= 8));
+    }
+    for length in [0, 9, 10, 11, 266] {
+        assert!(lengths.contains(&length), "{length}");
+    }
+    for symbol in [8, 9, 255] {
+        assert!(symbols.contains(&symbol), "{symbol}");
+    }
 }
 
 /// A line of one check with all edges but the first taken off, so that only its degree is wrong, and

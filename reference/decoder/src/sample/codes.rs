@@ -4,7 +4,7 @@ use std::ops::RangeInclusive;
 
 use super::{checks, costs, Generator, Style};
 use crate::check::DEGREES;
-use crate::code::{Code, MOST_EDGES, MOST_SCALE};
+use crate::code::{CheckNode, Code, MOST_EDGES, MOST_SCALE};
 use crate::field::{sum, Field};
 
 /// The ranges from which a code's numbers are taken. A check takes fewer edges than its range says
@@ -81,11 +81,9 @@ pub fn code(generator: &mut Generator, size: &Size) -> CodeSample {
     let n = generator.between(size.columns.clone());
     let m = generator.between(size.checks.clone());
     let word = word(generator, p, n);
-    let mut line = vec![p];
-    line.extend(two_bytes(n));
-    line.push(u8::try_from(m).expect("M is at most 128"));
-    line.push(generator.byte(1..=MOST_SCALE));
-    line.push(generator.byte(size.limit.clone()));
+    let g = generator.byte(1..=MOST_SCALE);
+    let limit = generator.byte(size.limit.clone());
+    let mut checks = Vec::new();
     let mut edges_left = MOST_EDGES;
     for checks_left in (0..m).rev() {
         let room = edges_left - DEGREES.start() * checks_left;
@@ -94,13 +92,20 @@ pub fn code(generator: &mut Generator, size: &Size) -> CodeSample {
         edges_left -= degree;
         let columns = generator.rising(degree, n);
         let weights = weights_for_word(generator, p, &columns, &word);
-        line.push(u8::try_from(degree).expect("a degree is at most 32"));
-        for (column, weight) in columns.into_iter().zip(weights) {
-            line.extend(two_bytes(column));
-            line.push(weight);
-        }
+        checks.push(CheckNode { columns, weights });
     }
-    CodeSample { line, word }
+    let code = Code {
+        p,
+        n,
+        m,
+        g,
+        limit,
+        checks,
+    };
+    CodeSample {
+        line: code.line(),
+        word,
+    }
 }
 
 /// A frame of random columns in one style.
@@ -162,11 +167,4 @@ fn weights_for_word(generator: &mut Generator, p: u8, columns: &[usize], word: &
             return weights;
         }
     }
-}
-
-/// A number as two bytes, high first.
-fn two_bytes(number: usize) -> [u8; 2] {
-    u16::try_from(number)
-        .expect("a number below 65,536")
-        .to_be_bytes()
 }

@@ -150,6 +150,26 @@ pub fn damaged_record(generator: &mut Generator, degree: usize, record: &[u8]) -
     })
 }
 
+/// A message of symbols below `q` with changes that aim at both causes of 18.
+pub fn damaged_message(generator: &mut Generator, q: usize, message: &[u8]) -> Vec<u8> {
+    let least = u8::try_from(q).expect("q is at most 64");
+    damaged(
+        generator,
+        &message.to_vec(),
+        |generator, message| match generator.below(6) {
+            0 => message.truncate(generator.below(message.len() + 1)),
+            1 => message.truncate(message.len().saturating_sub(1)),
+            2 => message.push(generator.byte(0..=least - 1)),
+            3 => message.resize(message.len() + generator.between(1..=300), 0),
+            4 => replace(generator, message, least),
+            _ => {
+                let symbol = generator.byte(least..=255);
+                replace(generator, message, symbol);
+            }
+        },
+    )
+}
+
 /// The text of a line with changes that aim at 14 and 15.
 pub fn damaged_text(generator: &mut Generator, text: &[u8]) -> Vec<u8> {
     damaged(
