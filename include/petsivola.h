@@ -1,9 +1,10 @@
-/* petsivola.h - decoder for nonbinary LDPC frames, over buffers that the caller lends.
+/* petsivola.h - decoder and encoder for nonbinary LDPC frames, over buffers that the caller lends.
  *
  * C99. Link with libpetsivola.a (x86-64 Linux). No heap, no files, no state between calls, so calls
  * from several threads need no lock.
  *
- * Stack of a call, as measured: decode 27 KB, check 19 KB, expand 5 KB, the others under 1 KB.
+ * Stack of a call, as measured: decode 27 KB, check 19 KB, expand 5 KB, product and line under
+ * 1 KB.
  *
  * Every input is answered: each function ends, stays inside its buffers, and refuses for the numbered
  * reasons below and no others. A refused call changes no byte. An accepted call fills the first bytes
@@ -36,7 +37,8 @@ enum petsivola_number {
     PETSIVOLA_NOT_FOUND = 1,        /* decode: they do not after I iterations */
 
     /* refusals caused by the caller */
-    PETSIVOLA_SHORT_BUFFER = 2,     /* decode's symbols, expand's or line's out too short */
+    PETSIVOLA_SHORT_BUFFER = 2,     /* decode's or encode's symbols, expand's or line's out too
+                                       short */
     PETSIVOLA_SHORT_COSTS = 3,      /* cost buffer shorter than N * q */
     PETSIVOLA_SHORT_STORE = 4,      /* record buffer or store too short */
     /* by the code line's writer */
@@ -54,9 +56,14 @@ enum petsivola_number {
     PETSIVOLA_DIGITS = 14,          /* odd digit count, or a byte other than 0-9 and A-F */
     PETSIVOLA_LONG_LINE = 15,       /* more than 32,768 bytes */
     /* by the record's writer */
-    PETSIVOLA_RECORD = 16           /* wrong length, shift not below q, an unused pair that is not
+    PETSIVOLA_RECORD = 16,          /* wrong length, shift not below q, an unused pair that is not
                                        FF 00 or stands before a used one, columns not rising or not
                                        below d, or S not above E */
+    /* encode: by the code line's writer */
+    PETSIVOLA_NO_FORM = 17,         /* N not above M, or a check m without column N - M + m or with
+                                       a higher one */
+    /* encode: by the message's writer */
+    PETSIVOLA_MESSAGE = 18          /* message length is not N - M, or a symbol not below q */
 };
 
 /* Lengths in elements, as constant expressions for constant arguments. p is 2 to 6 and q is 2^p. */
@@ -67,11 +74,13 @@ enum petsivola_number {
 #define PETSIVOLA_STORE_LENGTH(p, m, edges) \
     ((size_t)(edges) + (size_t)(m) * 5 * (PETSIVOLA_Q(p) - 1))
 #define PETSIVOLA_CODE_LENGTH(m, edges) (6 + (size_t)(m) + 3 * (size_t)(edges))
+#define PETSIVOLA_MESSAGE_LENGTH(n, m) ((size_t)(n) - (size_t)(m))  /* for n above m */
 
 /* Lengths that are enough for every accepted input. */
 #define PETSIVOLA_MOST_RECORD PETSIVOLA_RECORD_LENGTH(6, 32)        /*    347 */
 #define PETSIVOLA_MOST_EXPANSION PETSIVOLA_EXPANSION_LENGTH(6, 32)  /*  2,048 */
 #define PETSIVOLA_MOST_SYMBOLS ((size_t)256)
+#define PETSIVOLA_MOST_MESSAGE PETSIVOLA_MESSAGE_LENGTH(256, 1)     /*    255 */
 #define PETSIVOLA_MOST_COSTS PETSIVOLA_FRAME_LENGTH(6, 256)         /* 16,384 */
 #define PETSIVOLA_MOST_STORE PETSIVOLA_STORE_LENGTH(6, 128, 1024)   /* 41,344 */
 #define PETSIVOLA_MOST_CODE PETSIVOLA_CODE_LENGTH(128, 1024)        /*  3,206 */
@@ -97,6 +106,21 @@ uint32_t petsivola_decode(const uint8_t *code, size_t code_len,
                           uint8_t *symbols, size_t symbols_len,
                           uint16_t *costs, size_t costs_len,
                           uint8_t *store, size_t store_len);
+
+/* Encodes one message: N - M symbols become the N symbols that decoding looks for.
+ *
+ *   code     a code line as for petsivola_decode, of this form: N is above M, and check m, counted
+ *            from 0, contains column N - M + m and no higher one. g and I do not matter.
+ *   message  N - M symbols, each 0 to q - 1: PETSIVOLA_MESSAGE_LENGTH(N, M), exactly
+ *   symbols  gets the message and behind it M symbols with which every check is satisfied; no others
+ *            behind this message satisfy them all: at least N
+ *
+ * Number: 0, or a refusal; tested in this order: 5 to 11 as the code line is read front to back, 17,
+ * 18, 2. Value: the bytes written, N.
+ */
+uint32_t petsivola_encode(const uint8_t *code, size_t code_len,
+                          const uint8_t *message, size_t message_len,
+                          uint8_t *symbols, size_t symbols_len);
 
 /* Reads a line of hexadecimal digits 0-9 and A-F, two a byte.
  *

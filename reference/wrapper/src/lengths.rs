@@ -1,6 +1,6 @@
-//! How long the slices are. The functions answer none when p is not 2 to 6; a number past every
-//! accepted one gives a length that is right or, where that passes the greatest number, the
-//! greatest number.
+//! How long the slices are. The functions answer none when p is not 2 to 6, or when N is not above M
+//! where a message's length is asked for; a number past every accepted one gives a length that is
+//! right or, where that passes the greatest number, the greatest number.
 
 /// "p is 2 to 6, q = 2^p": q at its greatest.
 pub const MOST_ELEMENTS: usize = 64;
@@ -19,6 +19,8 @@ pub const MOST_RECORD: usize = MOST_DEGREE + RECORD_ENTRY * (MOST_ELEMENTS - 1);
 pub const MOST_EXPANSION: usize = MOST_DEGREE * MOST_ELEMENTS;
 /// The longest frame, and the longest used part of a cost buffer.
 pub const MOST_FRAME: usize = MOST_COLUMNS * MOST_ELEMENTS;
+/// The longest message.
+pub const MOST_MESSAGE: usize = MOST_COLUMNS - 1;
 /// The longest used part of a store.
 pub const MOST_STORE: usize = MOST_EDGES + MOST_CHECKS * RECORD_ENTRY * (MOST_ELEMENTS - 1);
 /// The longest accepted text of a line: "more than 32,768 bytes" are refused.
@@ -53,6 +55,15 @@ pub const fn frame(p: u8, columns: usize) -> Option<usize> {
     }
 }
 
+/// The symbols of a message: "N - M message symbols".
+pub const fn message(columns: usize, checks: usize) -> Option<usize> {
+    if columns > checks {
+        Some(columns - checks)
+    } else {
+        None
+    }
+}
+
 /// The used part of a store: "as many bytes as the M record lengths add up to".
 pub const fn store(p: u8, checks: usize, edges: usize) -> Option<usize> {
     match field(p) {
@@ -75,6 +86,10 @@ mod tests {
         assert_eq!(record(2, 3), Some(3 + 15));
         assert_eq!(expansion(2, 3), Some(12));
         assert_eq!(frame(3, 5), Some(40));
+        assert_eq!(message(5, 2), Some(3));
+        assert_eq!(message(2, 1), Some(1));
+        assert_eq!(message(2, 2), None);
+        assert_eq!(message(2, 3), None);
         // Two checks, of degree 3 and 4.
         let both = record(3, 3).zip(record(3, 4)).map(|(a, b)| a + b);
         assert_eq!(store(3, 2, 7), both);
@@ -86,6 +101,7 @@ mod tests {
         assert_eq!(record(6, MOST_DEGREE), Some(MOST_RECORD));
         assert_eq!(expansion(6, MOST_DEGREE), Some(MOST_EXPANSION));
         assert_eq!(frame(6, MOST_COLUMNS), Some(MOST_FRAME));
+        assert_eq!(message(MOST_COLUMNS, 1), Some(MOST_MESSAGE));
         assert_eq!(store(6, MOST_CHECKS, MOST_EDGES), Some(MOST_STORE));
         // The longest frame fills the longest line.
         assert_eq!(2 * MOST_FRAME, MOST_LINE);

@@ -1,8 +1,9 @@
 //! Safe calls of the proved decoder for nonbinary LDPC frames, the static library `libpetsivola.a`.
 //!
 //! Every call lends slices and answers at once; nothing is allocated and nothing is kept between
-//! calls. A call is refused for the numbered reasons of document 01 (`01-scope.md`) alone, in its
-//! order, and a refused call changes no element: see [`Refusal`]. Elements past those that a call
+//! calls. A call is refused for the numbered reasons of document 01 (`01-scope.md`) and document 02
+//! (`02-change-requests.md`) alone, in their order, and a refused call changes no element: see
+//! [`Refusal`]. Elements past those that a call
 //! fills keep their old content. No call panics, whatever its arguments.
 //!
 //! | call | fills | refusals, in order |
@@ -12,6 +13,7 @@
 //! | [`expand`] | the sent costs that a record stands for | 6, 9, 11, 16, 2 |
 //! | [`line`] | the bytes of a line of hexadecimal digits | 15, 14, 2 |
 //! | [`decode`] | symbols, costs and records of one frame | 5 to 11, 12, 13, 2, 3, 4 |
+//! | [`encode`] | the symbols of one message | 5 to 11, 17, 18, 2 |
 //!
 //! Document 01's example, a code of three columns and one check over the field of four elements:
 //!
@@ -77,4 +79,15 @@ pub fn decode(
     store: &mut [u8],
 ) -> Result<Outcome, Refusal> {
     answer::outcome(library::decode(code, frame, symbols, costs, store))
+}
+
+/// Writes the N symbols of a message of N - M symbols under a code line "where N exceeds M and check
+/// m, counted from 0, contains column N - M + m and no higher one"; answers how many it wrote, N.
+/// Order: the code line's refusals, 17, 18, 2.
+///
+/// "The first N - M symbols are the message, each check is satisfied, and no other word with that
+/// message satisfies them all." The message's length is [`lengths::message`], that of the symbol
+/// buffer N or more.
+pub fn encode(code: &[u8], message: &[u8], symbols: &mut [u8]) -> Result<usize, Refusal> {
+    answer::written(library::encode(code, message, symbols))
 }

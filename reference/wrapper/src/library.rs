@@ -48,6 +48,15 @@ extern "C" {
         store: *mut u8,
         store_len: usize,
     ) -> u32;
+
+    fn petsivola_encode(
+        code: *const u8,
+        code_len: usize,
+        message: *const u8,
+        message_len: usize,
+        symbols: *mut u8,
+        symbols_len: usize,
+    ) -> u32;
 }
 
 pub(crate) fn product(p: u8, a: u8, b: u8) -> u32 {
@@ -114,6 +123,21 @@ pub(crate) fn decode(
             costs.len(),
             store.as_mut_ptr(),
             store.len(),
+        )
+    }
+}
+
+pub(crate) fn encode(code: &[u8], message: &[u8], symbols: &mut [u8]) -> u32 {
+    // SAFETY: each pointer and length come from one borrowed slice; `symbols`, the only one written,
+    // overlaps no other.
+    unsafe {
+        petsivola_encode(
+            code.as_ptr(),
+            code.len(),
+            message.as_ptr(),
+            message.len(),
+            symbols.as_mut_ptr(),
+            symbols.len(),
         )
     }
 }

@@ -4,7 +4,8 @@
 use core::error::Error;
 use core::fmt;
 
-/// Why a call refused its input; [`number`](Refusal::number) is document 01's number.
+/// Why a call refused its input; [`number`](Refusal::number) is document 01's number. Those from 17
+/// on are document 02's (`02-change-requests.md`), which "join document 01's list".
 #[derive(Clone, Copy, Debug, PartialEq, Eq, PartialOrd, Ord, Hash)]
 #[non_exhaustive]
 pub enum Refusal {
@@ -39,14 +40,18 @@ pub enum Refusal {
     /// "16, length wrong, shift not below q, an unused pair that is not FF 00 or stands before a
     /// used one, columns not rising or not below d, or S not above E"
     Record,
-    /// A number that document 01 does not have. The proved library never answers one; it would mean
+    /// "17, the code line lacks this form"; document 02, §2
+    NoForm,
+    /// "18, message length is not N - M or a symbol is not below q"; document 02, §2
+    Message,
+    /// A number that the documents do not have. The proved library never answers one; it would mean
     /// that the program was linked with another archive than the one this package was written for.
     Unlisted(u16),
 }
 
 impl Refusal {
-    /// Document 01's refusals, in the order of their numbers.
-    pub const ALL: [Refusal; 15] = [
+    /// The documents' refusals, in the order of their numbers.
+    pub const ALL: [Refusal; 17] = [
         Refusal::ShortBuffer,
         Refusal::ShortCosts,
         Refusal::ShortStore,
@@ -62,6 +67,8 @@ impl Refusal {
         Refusal::Digits,
         Refusal::LongLine,
         Refusal::Record,
+        Refusal::NoForm,
+        Refusal::Message,
     ];
 
     /// Document 01's number.
@@ -82,6 +89,8 @@ impl Refusal {
             Refusal::Digits => 14,
             Refusal::LongLine => 15,
             Refusal::Record => 16,
+            Refusal::NoForm => 17,
+            Refusal::Message => 18,
             Refusal::Unlisted(number) => number,
         }
     }
@@ -104,7 +113,11 @@ impl Refusal {
             Refusal::Digits => "the line has an odd number of digits, or another byte",
             Refusal::LongLine => "the line has more than 32,768 bytes",
             Refusal::Record => "the record's form is wrong",
-            Refusal::Unlisted(_) => "document 01 does not have this number",
+            Refusal::NoForm => {
+                "N is not above M, or a check m lacks column N - M + m or has a higher one"
+            }
+            Refusal::Message => "the message's length is not N - M, or a symbol is not below q",
+            Refusal::Unlisted(_) => "the documents do not have this number",
         }
     }
 }
@@ -141,8 +154,8 @@ mod tests {
     use super::*;
 
     #[test]
-    fn the_numbers_are_2_to_16() {
-        assert!(Refusal::ALL.into_iter().map(u16::from).eq(2..=16));
+    fn the_numbers_are_2_to_18() {
+        assert!(Refusal::ALL.into_iter().map(u16::from).eq(2..=18));
     }
 
     #[test]
@@ -151,7 +164,7 @@ mod tests {
             let refusal = Refusal::from(number);
             assert_eq!(refusal.number(), number);
             let listed = Refusal::ALL.contains(&refusal);
-            assert_eq!(listed, (2..=16).contains(&number));
+            assert_eq!(listed, (2..=18).contains(&number));
         }
     }
 
@@ -164,6 +177,10 @@ mod tests {
         assert_eq!(
             Refusal::Degree.to_string(),
             "refused by 9: a degree is not 2 to 32, or there are more than 1,024 edges"
+        );
+        assert_eq!(
+            Refusal::Message.to_string(),
+            "refused by 18: the message's length is not N - M, or a symbol is not below q"
         );
     }
 }
