@@ -2,6 +2,7 @@
 
 mod check;
 mod decode;
+mod encode;
 mod expand;
 mod line;
 mod product;
@@ -16,12 +17,13 @@ use crate::tally::{Class, Tally};
 
 pub use check::CHECK;
 pub use decode::DECODE;
+pub use encode::ENCODE;
 pub use expand::EXPAND;
 pub use line::LINE;
 pub use product::PRODUCT;
 
 /// Every entry point.
-pub const ENTRY_POINTS: [EntryPoint; 5] = [PRODUCT, CHECK, EXPAND, LINE, DECODE];
+pub const ENTRY_POINTS: [EntryPoint; 6] = [PRODUCT, CHECK, EXPAND, LINE, DECODE, ENCODE];
 
 /// An entry point and how it is compared.
 pub struct EntryPoint {

@@ -9,8 +9,8 @@
 //! independent Rust decoder."
 //!
 //! The tests make a fixed number of calls from fixed seeds; the program `compare` makes as many as
-//! it is asked for. Both fail when something differs, and also when a kind of answer that document
-//! 01 has was never met: see [`Tally`].
+//! it is asked for. Both fail when something differs, and also when a kind of answer that the
+//! documents have was never met: see [`Tally`].
 
 #![forbid(unsafe_code)]
 #![deny(missing_docs)]
@@ -21,6 +21,6 @@ mod lent;
 pub mod programs;
 mod tally;
 
-pub use calls::{EntryPoint, CHECK, DECODE, ENTRY_POINTS, EXPAND, LINE, PRODUCT};
+pub use calls::{EntryPoint, CHECK, DECODE, ENCODE, ENTRY_POINTS, EXPAND, LINE, PRODUCT};
 pub use comparison::Difference;
 pub use tally::{Class, Tally};

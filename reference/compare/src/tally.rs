@@ -82,8 +82,8 @@ impl Tally {
         }
     }
 
-    /// What is wrong with the counts: classes that were never met, and answers that document 01
-    /// does not have.
+    /// What is wrong with the counts: classes that were never met, and answers that the documents
+    /// do not have.
     ///
     /// # Errors
     ///
