@@ -1,6 +1,6 @@
-//! What is timed: checks of every size, and codes with frames.
+//! What is timed: checks of every size, codes with frames, and a code with messages.
 
-use reference_decoder::sample::{self, CheckSample, Generator, Style};
+use reference_decoder::sample::{self, CheckSample, Generator, Size, Style};
 use simulate::array;
 use simulate::channel::Channel;
 use simulate::code::{Code, Edge};
@@ -86,6 +86,43 @@ fn job(name: &'static str, code: Code, decibels: f64, count: usize) -> Job {
         frames: (0..count).map(frame).collect(),
         code,
     }
+}
+
+/// A code for encoding.
+pub struct Encodable {
+    /// What the code is.
+    pub name: &'static str,
+    /// p.
+    pub p: u8,
+    /// N.
+    pub columns: usize,
+    /// M.
+    pub checks: usize,
+    /// The code line.
+    pub line: Vec<u8>,
+}
+
+/// A random code "where N exceeds M and check m, counted from 0, contains column N - M + m and no higher
+/// one", at document 01's limits.
+pub fn encodable() -> Encodable {
+    let code = sample::encodable_code(&mut Generator::new(3), &Size::MOST_CHECKS);
+    Encodable {
+        name: "N = 256, p = 6, M = 128, degree 8",
+        p: code.p,
+        columns: code.n,
+        checks: code.m,
+        line: code.line(),
+    }
+}
+
+/// The messages of one round.
+pub fn messages(code: &Encodable, round: usize, count: usize) -> Vec<Vec<u8>> {
+    let mut generator = Generator::new(round as u64);
+    let length = code.columns - code.checks;
+    let mut symbol = |_| generator.below(1 << code.p) as u8;
+    (0..count)
+        .map(|_| (0..length).map(&mut symbol).collect())
+        .collect()
 }
 
 /// A random code in which every check has `degree` columns and every column is in `layers` checks:

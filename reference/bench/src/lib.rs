@@ -2,7 +2,7 @@
 //! code, beside (a) the same algorithm in Rust built with -O, (b) the textbook forward and backward
 //! sweeps in Rust, (c) expansion and record sizes against the d·q bytes of plain messages. All in one
 //! run, as ratios". Beside these, for the check: a search over kept entries in Rust, and the same
-//! algorithm by hand in C with SSE2 and AVX2.
+//! algorithm by hand in C with SSE2 and AVX2; and symbols per second of encoding.
 
 #![deny(unsafe_code)]
 #![deny(missing_docs)]
@@ -11,6 +11,7 @@ pub mod accepted;
 pub mod charts;
 pub mod checks;
 pub mod decoding;
+pub mod encoding;
 pub mod engines;
 pub mod foreign;
 pub mod inputs;

@@ -10,7 +10,7 @@ use bench::checks;
 use bench::inputs::{self, Costs};
 use bench::report::Report;
 use bench::targets::targets;
-use bench::{charts, decoding};
+use bench::{charts, decoding, encoding};
 
 /// Where the documents of this project stand.
 const DOCUMENTS: &str = concat!(env!("CARGO_MANIFEST_DIR"), "/../../docs/bench");
@@ -65,12 +65,15 @@ fn run(rounds: usize, out: Option<&Path>) -> io::Result<()> {
             decoding::measure(job, rounds)
         })
         .collect();
+    eprintln!("encoding");
+    let encoding = encoding::measure(inputs::encodable(), rounds);
     let all: Vec<_> = channel.iter().chain(&uniform).collect();
     let report = Report {
         channel: &channel,
         uniform: &uniform,
         growth,
         codes: &codes,
+        encoding: &encoding,
         targets: &targets(&all, &codes),
         rounds,
     };

@@ -2,6 +2,7 @@
 
 use crate::checks::Row;
 use crate::decoding::{self, LIMIT, SCALE};
+use crate::encoding;
 use crate::engines::{Engine, Results};
 use crate::foreign;
 use crate::targets::Target;
@@ -16,6 +17,8 @@ pub struct Report<'a> {
     pub growth: [f64; 2],
     /// The codes.
     pub codes: &'a [decoding::Row<'a>],
+    /// The encoding.
+    pub encoding: &'a encoding::Row,
     /// The targets.
     pub targets: &'a [Target],
     /// The rounds.
@@ -31,6 +34,7 @@ impl Report<'_> {
             self.checks(),
             self.expansions(),
             self.decodings(),
+            self.encodings(),
             self.old_library(),
         ];
         parts.concat().trim_end().to_string() + "\n"
@@ -121,6 +125,30 @@ impl Report<'_> {
              bits a frame at the mean iterations beside them. Sweeps: the layered decoder with \
              plain messages and the sweeps for each check.\n\n{}",
             table(&head, self.codes.iter().map(decoding_cells))
+        )
+    }
+
+    /// The times of encoding.
+    fn encodings(&self) -> String {
+        let head = [
+            "code",
+            "proved, µs a message",
+            "Rust, µs",
+            "proved / Rust",
+            "symbols a second",
+        ];
+        let row = self.encoding;
+        let cells = vec![
+            row.code.name.to_string(),
+            micros(row.of_message(Engine::Proved)),
+            micros(row.of_message(Engine::Rust)),
+            quotient(&row.encode, Engine::Proved, Engine::Rust),
+            format!("{:.0}", row.symbols_per_second()),
+        ];
+        format!(
+            "## Encoding\n\nRandom messages of N - M symbols. The time is that of a whole call, with the \
+             reading of the code line and all tests; symbols per second count the N that it writes.\n\n{}",
+            table(&head, [cells].into_iter())
         )
     }
 

@@ -10,6 +10,7 @@
 
 mod code;
 mod decode;
+mod encode;
 mod expansion;
 mod groups;
 mod joins;
@@ -23,6 +24,7 @@ mod symbols;
 mod tables;
 
 pub use decode::decode;
+pub use encode::encode;
 pub use expansion::{expand, expand_by};
 pub use record::{check, messages};
 pub use rule::Rule;

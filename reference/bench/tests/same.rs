@@ -1,9 +1,11 @@
 //! The same algorithm in Rust against the reference decoder: the benchmark's ratios are worth
 //! something only if it is right.
 
+use std::collections::BTreeSet;
+
 use bench::same;
-use reference_decoder::sample::{self, Generator, Size, Style};
-use reference_decoder::{code_line, decode, expand, Outcome, Refusal};
+use reference_decoder::sample::{self, Generator, Miss, Size, Style};
+use reference_decoder::{code_line, decode, encode, expand, Outcome, Refusal};
 
 /// A refusal by its number.
 fn numbered<T>(answer: Result<T, Refusal>) -> Result<T, u8> {
@@ -62,4 +64,42 @@ fn decodings() {
         assert_eq!(answer, numbered(expected).map(pair));
         assert_eq!(found, (symbols, costs, store));
     }
+}
+
+#[test]
+fn encodings() {
+    let mut generator = Generator::new(3);
+    let mut numbers = BTreeSet::new();
+    for round in 0..4_000 {
+        let size = match round % 64 {
+            0 => Size::FULL,
+            1..20 => Size::MEDIUM,
+            _ => Size::SMALL,
+        };
+        let mut code = sample::encodable_code(&mut generator, &size);
+        let mut message = sample::message(&mut generator, &code);
+        let room = code.n + generator.below(9) - 1;
+        if round % 4 == 0 {
+            let miss = generator.one_of(&Miss::ALL);
+            code = sample::near_miss(&mut generator, &code, miss).unwrap_or(code);
+        }
+        let mut line = code.line();
+        if round % 8 == 1 {
+            line = sample::damaged_code(&mut generator, &line);
+        }
+        if round % 8 == 2 {
+            message = sample::damaged_message(&mut generator, code.field().size(), &message);
+        }
+        let mut expected = generator.bytes(room);
+        let mut found = expected.clone();
+        let answer = numbered(encode(&line, &message, &mut expected));
+        assert_eq!(same::encode(&line, &message, &mut found), answer);
+        assert_eq!(found, expected);
+        numbers.insert(answer.err());
+    }
+    let refused = [2, 5, 6, 7, 8, 9, 10, 11, 17, 18].map(Some);
+    assert!(refused
+        .iter()
+        .chain(&[None])
+        .all(|number| numbers.contains(number)));
 }

@@ -5,7 +5,7 @@ use super::rule::Rule;
 use crate::accepted::Refusal;
 
 /// "7, 0B, 13, 25, 43 for p = 2 to 6"
-fn polynomial(p: u8) -> u8 {
+const fn polynomial(p: u8) -> u8 {
     match p {
         2 => 0x07,
         3 => 0x0B,
@@ -16,9 +16,9 @@ fn polynomial(p: u8) -> u8 {
 }
 
 /// "doubled by a shift and reduced by the polynomial"
-fn double(q: usize, polynomial: u8, a: u8) -> u8 {
+const fn double(q: usize, polynomial: u8, a: u8) -> u8 {
     let shifted = a << 1;
-    if usize::from(shifted) & q == 0 {
+    if shifted as usize & q == 0 {
         shifted
     } else {
         shifted ^ polynomial
@@ -26,8 +26,8 @@ fn double(q: usize, polynomial: u8, a: u8) -> u8 {
 }
 
 /// "Product: 6, 11."
-pub fn product(p: u8, a: u8, b: u8) -> Result<u8, Refusal> {
-    if !(2..=6).contains(&p) {
+pub const fn product(p: u8, a: u8, b: u8) -> Result<u8, Refusal> {
+    if !matches!(p, 2..=6) {
         return Err(6);
     }
     if a >> p != 0 || b >> p != 0 {
