@@ -1,13 +1,16 @@
 -- What a header says of the code line that it was read from.
 use mathlib.Core.Path.{_≡_, refl, sym, ap, _∙_}
-use mathlib.Core.List.{List}
-use Prim.Native.Nat.{ℕ}
+use mathlib.Core.List.{List, _++_}
+use Prim.Native.Nat.{ℕ, _≤_}
 use native.Mathlib.Omega.{arith}
-use lib.ListN.{length}
+use lib.ListN.{length, take, drop}
+use lib.Seq.{length-take-le, take-at}
 use Rattle.machine.specs.CodeLine.{Read, good, bad, Code, Numbers, numbersOf, parse}
+use Rattle.machine.specs.Tables.{Tabled}
 use Rattle.codeline.specs.declared.Header.{Header}
 use Rattle.codeline.specs.declared.Header.the-variants.{Read as HeaderRead, Refused as HeaderRefused}
-use Rattle.codeline.specs.Answers.{headerNumbers}
+use Rattle.codeline.specs.Answers.{headerNumbers, degreesOf, columnsOf, weightsOf, leftIn}
+use Rattle.codeline.specs.Reading.{CountFits, checksIn, handed}
 
 -- the line is accepted, and these are the numbers of its code
 pub record Accepted (s : List ℕ) (p n m g limit : ℕ) : Type 0 where
@@ -46,3 +49,51 @@ module _ (s : List ℕ) (h : Header) (e : headerNumbers h ≡ numbersOf (parse s
             limit-is = sym (ap (λ (a : Numbers). a .limit) v);
           }
       go (bad l) j o = let z : _≡_ {A = ℕ} 0 1 = cc in absurd (omega arith)
+
+-- entries handed over, where the line is accepted
+pub handed-is : (h : Header) (p n m g l : ℕ) → h ≡ HeaderRead p n m g l → (count k : ℕ) (from to : List ℕ) {r : List ℕ} → k ≡ count → r ≡ take k from → r ++ drop k to ≡ handed h count from to
+handed-is h p n m g l e count k from to i o = rw (e, o, i) refl
+
+-- and what that leaves
+pub left-is : (s : List ℕ) (h : Header) → headerNumbers h ≡ numbersOf (parse s) → (f : Code → List ℕ) (count : ℕ) (from to : List ℕ) {r : List ℕ} → ((C : Code) → parse s ≡ good C → (count ≤ length from) × (take count from ≡ f C))
+    → r ≡ handed h count from to → r ≡ leftIn f (parse s) to
+left-is s h e f count from to {r} t o = go h refl (parse s) refl e
+  where
+    go : (k : Header) → h ≡ k → (y : Read Code) → parse s ≡ y → headerNumbers h ≡ numbersOf y → r ≡ leftIn f y to
+    go (HeaderRead p n m g l) i (good C) j u =
+        let q = t C j in
+        let c : length (f C) ≡ count = ap length (sym (q .1)) ∙ length-take-le count from (q .0) in
+        (rw i at o) ∙ rw (q .1, c) refl
+    go (HeaderRead p n m g l) i (bad x) j u = let z : _≡_ {A = ℕ} 0 1 = cc in absurd (omega arith)
+    go (HeaderRefused x) i (good C) j u = let z : _≡_ {A = ℕ} 0 1 = cc in absurd (omega arith)
+    go (HeaderRefused x) i (bad y) j u = rw i at o
+
+pub checks-small : (h : Header) (edges : ℕ) → CountFits h edges → checksIn h ≤ 128
+checks-small (HeaderRead p n m g l) edges f = f .0
+checks-small (HeaderRefused k) edges f = omega arith
+
+module _ (s : List ℕ) (h : Header) (e : headerNumbers h ≡ numbersOf (parse s)) (C : Code) (a : parse s ≡ good C) where
+  pub edges-small : (edges : ℕ) (l : List ℕ) → CountFits h edges → length l ≡ 1024 → edges ≤ length l
+  edges-small edges l f i = go h refl (e ∙ ap numbersOf a)
+    where
+      go : (k : Header) → h ≡ k → headerNumbers h ≡ numbersOf (good C) → edges ≤ length l
+      go (HeaderRead p n m g j) o u = let b = rw o at f in omega (arith, b)
+      go (HeaderRefused k) o u = let z : _≡_ {A = ℕ} 0 1 = cc in absurd (omega arith)
+
+  pub taken-degrees : (ds : List ℕ) → take (length (C .checks)) ds ≡ degreesOf C → take (checksIn h) ds ≡ degreesOf C
+  taken-degrees ds t = ap (λ n. take n ds) (go h refl (e ∙ ap numbersOf a)) ∙ t
+    where
+      go : (k : Header) → h ≡ k → headerNumbers h ≡ numbersOf (good C) → checksIn h ≡ length (C .checks)
+      go (HeaderRead p n m g j) o u =
+          let v : _≡_ {A = Numbers} (record { p = p; columns = n; checks = m; scale = g; limit = j }) (record { p = C .p; columns = C .columns; checks = length (C .checks); scale = C .scale; limit = C .limit }) = cc in
+          rw o (ap (λ (a : Numbers). a .checks) v)
+      go (HeaderRefused k) o u = let z : _≡_ {A = ℕ} 0 1 = cc in absurd (omega arith)
+
+-- what the tables then start with
+pub tables-left : (s ds cs ws : List ℕ) {d c w : List ℕ} → d ≡ leftIn degreesOf (parse s) ds → c ≡ leftIn columnsOf (parse s) cs → w ≡ leftIn weightsOf (parse s) ws
+    → (C : Code) → parse s ≡ good C → Tabled C d c w
+tables-left s ds cs ws a b e C i =
+    record { degrees = front degreesOf ds a; columns = front columnsOf cs b; weights = front weightsOf ws e }
+  where
+    front : (f : Code → List ℕ) (l : List ℕ) {r : List ℕ} → r ≡ leftIn f (parse s) l → take (length (f C)) r ≡ f C
+    front f l o = ap (take (length (f C))) (rw i at o) ∙ take-at (f C) (drop (length (f C)) l) (length (f C)) refl

@@ -11,9 +11,9 @@ use lib.Seq.{take-suc-set, length-take-le}
 use borrow.Author.Tests.{ltb-false, eq-eqb, ne-eqb, le-ltb, lt-leb}
 use Rattle.trellis.specs.Lists.{pick}
 use Rattle.machine.specs.CodeLine.{Read, good, bad, then, Edge, edge, wordAt, readEdge, Code, checks, parse, Numbers, numbersOf}
-use Rattle.machine.specs.Tables.{flat, edgesInto, checkInto, Tables, tables, checksInto, tablesOf, Tabled}
+use Rattle.machine.specs.Tables.{flat, edgesInto, checkInto, Tables, tables, checksInto, tablesOf}
 use Rattle.machine.proofs.Tables.{pick-then, checks-into}
-use Rattle.codeline.specs.Reading.{ByteAt, WordAt, isOutside, fromLimit, headOf}
+use Rattle.codeline.specs.Reading.{ByteAt, WordAt, Filled, isOutside, fromLimit, headOf}
 use Rattle.codeline.specs.declared.reader.Field.{Field}
 
 -- a field read from where the one before it ended
@@ -105,17 +105,8 @@ pub head-bad : (s : List ℕ) (k : ℕ) → headOf s ≡ bad k → parse s ≡ b
 head-bad s k e = parse-head s ∙ ap (λ r. then r (afterHead s)) e
 
 -- a line that is refused has neither numbers nor tables
-pub refused : (s ds cs ws : List ℕ) (k : ℕ) → parse s ≡ bad k → (bad k ≡ numbersOf (parse s)) × ((C : Code) → parse s ≡ good C → Tabled C ds cs ws)
-refused s ds cs ws k e = (rw e refl, λ C g. let z : _≡_ {A = ℕ} 0 1 = cc in absurd (omega arith))
-
--- the front that a list was taken from
-front : (a l : List ℕ) (n : ℕ) → a ≡ take n l → take (length a) l ≡ a
-front a l n e = rw e (again n l)
-  where
-    again : (n : ℕ) (l : List ℕ) → take (length (take n l)) l ≡ take n l
-    again zero l = refl
-    again (suc n) [] = refl
-    again (suc n) (x ∷ l) = ap (λ r. x ∷ r) (again n l)
+pub refused : (s ds cs ws : List ℕ) (k n : ℕ) → parse s ≡ bad k → (bad k ≡ numbersOf (parse s)) × ((C : Code) → parse s ≡ good C → Filled C ds cs ws n)
+refused s ds cs ws k n e = (rw e refl, λ C g. let z : _≡_ {A = ℕ} 0 1 = cc in absurd (omega arith))
 
 -- a line whose numbers are h
 module _ (s : List ℕ) (h : Numbers) (e : headOf s ≡ good h) (q : ℕ) (i : q ≡ 2 ^ h .p) where
@@ -143,10 +134,10 @@ module _ (s : List ℕ) (h : Numbers) (e : headOf s ≡ good h) (q : ℕ) (i : q
       go (good l) a = (l, refl, cc)
       go (bad x) a = let z : _≡_ {A = ℕ} 0 1 = cc in absurd (omega arith)
 
-  pub tabled : (ds cs ws : List ℕ) (total : ℕ) → h .checks ≤ length ds
+  pub filled : (ds cs ws : List ℕ) (total : ℕ) → h .checks ≤ length ds
       → checksInto (h .checks) s 6 (h .columns) q 0 [] [] [] ≡ good (tables (take (h .checks) ds) (take total cs) (take total ws))
-      → (good h ≡ numbersOf (parse s)) × ((C : Code) → parse s ≡ good C → Tabled C ds cs ws)
-  tabled ds cs ws total room j =
+      → (good h ≡ numbersOf (parse s)) × ((C : Code) → parse s ≡ good C → Filled C ds cs ws total)
+  filled ds cs ws total room j =
       let r = rest-good _ j in
       let l = r .0 in
       let m : length l ≡ h .checks = sym (length-map l (λ es. length es)) ∙ ap (λ t. length (t .degrees)) (r .2) ∙ length-take-le (h .checks) ds room in (
@@ -155,8 +146,8 @@ module _ (s : List ℕ) (h : Numbers) (e : headOf s ≡ good h) (q : ℕ) (i : q
             let c : C ≡ coded h l = cc (r .1) in
             rw c
             record {
-              degrees = front _ ds (h .checks) (ap (λ t. t .degrees) (r .2));
-              columns = front _ cs total (ap (λ t. t .edges .columns) (r .2));
-              weights = front _ ws total (ap (λ t. t .edges .weights) (r .2));
+              degrees = ap (λ n. take n ds) m ∙ sym (ap (λ t. t .degrees) (r .2));
+              columns = sym (ap (λ t. t .edges .columns) (r .2));
+              weights = sym (ap (λ t. t .edges .weights) (r .2));
             },
       )

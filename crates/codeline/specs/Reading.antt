@@ -1,13 +1,14 @@
 -- What the readers of the code line answer, in the terms of the definitions.
 use mathlib.Core.Path.{_≡_}
 use mathlib.Core.Bool.{Bool, _||_}
-use mathlib.Core.List.{List}
+use mathlib.Core.List.{List, _++_}
 use Prim.Native.Nat.{ℕ, _+_, _*_, _≤_, _<_}
 use lib.Dec.{ltb}
-use lib.ListN.{length, take, getD}
+use lib.ListN.{length, take, drop, getD}
 use Rattle.trellis.specs.Lists.{pick}
-use Rattle.machine.specs.CodeLine.{Read, good, bad, Edge as Pair, edge, wordAt, Numbers}
+use Rattle.machine.specs.CodeLine.{Read, good, bad, Code, Edge as Pair, edge, wordAt, Numbers}
 use Rattle.machine.specs.Tables.{Flat, flat, Tables, tables}
+use Rattle.codeline.specs.Answers.{degreesOf, columnsOf, weightsOf}
 use Rattle.codeline.specs.declared.Header.{Header}
 use Rattle.codeline.specs.declared.Header.the-variants.{Read as HeaderRead, Refused as HeaderRefused}
 use Rattle.codeline.specs.declared.reader.Field.{Field}
@@ -60,6 +61,30 @@ CheckFits (CheckRefused k) s at total = Unit {0}
 abbrev pub checksRead : Checks → ℕ → List ℕ → List ℕ → List ℕ → Read Tables
 checksRead (Total total) count ds cs ws = good (tables (take count ds) (take total cs) (take total ws))
 checksRead (ChecksRefused k) count ds cs ws = bad k
+
+abbrev pub ChecksFit : Checks → Type 0
+ChecksFit (Total total) = total ≤ 1024
+ChecksFit (ChecksRefused k) = Unit {0}
+
+-- tables into which a code's checks were read: so many entries, and behind them anything
+pub record Filled (C : Code) (ds cs ws : List ℕ) (edges : ℕ) : Type 0 where
+  pub degrees : take (length (C .checks)) ds ≡ degreesOf C
+  pub columns : take edges cs ≡ columnsOf C
+  pub weights : take edges ws ≡ weightsOf C
+
+-- there is room for as many
+abbrev pub CountFits : Header → ℕ → Type 0
+CountFits (HeaderRead p n m g i) edges = (m ≤ 128) × (edges ≤ 1024)
+CountFits (HeaderRefused k) edges = Unit {0}
+
+abbrev pub checksIn : Header → ℕ
+checksIn (HeaderRead p n m g i) = m
+checksIn (HeaderRefused k) = 0
+
+-- count entries handed over, where the line is accepted
+abbrev pub handed : Header → ℕ → List ℕ → List ℕ → List ℕ
+handed (HeaderRead p n m g i) count from to = take count from ++ drop count to
+handed (HeaderRefused k) count from to = to
 
 abbrev pub isOutside : ℕ → ℕ → ℕ → Bool
 isOutside x low high = ltb x low || ltb high x

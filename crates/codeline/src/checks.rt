@@ -6,7 +6,7 @@ ghost use Prim.Native.Nat.{_+_, _*_, _≤_};
 ghost use lib.ListN.{length, take};
 ghost use Rattle.machine.specs.CodeLine.{readEdge};
 ghost use Rattle.machine.specs.Tables.{edgesInto, checkInto, checksInto};
-ghost use Rattle.codeline.specs.Reading.{edgeRead, EdgeEnds, edgesRead, EdgesEnd, checkRead, CheckFits, checksRead};
+ghost use Rattle.codeline.specs.Reading.{edgeRead, EdgeEnds, edgesRead, EdgesEnd, checkRead, CheckFits, checksRead, ChecksFit};
 
 // An edge's column and weight, and the place behind it; or the number of the refusal.
 enum Edge {
@@ -140,6 +140,7 @@ pub fn checks_at(
 ) -> Checks
     requires { ⌜ (at ≤ length (now code)) × ((count ≤ length (now degrees)) × ((1024 ≤ length (now columns)) × (1024 ≤ length (now weights)))) ⌝ }
     ensures { λ r. ⌜ checksRead r count (now (degrees .exit)) (now (columns .exit)) (now (weights .exit)) ≡ checksInto count (now (code .entry)) at n q 0 [] [] [] ⌝ }
+    ensures { λ r. ⌜ ChecksFit r ⌝ }
 {
     let mut i = 0;
     let mut total = 0;

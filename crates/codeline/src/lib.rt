@@ -3,12 +3,11 @@ mod checks;
 mod num;
 mod numbers;
 mod reader;
+mod tables;
 
-use crate::checks::Checks;
 ghost use mathlib.Core.Path.{_≡_};
-ghost use Rattle.machine.specs.CodeLine.{Code, good, parse, numbersOf};
-ghost use Rattle.machine.specs.Tables.{Tabled};
-ghost use Rattle.codeline.specs.Answers.{headerNumbers};
+ghost use Rattle.machine.specs.CodeLine.{parse, numbersOf};
+ghost use Rattle.codeline.specs.Answers.{headerNumbers, degreesOf, columnsOf, weightsOf, leftIn};
 
 // The numbers of a code line, or the number of the refusal.
 pub enum Header {
@@ -29,11 +28,12 @@ pub fn code_line(code: &[u8]) -> Header
     let mut degrees = [0u8; 128];
     let mut columns = [0u16; 1024];
     let mut weights = [0u8; 1024];
-    code_tables(code, &mut degrees, &mut columns, &mut weights)
+    let r = tables::read(code, &mut degrees, &mut columns, &mut weights);
+    r.header
 }
 
-// The same for whoever goes on with the checks: the degrees, and all columns and weights end to end. The tables have room for the largest
-// code; behind the entries of this one, and where the line is refused, they may hold anything.
+// The same for whoever goes on with the checks: the degrees, and all columns and weights end to end, in tables that have room for the largest
+// code. A line may be refused at its end, so it is read into tables of the call's own, and these are handed over where it is accepted.
 pub fn code_tables(
     code: &[u8],
     degrees: &mut [u8; 128],
@@ -41,31 +41,14 @@ pub fn code_tables(
     weights: &mut [u8; 1024],
 ) -> Header
     ensures { λ r. ⌜ headerNumbers r ≡ numbersOf (parse (now (code .entry))) ⌝ }
-    ensures { λ _. ⌜ ((C : Code) → parse (now (code .entry)) ≡ good C → Tabled C (now (degrees .exit)) (now (columns .exit)) (now (weights .exit))) ⌝ }
+    ensures { λ _. ⌜ now (degrees .exit) ≡ leftIn degreesOf (parse (now (code .entry))) (now (degrees .entry)) ⌝ }
+    ensures { λ _. ⌜ now (columns .exit) ≡ leftIn columnsOf (parse (now (code .entry))) (now (columns .entry)) ⌝ }
+    ensures { λ _. ⌜ now (weights .exit) ≡ leftIn weightsOf (parse (now (code .entry))) (now (weights .entry)) ⌝ }
 {
-    let f = numbers::head(code);
-    let h = f.header;
-    let Header::Read {
-        p,
-        columns: n,
-        checks: m,
-        ..
-    } = h
-    else {
-        return h;
-    };
-    let q = num::size(p);
-    match checks::checks_at(
-        code,
-        f.next,
-        m as usize,
-        n as usize,
-        q,
-        degrees,
-        columns,
-        weights,
-    ) {
-        Checks::Refused(k) => Header::Refused(k),
-        Checks::Total(_) => h,
-    }
+    let mut ds = [0u8; 128];
+    let mut cs = [0u16; 1024];
+    let mut ws = [0u8; 1024];
+    let r = tables::read(code, &mut ds, &mut cs, &mut ws);
+    tables::hand_over(r, &ds, &cs, &ws, degrees, columns, weights);
+    r.header
 }

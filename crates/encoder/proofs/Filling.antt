@@ -19,13 +19,6 @@ use Rattle.machine.proofs.Places.{edge-within, end-within}
 use Rattle.encoder.specs.Words.{lastPlace, ownAt, encodeOn}
 use Rattle.encoder.specs.Rooms.{QuotientRoom, EdgeRoom, SumRoom, OwnRoom, FillRoom}
 
--- the message copied whole
-list-tab : (l : List ℕ) → tab (λ k. getD l k 0) (length l) ≡ l
-list-tab l = ext-getD 0 (tab (λ k. getD l k 0) (length l)) l (length-tab _ (length l)) (λ i h. getD-tab (λ k. getD l k 0) (length l) i (omega (arith, length-tab (λ k. getD l k 0) (length l))))
-
-pub copied : (f d out : List ℕ) (i : ℕ) → length f ≡ length d → i ≡ length d → out ≡ tab (λ k. getD f k 0) i ++ drop i d → out ≡ f
-copied f d out i e k o = o ∙ rw k (tab-whole (λ k. getD f k 0) d ∙ rw (← e) (list-tab f))
-
 -- a sum of elements is an element
 pub sum-small : (p : ℕ) (cs ws z : List ℕ) (at n : ℕ) → SumRoom p cs ws z at n → sumFrom p cs ws z at n < 2 ^ p
 unfolding sumFrom

@@ -1,85 +1,70 @@
--- The numbers before the checks and the tables of the checks make the whole line: laws of Parsing.
-use mathlib.Core.Path.{_≡_, sym}
-use Prim.Native.Nat.{_≤_}
+-- The tables that were read are handed over where the line is accepted, and then they hold its code's entries.
 use native.Mathlib.Omega.{arith}
 use borrow.Author.Needs.{needs}
-use lib.ListN.{length}
-use Rattle.codeline.proofs.Parsing.{head-bad, refused, rest-bad, tabled}
+use Rattle.codeline.specs.Answers.{degreesOf, columnsOf, weightsOf}
+use Rattle.codeline.specs.Reading.{checksIn}
+use Rattle.codeline.proofs.Answered.{left-is, checks-small, edges-small, taken-degrees}
 use Rattle.codeline.proofs.code_tables.Statement.{statement}
 use Rattle.codeline.proofs.code_tables.Tie as tie
 
--- what the numbers keep to, and where they end
-fits : (c : tie.After-h) → (c .h .given .0 .0 ≤ 6) × ((c .h .given .0 .1 .1 .0 ≤ 128) × ((c .before .before .head .result .next ≡ 6) × (c .before .before .head .result .next ≤ length (c .before .before .before .before .args .code .now))))
-fits c = rw (c .h .given .1) at (c .before .before .head .ensures .1)
+slice-aggregate-read : tie.Need-slice-aggregate-read
+slice-aggregate-read c = search needs
 
-head-requires : tie.Need-head-requires
-head-requires c κs = search needs
+slice-aggregate-read-2 : tie.Need-slice-aggregate-read-2
+slice-aggregate-read-2 c = search needs
 
-enum-known-h : tie.Need-enum-known-h
-enum-known-h c = search needs
+slice-aggregate-read-3 : tie.Need-slice-aggregate-read-3
+slice-aggregate-read-3 c = search needs
 
-enum-told : tie.Need-enum-told
-enum-told c = search needs
+read-requires : tie.Need-read-requires
+read-requires c κs = search needs
+
+slice-aggregate-hand-over : tie.Need-slice-aggregate-hand-over
+slice-aggregate-hand-over c = omega (arith, c .before .before .before .before .read .kept .1 .0)
+
+slice-aggregate-hand-over-2 : tie.Need-slice-aggregate-hand-over-2
+slice-aggregate-hand-over-2 c = omega (arith, c .before .before .before .before .before .read .kept .1 .1 .0)
+
+slice-aggregate-hand-over-3 : tie.Need-slice-aggregate-hand-over-3
+slice-aggregate-hand-over-3 c = omega (arith, c .before .before .before .before .before .before .read .kept .1 .1 .1 .0)
+
+hand-over-requires : tie.Need-hand-over-requires
+hand-over-requires c κs =
+    let at-read = c .before .before .before .before .before .before .before .before .before in
+    let k = at-read .read .kept in
+    (at-read .read .ensures .1 .0, ((omega (arith, k .1 .0), (omega (arith, k .1 .1 .0), omega (arith, k .1 .1 .1 .0))), (omega arith, (omega arith, omega arith))))
 
 returns : tie.Need-returns
 returns c =
-    let b = c .before .before in
-    let s = b .before .before .args .code .now in
-    rw (c .enum-told .given .1) (refused s _ _ _ _ (head-bad s _ (sym (rw (c .enum-told .given .1) at (b .head .ensures .0)))))
-
-size-requires : tie.Need-size-requires
-size-requires c κs = fits (c .before) .0
-
-cast-checks-at : tie.Need-cast-checks-at
-cast-checks-at c = omega arith
-
-cast-checks-at-2 : tie.Need-cast-checks-at-2
-cast-checks-at-2 c = omega arith
-
-checks-at-requires : tie.Need-checks-at-requires
-checks-at-requires c κs = let f = fits (c .before .before .before .before .before) in (f .1 .1 .1, (omega (arith, f), (omega arith, omega arith)))
-
-enum-known-k : tie.Need-enum-known-k
-enum-known-k c = search needs
-
-enum-told-2 : tie.Need-enum-told-2
-enum-told-2 c = search needs
-
-returns-2 : tie.Need-returns-2
-returns-2 c =
-    let g = c .before .before .before in
-    let z = g .before .before .before .before in
-    let h = z .before .before in
-    let b = h .before .before in
-    let s = b .before .before .args .code .now in
-    let e = sym (rw (h .h .given .1) at (b .head .ensures .0)) in
-    refused s _ _ _ _ (rest-bad s _ e (z .size .result) (z .size .ensures .0) _ (sym (rw (c .before .k .given .1, fits h .1 .1 .0) at (g .checks-at .ensures))))
-
-returns-3 : tie.Need-returns-3
-returns-3 c =
-    let g = c .before .before in
-    let z = g .before .before .before .before in
-    let h = z .before .before in
-    let b = h .before .before in
-    let s = b .before .before .args .code .now in
-    let e = sym (rw (h .h .given .1) at (b .head .ensures .0)) in
-    let l = g .checks-at .last .1 .1 .1 .1 .1 in
-    let r = checks-at-requires (g .before) (g .checks-at .lifetimes) in
-    tabled s _ e (z .size .result) (z .size .ensures .0) (l .0) (l .1 .0) (l .1 .1 .0) (c .enum-told2 .given .0 .0) (omega (arith, r .1 .0, g .checks-at .kept .1 .1 .1 .1 .1 .0)) (sym (rw (c .enum-told2 .given .1, fits h .1 .1 .0) at (g .checks-at .ensures)))
+    let at-read = c .before .before .before .before .before .before .before .before .before .before in
+    let a = at-read .before .before .before .before .before .args in
+    let r = at-read .read in
+    let k = r .kept in
+    let l = r .last in
+    let s = a .code .now in
+    let n = r .ensures .0 in
+    let f = r .ensures .1 .1 in
+    let o = c .hand-over .ensures in (
+      n,
+      (
+        left-is s (r .result .header) n degreesOf (checksIn (r .result .header)) (l .1 .0) (a .degrees .now) (λ C e. (omega (arith, checks-small (r .result .header) _ (r .ensures .1 .0), k .1 .0), taken-degrees s (r .result .header) n C e (l .1 .0) (f C e .degrees))) (o .0),
+        (
+          left-is s (r .result .header) n columnsOf (r .result .edges) (l .1 .1 .0) (a .columns .now) (λ C e. (edges-small s (r .result .header) n C e _ (l .1 .1 .0) (r .ensures .1 .0) (omega (arith, k .1 .1 .0)), f C e .columns)) (o .1 .0),
+          left-is s (r .result .header) n weightsOf (r .result .edges) (l .1 .1 .1 .0) (a .weights .now) (λ C e. (edges-small s (r .result .header) n C e _ (l .1 .1 .1 .0) (r .ensures .1 .0) (omega (arith, k .1 .1 .1 .0)), f C e .weights)) (o .1 .1),
+        ),
+      ),
+    )
 
 pub code-tables-spec : {M : Type 1} → statement M
 code-tables-spec =
     tie.close
     (tie.spec
-    head-requires
-    enum-known-h
-    enum-told
-    returns
-    size-requires
-    cast-checks-at
-    cast-checks-at-2
-    checks-at-requires
-    enum-known-k
-    enum-told-2
-    returns-2
-    returns-3)
+    slice-aggregate-read
+    slice-aggregate-read-2
+    slice-aggregate-read-3
+    read-requires
+    slice-aggregate-hand-over
+    slice-aggregate-hand-over-2
+    slice-aggregate-hand-over-3
+    hand-over-requires
+    returns)

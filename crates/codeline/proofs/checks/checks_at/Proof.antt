@@ -59,7 +59,7 @@ returns c =
     let l = g .before .before .before .before in
     let a = l .before .before .before .before .before .args in
     let r = l .loop in
-    sym (checks-bad (a .code .now) (a .n) (a .q) (a .count) (r .i) (omega arith) (r .here) (r .total) _ (take (r .i) (r .degrees)) (take (r .total) (r .columns)) (take (r .total) (r .weights)) (sym (rw (c .before .k .given .1) at (g .check-at .ensures .0)))) ∙ r .inv .1 .1 .1 .1 .1 .1
+    (sym (checks-bad (a .code .now) (a .n) (a .q) (a .count) (r .i) (omega arith) (r .here) (r .total) _ (take (r .i) (r .degrees)) (take (r .total) (r .columns)) (take (r .total) (r .weights)) (sym (rw (c .before .k .given .1) at (g .check-at .ensures .0)))) ∙ r .inv .1 .1 .1 .1 .1 .1, tt)
 
 enum-known-d : tie.Need-enum-known-d Inv-loop μ-loop
 enum-known-d c = search needs
@@ -106,7 +106,7 @@ returns-2 c =
     let l = c .before .before .before in
     let a = l .before .before .before .before .before .args in
     let r = l .loop in
-    checks-done (a .code .now) (a .n) (a .q) (a .count) (r .i) (r .here) (r .total) (r .degrees) (take (r .total) (r .columns)) (take (r .total) (r .weights)) _ (omega arith) (r .inv .1 .1 .1 .1 .1 .1) (omega arith)
+    (checks-done (a .code .now) (a .n) (a .q) (a .count) (r .i) (r .here) (r .total) (r .degrees) (take (r .total) (r .columns)) (take (r .total) (r .weights)) _ (omega arith) (r .inv .1 .1 .1 .1 .1 .1) (omega arith), r .inv .1 .0)
 
 same-length-7 : tie.Need-same-length-7 Inv-loop μ-loop
 same-length-7 c = omega arith
@@ -122,7 +122,7 @@ returns-3 c =
     let l = c .before .before .before in
     let a = l .before .before .before .before .before .args in
     let r = l .loop in
-    checks-over (a .code .now) (a .n) (a .q) (a .count) (r .i) (r .here) (r .total) (r .degrees) (take (r .total) (r .columns)) (take (r .total) (r .weights)) _ (omega arith) (r .inv .1 .1 .1 .1 .1 .1) (λ e. c .if1 .left (omega arith))
+    (checks-over (a .code .now) (a .n) (a .q) (a .count) (r .i) (r .here) (r .total) (r .degrees) (take (r .total) (r .columns)) (take (r .total) (r .weights)) _ (omega arith) (r .inv .1 .1 .1 .1 .1 .1) (λ e. c .if1 .left (omega arith)), tt)
 
 pub checks-at-spec : {M : Type 1} → statement M
 checks-at-spec =

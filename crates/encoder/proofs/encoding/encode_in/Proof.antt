@@ -1,5 +1,6 @@
 -- The reader's answer is the line's refusal, or the numbers and tables of its code; under these the rest is promised.
 use borrow.Author.Needs.{needs}
+use Rattle.codeline.proofs.Answered.{tables-left}
 use Rattle.encoder.proofs.Encoded.{line-refused, line-room, line-encodes}
 use Rattle.encoder.proofs.encoding.encode_in.Statement.{statement}
 use Rattle.encoder.proofs.encoding.encode_in.Tie as tie
@@ -25,7 +26,7 @@ under-code-requires c κs =
     let v = w .before .before .before in
     let t = v .before .before in
     let a = t .before .before .before .before .before .before .before .args in
-    line-room (a .code .now) (t .code-tables .result) (t .code-tables .ensures .0) (v .p .given .0 .0) (v .p .given .0 .1 .0) (v .p .given .0 .1 .1 .0) (v .p .given .0 .1 .1 .1 .0) (v .p .given .0 .1 .1 .1 .1 .0) (v .p .given .1) (w .before .long .result) (w .index .result) (w .before .long .ensures .0) (w .index .ensures .0) (t .code-tables .last .1 .0) (t .code-tables .last .1 .1 .0) (t .code-tables .last .1 .1 .1 .0) (t .code-tables .ensures .1)
+    line-room (a .code .now) (t .code-tables .result) (t .code-tables .ensures .0) (v .p .given .0 .0) (v .p .given .0 .1 .0) (v .p .given .0 .1 .1 .0) (v .p .given .0 .1 .1 .1 .0) (v .p .given .0 .1 .1 .1 .1 .0) (v .p .given .1) (w .before .long .result) (w .index .result) (w .before .long .ensures .0) (w .index .ensures .0) (t .code-tables .last .1 .0) (t .code-tables .last .1 .1 .0) (t .code-tables .last .1 .1 .1 .0) (tables-left (a .code .now) _ _ _ (t .code-tables .ensures .1 .0) (t .code-tables .ensures .1 .1 .0) (t .code-tables .ensures .1 .1 .1))
 
 returns : tie.Need-returns
 returns c =
@@ -44,7 +45,7 @@ returns-2 c =
     let v = w .before .before .before in
     let t = v .before .before in
     let a = t .before .before .before .before .before .before .before .args in
-    let l = line-encodes (a .code .now) (t .code-tables .result) (t .code-tables .ensures .0) (v .p .given .0 .0) (v .p .given .0 .1 .0) (v .p .given .0 .1 .1 .0) (v .p .given .0 .1 .1 .1 .0) (v .p .given .0 .1 .1 .1 .1 .0) (v .p .given .1) (w .before .long .result) (w .index .result) (w .before .long .ensures .0) (w .index .ensures .0) (t .code-tables .last .1 .0) (t .code-tables .last .1 .1 .0) (t .code-tables .last .1 .1 .1 .0) (t .code-tables .ensures .1) (a .message .now) (a .symbols .now) _ _ (u .under-code .ensures) in
+    let l = line-encodes (a .code .now) (t .code-tables .result) (t .code-tables .ensures .0) (v .p .given .0 .0) (v .p .given .0 .1 .0) (v .p .given .0 .1 .1 .0) (v .p .given .0 .1 .1 .1 .0) (v .p .given .0 .1 .1 .1 .1 .0) (v .p .given .1) (w .before .long .result) (w .index .result) (w .before .long .ensures .0) (w .index .ensures .0) (t .code-tables .last .1 .0) (t .code-tables .last .1 .1 .0) (t .code-tables .last .1 .1 .1 .0) (tables-left (a .code .now) _ _ _ (t .code-tables .ensures .1 .0) (t .code-tables .ensures .1 .1 .0) (t .code-tables .ensures .1 .1 .1)) (a .message .now) (a .symbols .now) _ _ (u .under-code .ensures) in
     (l .replies, l .out-then)
 
 pub encode-in-spec : {M : Type 1} → statement M

@@ -7,7 +7,7 @@ use borrow.Author.Needs.{needs}
 use lib.ListN.{length, drop, getD}
 use Rattle.trellis.specs.Lists.{tab}
 use Rattle.trellis.proofs.Loops.{tab-more}
-use Rattle.encoder.proofs.Filling.{copied}
+use Rattle.machine.proofs.Lists.{copied}
 use Rattle.encoder.proofs.message.copy.Statement.{statement}
 use Rattle.encoder.proofs.message.copy.Tie as tie
 

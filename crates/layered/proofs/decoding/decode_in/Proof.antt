@@ -2,6 +2,7 @@
 use mathlib.Core.Path.{ap, _∙_}
 use native.Mathlib.Omega.{arith}
 use borrow.Author.Needs.{needs}
+use Rattle.codeline.proofs.Answered.{tables-left}
 use Rattle.machine.specs.CodeLine.{columnsRead}
 use Rattle.machine.proofs.Lines.{columns-small}
 use Rattle.layered.proofs.Decoded.{refused-decodes, coded-room, coded-decodes}
@@ -32,7 +33,7 @@ under-code-requires c κs =
     let v = w .before .before .before .before in
     let t = v .before .before in
     let a = t .before .before .before .before .before .before .before .before .before .args in
-    coded-room (a .code .now) (t .code-tables .result) (t .code-tables .ensures .0) (v .p .given .0 .0) (v .p .given .0 .1 .0) (v .p .given .0 .1 .1 .0) (v .p .given .0 .1 .1 .1 .0) (v .p .given .0 .1 .1 .1 .1 .0) (v .p .given .1) (w .before .before .long .result) (w .before .index .result) (w .wide .result) (w .before .before .long .ensures .0) (w .before .index .ensures .0) (w .wide .ensures .0) (t .code-tables .last .1 .0) (t .code-tables .last .1 .1 .0) (t .code-tables .last .1 .1 .1 .0) (t .code-tables .ensures .1) (a .arrived .now) (a .sent .now) (omega arith) (omega arith)
+    coded-room (a .code .now) (t .code-tables .result) (t .code-tables .ensures .0) (v .p .given .0 .0) (v .p .given .0 .1 .0) (v .p .given .0 .1 .1 .0) (v .p .given .0 .1 .1 .1 .0) (v .p .given .0 .1 .1 .1 .1 .0) (v .p .given .1) (w .before .before .long .result) (w .before .index .result) (w .wide .result) (w .before .before .long .ensures .0) (w .before .index .ensures .0) (w .wide .ensures .0) (t .code-tables .last .1 .0) (t .code-tables .last .1 .1 .0) (t .code-tables .last .1 .1 .1 .0) (tables-left (a .code .now) _ _ _ (t .code-tables .ensures .1 .0) (t .code-tables .ensures .1 .1 .0) (t .code-tables .ensures .1 .1 .1)) (a .arrived .now) (a .sent .now) (omega arith) (omega arith)
 
 returns : tie.Need-returns
 returns c =
@@ -57,7 +58,7 @@ returns-2 c =
     let t = v .before .before in
     let a = t .before .before .before .before .before .before .before .before .before .args in
     let e = rw (v .p .given .1) at (t .code-tables .ensures .0) in
-    (coded-decodes (a .code .now) (t .code-tables .result) (t .code-tables .ensures .0) (v .p .given .0 .0) (v .p .given .0 .1 .0) (v .p .given .0 .1 .1 .0) (v .p .given .0 .1 .1 .1 .0) (v .p .given .0 .1 .1 .1 .1 .0) (v .p .given .1) (w .before .before .long .result) (w .before .index .result) (w .wide .result) (w .before .before .long .ensures .0) (w .before .index .ensures .0) (w .wide .ensures .0) (t .code-tables .last .1 .0) (t .code-tables .last .1 .1 .0) (t .code-tables .last .1 .1 .1 .0) (t .code-tables .ensures .1) (a .frame .now) (a .symbols .now) (a .costs .now) (a .store .now) _ _ _ _ (u .under-code .ensures), (w .before .before .long .ensures .0 ∙ ap columnsRead e, rw (w .before .before .long .ensures .0) (columns-small (a .code .now) _ e)))
+    (coded-decodes (a .code .now) (t .code-tables .result) (t .code-tables .ensures .0) (v .p .given .0 .0) (v .p .given .0 .1 .0) (v .p .given .0 .1 .1 .0) (v .p .given .0 .1 .1 .1 .0) (v .p .given .0 .1 .1 .1 .1 .0) (v .p .given .1) (w .before .before .long .result) (w .before .index .result) (w .wide .result) (w .before .before .long .ensures .0) (w .before .index .ensures .0) (w .wide .ensures .0) (t .code-tables .last .1 .0) (t .code-tables .last .1 .1 .0) (t .code-tables .last .1 .1 .1 .0) (tables-left (a .code .now) _ _ _ (t .code-tables .ensures .1 .0) (t .code-tables .ensures .1 .1 .0) (t .code-tables .ensures .1 .1 .1)) (a .frame .now) (a .symbols .now) (a .costs .now) (a .store .now) _ _ _ _ (u .under-code .ensures), (w .before .before .long .ensures .0 ∙ ap columnsRead e, rw (w .before .before .long .ensures .0) (columns-small (a .code .now) _ e)))
 
 pub decode-in-spec : {M : Type 1} → statement M
 decode-in-spec =

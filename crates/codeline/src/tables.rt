@@ -1,0 +1,87 @@
+// The checks of a code line in tables: reading them, and handing over what was read.
+use crate::Header;
+use crate::checks;
+use crate::checks::Checks;
+use crate::num;
+use crate::numbers;
+ghost use mathlib.Core.Path.{_≡_};
+ghost use lib.ListN.{length};
+ghost use Rattle.machine.specs.CodeLine.{Code, good, parse, numbersOf};
+ghost use Rattle.codeline.specs.Answers.{headerNumbers};
+ghost use Rattle.codeline.specs.Reading.{Filled, CountFits, checksIn, handed};
+
+// The header, and how many edges the checks have together.
+pub struct Counted {
+    pub header: Header,
+    pub edges: usize,
+}
+
+fn refused(header: Header) -> Counted
+    ensures { λ r. ⌜ r .header ≡ header ⌝ }
+{
+    Counted { header, edges: 0 }
+}
+
+// The whole line. Where it is refused, the tables may hold anything.
+pub fn read(code: &[u8], degrees: &mut [u8], columns: &mut [u16], weights: &mut [u8]) -> Counted
+    requires { ⌜ (length (now degrees) ≡ 128) × ((length (now columns) ≡ 1024) × (length (now weights) ≡ 1024)) ⌝ }
+    ensures { λ r. ⌜ headerNumbers (r .header) ≡ numbersOf (parse (now (code .entry))) ⌝ }
+    ensures { λ r. ⌜ CountFits (r .header) (r .edges) ⌝ }
+    ensures { λ r. ⌜ ((C : Code) → parse (now (code .entry)) ≡ good C → Filled C (now (degrees .exit)) (now (columns .exit)) (now (weights .exit)) (r .edges)) ⌝ }
+{
+    let f = numbers::head(code);
+    let h = f.header;
+    let Header::Read {
+        p,
+        columns: n,
+        checks: m,
+        ..
+    } = h
+    else {
+        return refused(h);
+    };
+    let q = num::size(p);
+    match checks::checks_at(
+        code,
+        f.next,
+        m as usize,
+        n as usize,
+        q,
+        degrees,
+        columns,
+        weights,
+    ) {
+        Checks::Refused(k) => refused(Header::Refused(k)),
+        Checks::Total(edges) => Counted { header: h, edges },
+    }
+}
+
+// What was read of an accepted line, in front of what the tables hold.
+pub fn hand_over(
+    r: Counted,
+    ds: &[u8],
+    cs: &[u16],
+    ws: &[u8],
+    degrees: &mut [u8],
+    columns: &mut [u16],
+    weights: &mut [u8],
+)
+    requires { ⌜ CountFits (r .header) (r .edges) ⌝ }
+    requires { ⌜ (length (now ds) ≡ 128) × ((length (now cs) ≡ 1024) × (length (now ws) ≡ 1024)) ⌝ }
+    requires { ⌜ (length (now degrees) ≡ 128) × ((length (now columns) ≡ 1024) × (length (now weights) ≡ 1024)) ⌝ }
+    ensures { λ _. ⌜ now (degrees .exit) ≡ handed (r .header) (checksIn (r .header)) (now (ds .entry)) (now (degrees .entry)) ⌝ }
+    ensures { λ _. ⌜ now (columns .exit) ≡ handed (r .header) (r .edges) (now (cs .entry)) (now (columns .entry)) ⌝ }
+    ensures { λ _. ⌜ now (weights .exit) ≡ handed (r .header) (r .edges) (now (ws .entry)) (now (weights .entry)) ⌝ }
+{
+    let h = r.header;
+    match h {
+        Header::Refused(_) => {}
+        Header::Read { checks: m, .. } => {
+            let m = num::index(m);
+            let e = r.edges;
+            num::copy(&ds[..m], &mut degrees[..m]);
+            num::copy_words(&cs[..e], &mut columns[..e]);
+            num::copy(&ws[..e], &mut weights[..e]);
+        }
+    }
+}
