@@ -1,5 +1,5 @@
 -- What each public call replies and leaves, refused calls included: document 01's refusals in their order. SPEC 7, 8.
-use mathlib.Core.Bool.{Bool, false}
+use mathlib.Core.Bool.{Bool, false, not}
 use mathlib.Core.List.{List, _++_}
 use Prim.Native.Nat.{ℕ, _*_, _^_}
 use lib.Dec.{ltb, eqb, leb}
@@ -8,7 +8,7 @@ use Rattle.trellis.specs.Lists.{pick, allTo}
 use Rattle.trellis.specs.Field.{product}
 use Rattle.trellis.specs.Check.{firstZero, allSent}
 use Rattle.trellis.specs.Record.{recordOf, recordLength, recordOk, expansion}
-use Rattle.trellis.specs.Rules.{ruleFor, columnsOf, costsAt}
+use Rattle.trellis.specs.Rules.{firstOk, sizeOf, ruleFor, columnsOf, costsAt}
 use Rattle.trellis.specs.Reply.{Reply, accepted, refusal}
 use Rattle.checknode.specs.declared.Element.{Element}
 use Rattle.checknode.specs.declared.Element.the-variants.{Is, Refused as NoElement}
@@ -41,12 +41,11 @@ weightsOk q ws = allTo (λ i. weightOk q (getD ws i 0)) (length ws)
 
 -- what a check and an expansion have in common, "6, 9, 11", before the rest. The degree is the number of weights (SPEC 8.5, 8.6)
 abbrev pub weightCases {ℓ} : {A : Type ℓ} → ℕ → List ℕ → (ℕ → A) → A → A
-weightCases p ws bad rest =
-    pick (ltb p 2) (bad 6)
-    (pick (ltb 6 p) (bad 6)
+weightCases f ws bad rest =
+    pick (not (firstOk f)) (bad 6)
     (pick (ltb (length ws) 2) (bad 9)
     (pick (ltb 32 (length ws)) (bad 9)
-    (pick (weightsOk (2 ^ p) ws) rest (bad 11)))))
+    (pick (weightsOk (sizeOf f) ws) rest (bad 11))))
 
 -- column n has a cost of 0
 unfoldable pub zeroOk : ℕ → List ℕ → ℕ → Bool
@@ -54,49 +53,49 @@ zeroOk q cs n = ltb (firstZero (costsAt q cs n)) q
 
 -- "Check: 6, 9, 11, 12, 13, 4." (SPEC 8.5)
 abbrev pub checkCases {ℓ} : {A : Type ℓ} → ℕ → List ℕ → List ℕ → ℕ → (ℕ → A) → A → A
-checkCases p ws cs room bad good =
-    weightCases p ws bad
-    (pick (eqb (length cs) (length ws * 2 ^ p))
-    (pick (allTo (zeroOk (2 ^ p) cs) (length ws))
-    (pick (ltb room (recordLength (ruleFor p) (length ws))) (bad 4) good)
+checkCases f ws cs room bad good =
+    weightCases f ws bad
+    (pick (eqb (length cs) (length ws * sizeOf f))
+    (pick (allTo (zeroOk (sizeOf f) cs) (length ws))
+    (pick (ltb room (recordLength (ruleFor f) (length ws))) (bad 4) good)
     (bad 13))
     (bad 12))
 
 unfoldable pub checkReply : ℕ → List ℕ → List ℕ → List ℕ → Reply
-checkReply p ws cs out = checkCases p ws cs (length out) (λ k. refusal k) (accepted (recordLength (ruleFor p) (length ws)))
+checkReply f ws cs out = checkCases f ws cs (length out) (λ k. refusal k) (accepted (recordLength (ruleFor f) (length ws)))
 
 unfoldable pub checkLeaves : ℕ → List ℕ → List ℕ → List ℕ → List ℕ
-checkLeaves p ws cs out =
-    checkCases p ws cs (length out) (λ k. out) (recordOf (ruleFor p) (columnsOf (2 ^ p) ws cs) ++ drop (recordLength (ruleFor p) (length ws)) out)
+checkLeaves f ws cs out =
+    checkCases f ws cs (length out) (λ k. out) (recordOf (ruleFor f) (columnsOf (sizeOf f) ws cs) ++ drop (recordLength (ruleFor f) (length ws)) out)
 
 -- a check's record and its sent costs in one call: refused as a check is, then by 2 where the buffer for the d times q sent costs, of `many` bytes,
 -- is too short. It returns the length of the record, as a check does (SPEC 7.7.4)
 abbrev pub messagesCases {ℓ} : {A : Type ℓ} → ℕ → List ℕ → List ℕ → ℕ → ℕ → (ℕ → A) → A → A
-messagesCases p ws cs room many bad good = checkCases p ws cs room bad (pick (ltb many (length ws * 2 ^ p)) (bad 2) good)
+messagesCases f ws cs room many bad good = checkCases f ws cs room bad (pick (ltb many (length ws * sizeOf f)) (bad 2) good)
 
 unfoldable pub messagesReply : ℕ → List ℕ → List ℕ → List ℕ → List ℕ → Reply
-messagesReply p ws cs out sent = messagesCases p ws cs (length out) (length sent) (λ k. refusal k) (accepted (recordLength (ruleFor p) (length ws)))
+messagesReply f ws cs out sent = messagesCases f ws cs (length out) (length sent) (λ k. refusal k) (accepted (recordLength (ruleFor f) (length ws)))
 
 -- the record buffer afterwards
 unfoldable pub messagesLeaves : ℕ → List ℕ → List ℕ → List ℕ → List ℕ → List ℕ
-messagesLeaves p ws cs out sent =
-    messagesCases p ws cs (length out) (length sent) (λ k. out) (recordOf (ruleFor p) (columnsOf (2 ^ p) ws cs) ++ drop (recordLength (ruleFor p) (length ws)) out)
+messagesLeaves f ws cs out sent =
+    messagesCases f ws cs (length out) (length sent) (λ k. out) (recordOf (ruleFor f) (columnsOf (sizeOf f) ws cs) ++ drop (recordLength (ruleFor f) (length ws)) out)
 
 -- the buffer of the sent costs afterwards
 unfoldable pub messagesSent : ℕ → List ℕ → List ℕ → List ℕ → List ℕ → List ℕ
-messagesSent p ws cs out sent =
-    messagesCases p ws cs (length out) (length sent) (λ k. sent) (allSent (ruleFor p) (columnsOf (2 ^ p) ws cs) ++ drop (length ws * 2 ^ p) sent)
+messagesSent f ws cs out sent =
+    messagesCases f ws cs (length out) (length sent) (λ k. sent) (allSent (ruleFor f) (columnsOf (sizeOf f) ws cs) ++ drop (length ws * sizeOf f) sent)
 
 -- "Expand: 6, 9, 11, 16, 2." (SPEC 8.6)
 abbrev pub expandCases {ℓ} : {A : Type ℓ} → ℕ → List ℕ → List ℕ → ℕ → (ℕ → A) → A → A
-expandCases p ws r room bad good =
-    weightCases p ws bad
-    (pick (recordOk (ruleFor p) (length ws) r)
-    (pick (ltb room (length ws * 2 ^ p)) (bad 2) good)
+expandCases f ws r room bad good =
+    weightCases f ws bad
+    (pick (recordOk (ruleFor f) (length ws) r)
+    (pick (ltb room (length ws * sizeOf f)) (bad 2) good)
     (bad 16))
 
 unfoldable pub expandReply : ℕ → List ℕ → List ℕ → List ℕ → Reply
-expandReply p ws r out = expandCases p ws r (length out) (λ k. refusal k) (accepted (length ws * 2 ^ p))
+expandReply f ws r out = expandCases f ws r (length out) (λ k. refusal k) (accepted (length ws * sizeOf f))
 
 unfoldable pub expandLeaves : ℕ → List ℕ → List ℕ → List ℕ → List ℕ
-expandLeaves p ws r out = expandCases p ws r (length out) (λ k. out) (expansion (ruleFor p) ws r ++ drop (length ws * 2 ^ p) out)
+expandLeaves f ws r out = expandCases f ws r (length out) (λ k. out) (expansion (ruleFor f) ws r ++ drop (length ws * sizeOf f) out)

@@ -1,7 +1,7 @@
 -- The record of an accepted check: the shifts from each h times z and their sum, then the groups.
 use mathlib.Core.Path.{_≡_, refl, sym, ap, ap₂, _∙_}
 use mathlib.Core.List.{List, [], _∷_, _++_, map}
-use Prim.Native.Nat.{ℕ, zero, suc, _+_, _-_, _^_, _<_}
+use Prim.Native.Nat.{ℕ, zero, suc, _+_, _-_, _<_}
 use native.Mathlib.Nat.{zero-add}
 use native.Mathlib.Omega.{arith}
 use lib.ListN.{length}
@@ -9,7 +9,7 @@ use Rattle.trellis.specs.Lists.{each, countFrom, upTo, tab, blocks}
 use Rattle.trellis.specs.Field.{xor}
 use Rattle.trellis.specs.Check.{Rule, Column, weigh, decision, decided, shift, column}
 use Rattle.trellis.specs.Record.{shifts, group, recordOf}
-use Rattle.trellis.specs.Rules.{ruleFor, columnsOf}
+use Rattle.trellis.specs.Rules.{ruleFor, powerOf, sizeOf, columnsOf}
 use Rattle.trellis.specs.Ready.{Ready}
 use Rattle.engine.specs.Terms.{termOf, sumTo}
 use Rattle.trellis.proofs.Xor.{xor-assoc, xor-comm, xor-cancel}
@@ -31,32 +31,35 @@ unfolding decided
 decided-sum R [] = refl
 decided-sum R (c ∷ cs) = ap (xor (weigh R c (decision c))) (decided-sum R cs) ∙ sym (sum-front (λ n. weigh R (column (c ∷ cs) n) (decision (column (c ∷ cs) n))) (length cs))
 
-module _ (p : ℕ) (ws cs : List ℕ) (D : Ready p ws cs) where
+module _ (f : ℕ) (ws cs : List ℕ) (D : Ready f ws cs) where
+  abbrev R : Rule
+  R = ruleFor f
+
   abbrev q : ℕ
-  q = 2 ^ p
+  q = sizeOf f
 
   abbrev pub theColumns : List Column
-  theColumns = columnsOf (2 ^ p) ws cs
+  theColumns = columnsOf (sizeOf f) ws cs
 
-  pub term-is : (n : ℕ) → n < length ws → weigh (ruleFor p) (column theColumns n) (decision (column theColumns n)) ≡ termOf p ws cs n
+  pub term-is : (n : ℕ) → n < length ws → weigh R (column theColumns n) (decision (column theColumns n)) ≡ termOf (powerOf f) ws cs n
   term-is n h = rw (column-at q ws cs n h)
 
-  pub shift-is : (n : ℕ) → n < length ws → shift (ruleFor p) theColumns n ≡ xor (sumTo (termOf p ws cs) (length ws)) (termOf p ws cs n)
+  pub shift-is : (n : ℕ) → n < length ws → shift R theColumns n ≡ xor (sumTo (termOf (powerOf f) ws cs) (length ws)) (termOf (powerOf f) ws cs n)
   shift-is n h =
       let e : length theColumns ≡ length ws = length-columns q ws cs in
-      let s = split-decided (ruleFor p) theColumns (ready-proper p ws cs D) 0 n (omega arith) in
-      let t : sumTo (λ j. weigh (ruleFor p) (column theColumns j) (decision (column theColumns j))) (length theColumns) ≡ sumTo (termOf p ws cs) (length ws) =
+      let s = split-decided R theColumns (ready-proper f ws cs D) 0 n (omega arith) in
+      let t : sumTo (λ j. weigh R (column theColumns j) (decision (column theColumns j))) (length theColumns) ≡ sumTo (termOf (powerOf f) ws cs) (length ws) =
       rw e (sum-same _ _ (length ws) (λ j l. term-is j l)) in
-      let d : decided (ruleFor p) theColumns ≡ sumTo (termOf p ws cs) (length ws) = decided-sum (ruleFor p) theColumns ∙ t in
-      sym (xor-cancel (termOf p ws cs n) (shift (ruleFor p) theColumns n)) ∙ ap (xor (termOf p ws cs n)) (ap (λ y. xor y (shift (ruleFor p) theColumns n)) (sym (term-is n h)) ∙ sym s ∙ d) ∙ xor-comm _ _
+      let d : decided R theColumns ≡ sumTo (termOf (powerOf f) ws cs) (length ws) = decided-sum R theColumns ∙ t in
+      sym (xor-cancel (termOf (powerOf f) ws cs n) (shift R theColumns n)) ∙ ap (xor (termOf (powerOf f) ws cs n)) (ap (λ y. xor y (shift R theColumns n)) (sym (term-is n h)) ∙ sym s ∙ d) ∙ xor-comm _ _
 
-  pub record-parts : recordOf (ruleFor p) theColumns
-      ≡ tab (λ n. xor (sumTo (termOf p ws cs) (length ws)) (termOf p ws cs n)) (length ws) ++ blocks (λ i. group (ruleFor p) theColumns (suc i)) (q - 1)
+  pub record-parts : recordOf R theColumns
+      ≡ tab (λ n. xor (sumTo (termOf (powerOf f) ws cs) (length ws)) (termOf (powerOf f) ws cs n)) (length ws) ++ blocks (λ i. group R theColumns (suc i)) (q - 1)
   unfolding recordOf shifts
   record-parts =
       let e : length theColumns ≡ length ws = length-columns q ws cs in
-      let a : map (shift (ruleFor p) theColumns) (upTo (length theColumns)) ≡ tab (λ n. xor (sumTo (termOf p ws cs) (length ws)) (termOf p ws cs n)) (length ws) =
-      map-tab (shift (ruleFor p) theColumns) 0 (length theColumns) ∙ rw e (tab-ext _ _ (length ws) (λ j l. rw (zero-add j) (shift-is j l))) in
-      let b : each (group (ruleFor p) theColumns) (countFrom 1 (q - 1)) ≡ blocks (λ i. group (ruleFor p) theColumns (suc i)) (q - 1) =
-      each-blocks (group (ruleFor p) theColumns) 1 (q - 1) ∙ blocks-ext (λ j. group (ruleFor p) theColumns (1 + j)) _ (q - 1) (λ j l. ap (group (ruleFor p) theColumns) (omega arith)) in
+      let a : map (shift R theColumns) (upTo (length theColumns)) ≡ tab (λ n. xor (sumTo (termOf (powerOf f) ws cs) (length ws)) (termOf (powerOf f) ws cs n)) (length ws) =
+      map-tab (shift R theColumns) 0 (length theColumns) ∙ rw e (tab-ext _ _ (length ws) (λ j l. rw (zero-add j) (shift-is j l))) in
+      let b : each (group R theColumns) (countFrom 1 (q - 1)) ≡ blocks (λ i. group R theColumns (suc i)) (q - 1) =
+      each-blocks (group R theColumns) 1 (q - 1) ∙ blocks-ext (λ j. group R theColumns (1 + j)) _ (q - 1) (λ j l. ap (group R theColumns) (omega arith)) in
       ap₂ (λ x y. x ++ y) a b

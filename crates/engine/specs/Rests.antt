@@ -29,10 +29,6 @@ abbrev pub mostTo : (ℕ → ℕ) → ℕ → ℕ
 mostTo f zero = 0
 mostTo f (suc n) = max (mostTo f n) (f n)
 
--- how costs are joined: their sum, or the greatest of them
-abbrev pub joinOf : Bool → ℕ → ℕ → ℕ
-joinOf greatest = pick greatest max _+_
-
 -- what two rests leave together: the first less the second's cost; where a choice costs the greatest, the lesser of the two
 abbrev pub meetOf : Bool → ℕ → ℕ → ℕ
 meetOf greatest u v = pick greatest (min u v) (u - (255 - v))

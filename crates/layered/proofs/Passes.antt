@@ -46,16 +46,16 @@ module _ (C : Code) (cs ws : List ℕ) (hc : take (length (tablesOf (C .checks) 
   unfolding placeAt place
   place-is m = upto-ext m _ _ 0 (λ k i a. ap (λ d. a + recordLength (rule C) d) (degree-at C cs ws hc hw k))
 
-  pub turn-is : (first : Bool) (m : ℕ) → m < length (C .checks) → (l : Lent) → turnAt T first m l ≡ turn C first m l
+  pub turn-is : (start : Bool) (m : ℕ) → m < length (C .checks) → (l : Lent) → turnAt T start m l ≡ turn C start m l
   unfolding turnAt turn costsNow recordNow
-  turn-is first m h l = rw (edges-at C cs ws hc hw m h, place-is m, degree-at C cs ws hc hw m)
+  turn-is start m h l = rw (edges-at C cs ws hc hw m h, place-is m, degree-at C cs ws hc hw m)
 
-  pub turns-are : (first : Bool) (m : ℕ) → m ≤ length (C .checks) → (l : Lent) → upto (turnAt T first) m l ≡ upto (turn C first) m l
-  turns-are first m h l = upto-ext m _ _ l (λ k i x. turn-is first k (omega arith) x)
+  pub turns-are : (start : Bool) (m : ℕ) → m ≤ length (C .checks) → (l : Lent) → upto (turnAt T start) m l ≡ upto (turn C start) m l
+  turns-are start m h l = upto-ext m _ _ l (λ k i x. turn-is start k (omega arith) x)
 
-  pub pass-is : (first : Bool) (l : Lent) → passOver T first l ≡ pass C first l
+  pub pass-is : (start : Bool) (l : Lent) → passOver T start l ≡ pass C start l
   unfolding passOver pass
-  pass-is first l = rw (count C cs ws hc hw) (turns-are first (length (C .checks)) (omega arith) l)
+  pass-is start l = rw (count C cs ws hc hw) (turns-are start (length (C .checks)) (omega arith) l)
 
   -- the test
   pub symbols-are : (P : List ℕ) → decisionsOf (size C) P (C .columns) ≡ symbols C P
@@ -78,9 +78,9 @@ module _ (C : Code) (cs ws : List ℕ) (hc : take (length (tablesOf (C .checks) 
   go-is (suc n) t l = rw (settled-is (l .costs), pass-is (eqb t 0) l, go-is n (t + 1) (pass C (eqb t 0) l))
 
 -- all turns made
-pub pass-done : (D : Graph) (first : Bool) (l now : Lent) (m : ℕ) → m ≡ length (D .degrees) → now ≡ upto (turnAt D first) m l → now ≡ passOver D first l
+pub pass-done : (D : Graph) (start : Bool) (l now : Lent) (m : ℕ) → m ≡ length (D .degrees) → now ≡ upto (turnAt D start) m l → now ≡ passOver D start l
 unfolding passOver
-pass-done D first l now m e o = o ∙ ap (λ k. upto (turnAt D first) k l) e
+pass-done D start l now m e o = o ∙ ap (λ k. upto (turnAt D start) k l) e
 
 -- decisions that satisfy every check end the run
 go-found : (D : Graph) (n : ℕ) (l : Lent) (k t : ℕ) → settledOn D n (l .costs) ≡ true → goOn D n k t l ≡ ended found t l
@@ -106,8 +106,8 @@ module _ (D : Graph) (n n₀ limit t : ℕ) (l l₀ : Lent) (r : Bool) (same : n
 
 -- the same over the tables as they are lent
 module _ (C : Code) (p g : ℕ) (ds cs ws : List ℕ) (H : Tables C (graph p g ds cs ws)) where
-  pub tables-pass : (first : Bool) (l : Lent) → passOver (graph p g ds cs ws) first l ≡ pass C first l
-  tables-pass first l = rw (H .p-is, H .scale-is, H .degrees-is) (pass-is C cs ws (H .columns) (H .weights) first l)
+  pub tables-pass : (start : Bool) (l : Lent) → passOver (graph p g ds cs ws) start l ≡ pass C start l
+  tables-pass start l = rw (H .p-is, H .scale-is, H .degrees-is) (pass-is C cs ws (H .columns) (H .weights) start l)
 
   pub tables-go : (n t : ℕ) (l : Lent) → goOn (graph p g ds cs ws) (C .columns) n t l ≡ goLent C n t l
   tables-go n t l = rw (H .p-is, H .scale-is, H .degrees-is) (go-is C cs ws (H .columns) (H .weights) n t l)

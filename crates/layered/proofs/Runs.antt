@@ -32,19 +32,19 @@ use Rattle.layered.proofs.Passes.{place-is, turns-are, tables-pass}
 
 module _ (C : Code) (G : GoodCode C) (cs ws : List ℕ) (hc : take (length (tablesOf (C .checks) .edges .columns)) cs ≡ tablesOf (C .checks) .edges .columns)
     (hw : take (length (tablesOf (C .checks) .edges .weights)) ws ≡ tablesOf (C .checks) .edges .weights) (s₀ : List ℕ) (room : used C ≤ length s₀)
-    (st : State) (K : Kept C st) (first : Bool) (W : (m : ℕ) → m < length (C .checks) → When C first (lastOf st m)) (Rg : Ranged C (st .costs)) where
+    (st : State) (K : Kept C st) (start : Bool) (W : (m : ℕ) → m < length (C .checks) → When C start (lastOf st m)) (Rg : Ranged C (st .costs)) where
   abbrev T : Graph
   T = graph (C .p) (C .scale) (tablesOf (C .checks) .degrees) cs ws
 
   abbrev after : ℕ → State
   after m = upto (update C) m st
 
-  turns-at : (m : ℕ) → m ≤ length (C .checks) → upto (turnAt T first) m (lentOf C s₀ st) ≡ lentOf C s₀ (after m)
-  turns-at m h = turns-are C cs ws hc hw first m h (lentOf C s₀ st) ∙ turns-stand C G s₀ room first st K W m h
+  turns-at : (m : ℕ) → m ≤ length (C .checks) → upto (turnAt T start) m (lentOf C s₀ st) ≡ lentOf C s₀ (after m)
+  turns-at m h = turns-are C cs ws hc hw start m h (lentOf C s₀ st) ∙ turns-stand C G s₀ room start st K W m h
 
   module _ (m : ℕ) (h : m < length (C .checks)) where
     -- after the first iteration check m has a record of accepted form
-    form-at : first ≡ false → recordOk (rule C) (length (check C m)) (pieceOf C s₀ m (lastOf st m)) ≡ true
+    form-at : start ≡ false → recordOk (rule C) (length (check C m)) (pieceOf C s₀ m (lastOf st m)) ≡ true
     form-at e = go (lastOf st m) (K .fine m h) (rw e at (W m h))
       where
         go : (l : Last) → Fine C (check C m) l → When C false l → recordOk (rule C) (length (check C m)) (pieceOf C s₀ m l) ≡ true
@@ -61,7 +61,7 @@ module _ (C : Code) (G : GoodCode C) (cs ws : List ℕ) (hc : take (length (tabl
         rw (place-is C cs ws hc hw m, degree-at C cs ws hc hw m) (omega (arith, place-suc C m, place-mono C (suc m) (length (C .checks)) h))
 
     update-room : (Q S : List ℕ) → length Q ≡ getD (T .degrees) m 0 * size C → length S ≡ getD (T .degrees) m 0 * size C
-        → UpdateRoom (C .p) (C .scale) first (tableAt (T .degrees) cs m) (tableAt (T .degrees) ws m) (after m .costs) (part (held C s₀ (after m)) (placeAt (C .p) (T .degrees) m) (lengthAt (C .p) (T .degrees) m)) Q S
+        → UpdateRoom (C .p) (C .scale) start (tableAt (T .degrees) cs m) (tableAt (T .degrees) ws m) (after m .costs) (part (held C s₀ (after m)) (placeAt (C .p) (T .degrees) m) (lengthAt (C .p) (T .degrees) m)) Q S
     update-room Q S i j =
         let H = G .each-check m h in
         let d : length (tableAt (T .degrees) ws m) ≡ length (check C m) = weights-length C cs ws hc hw m h in
@@ -91,21 +91,21 @@ module _ (C : Code) (G : GoodCode C) (cs ws : List ℕ) (hc : take (length (tabl
         }
 
 -- the same over the tables as they are lent
-module _ (p g : ℕ) (ds cs ws P s : List ℕ) (first : Bool) (R : Running (graph p g ds cs ws) first P s) where
+module _ (p g : ℕ) (ds cs ws P s : List ℕ) (start : Bool) (R : Running (graph p g ds cs ws) start P s) where
   abbrev C : Code
   C = R .code
 
   -- what an update of check m asks
-  pub turn-room : (m : ℕ) → m < length ds → (l : Lent) → l ≡ upto (turnAt (graph p g ds cs ws) first) m (lent P s)
+  pub turn-room : (m : ℕ) → m < length ds → (l : Lent) → l ≡ upto (turnAt (graph p g ds cs ws) start) m (lent P s)
       → (Q S : List ℕ) → length Q ≡ getD ds m 0 * 2 ^ p → length S ≡ getD ds m 0 * 2 ^ p
-      → UpdateRoom p g first (tableAt ds cs m) (tableAt ds ws m) (l .costs) (recordAt p ds m (l .store)) Q S
+      → UpdateRoom p g start (tableAt ds cs m) (tableAt ds ws m) (l .costs) (recordAt p ds m (l .store)) Q S
   turn-room m =
       rw (R .tables .p-is, R .tables .scale-is, R .tables .degrees-is) (λ h l e Q S i j.
       let D : Graph = graph (C .p) (C .scale) (tablesOf (C .checks) .degrees) cs ws in
       let k : m < length (C .checks) = omega (arith, count C cs ws (R .tables .columns) (R .tables .weights)) in
       let x : l ≡ lentOf C (R .old) (upto (update C) m (R .state)) =
-      e ∙ ap (upto (turnAt D first) m) (R .holds) ∙ turns-at C (R .good) cs ws (R .tables .columns) (R .tables .weights) (R .old) (R .room) (R .state) (R .kept) first (R .when) (R .ranged) m (omega arith) in
-      rw x (update-room C (R .good) cs ws (R .tables .columns) (R .tables .weights) (R .old) (R .room) (R .state) (R .kept) first (R .when) (R .ranged) m k Q S i j))
+      e ∙ ap (upto (turnAt D start) m) (R .holds) ∙ turns-at C (R .good) cs ws (R .tables .columns) (R .tables .weights) (R .old) (R .room) (R .state) (R .kept) start (R .when) (R .ranged) m (omega arith) in
+      rw x (update-room C (R .good) cs ws (R .tables .columns) (R .tables .weights) (R .old) (R .room) (R .state) (R .kept) start (R .when) (R .ranged) m k Q S i j))
 
   pub store-length : length s ≡ length (R .old)
   store-length = ap (λ (l : Lent). length (l .store)) (R .holds) ∙ length-held C (R .good) (R .old) (R .room) (R .state) (R .kept)
@@ -121,12 +121,12 @@ module _ (p g : ℕ) (ds cs ws P s : List ℕ) (first : Bool) (R : Running (grap
       let k : m < length (C .checks) = omega (arith, count C cs ws (R .tables .columns) (R .tables .weights)) in (
         in-columns C cs ws (R .tables .columns) (R .tables .weights) m k,
         in-weights C cs ws (R .tables .columns) (R .tables .weights) m k,
-        in-store C (R .good) cs ws (R .tables .columns) (R .tables .weights) (R .old) (R .room) (R .state) (R .kept) first (R .when) (R .ranged) m k,
+        in-store C (R .good) cs ws (R .tables .columns) (R .tables .weights) (R .old) (R .room) (R .state) (R .kept) start (R .when) (R .ranged) m k,
         mul-le-mul {n₁ = getD (tablesOf (C .checks) .degrees) m 0} {n₂ = 32} (rw (degree-at C cs ws (R .tables .columns) (R .tables .weights) m) (R .good .each-check m k .high)) (size-64 (C .p) (R .good .p-high)),
       ))
 
   -- after an iteration
-  pub pass-running : (P′ s′ : List ℕ) → lent P′ s′ ≡ passOver (graph p g ds cs ws) first (lent P s) → Running (graph p g ds cs ws) false P′ s′
+  pub pass-running : (P′ s′ : List ℕ) → lent P′ s′ ≡ passOver (graph p g ds cs ws) start (lent P s) → Running (graph p g ds cs ws) false P′ s′
   pass-running P′ s′ e =
       let k = iteration-kept C (R .good) (R .state) (R .kept) in
       record {
@@ -139,7 +139,7 @@ module _ (p g : ℕ) (ds cs ws P s : List ℕ) (first : Bool) (R : Running (grap
         kept = k .0;
         when = k .1;
         ranged = iteration-ranged C (R .good) (R .state) (R .ranged);
-        holds = e ∙ tables-pass C p g ds cs ws (R .tables) first (lent P s) ∙ ap (pass C first) (R .holds) ∙ pass-stands C (R .good) (R .old) (R .room) first (R .state) (R .kept) (R .when);
+        holds = e ∙ tables-pass C p g ds cs ws (R .tables) start (lent P s) ∙ ap (pass C start) (R .holds) ∙ pass-stands C (R .good) (R .old) (R .room) start (R .state) (R .kept) (R .when);
       }
 
   -- what the test asks
@@ -169,7 +169,7 @@ module _ (p g : ℕ) (ds cs ws P s : List ℕ) (first : Bool) (R : Running (grap
           edge-at m n h i = R .good .each-check m (some-check m h) .each-edge n (omega (arith, degree-at C cs ws (R .tables .columns) (R .tables .weights) m))
 
   -- after iteration t + 1 each check has a record
-  pub run-next : (z z′ P′ s′ : List ℕ) (t : ℕ) → length z ≡ C .columns → length z′ ≡ length z → lent P′ s′ ≡ passOver (graph p g ds cs ws) first (lent P s) → RunRoom (graph p g ds cs ws) (eqb (t + 1) 0) P′ s′ z′
+  pub run-next : (z z′ P′ s′ : List ℕ) (t : ℕ) → length z ≡ C .columns → length z′ ≡ length z → lent P′ s′ ≡ passOver (graph p g ds cs ws) start (lent P s) → RunRoom (graph p g ds cs ws) (eqb (t + 1) 0) P′ s′ z′
   unfolding pass-running
   run-next z z′ P′ s′ t e k o =
       let f : eqb (t + 1) 0 ≡ false = ne-eqb (t + 1) 0 (λ (y : t + 1 ≡ 0). omega arith) in
@@ -189,9 +189,9 @@ module _ (p g : ℕ) (ds cs ws P s : List ℕ) (first : Bool) (R : Running (grap
     unfolding placeAt
     next-place = rw (add-one m, b, record-end)
 
-    module _ (P′ s′ : List ℕ) (l : lent P′ s′ ≡ upto (turnAt (graph p g ds cs ws) first) m (lent P s)) where
+    module _ (P′ s′ : List ℕ) (l : lent P′ s′ ≡ upto (turnAt (graph p g ds cs ws) start) m (lent P s)) where
       pub turn-asks : (Q S : List ℕ) → length Q ≡ d * q → length S ≡ d * q
-          → UpdateRoom p g first (part cs at (at + d - at)) (part ws at (at + d - at)) P′ (part s′ place (place + (d + groups) - place)) Q S
+          → UpdateRoom p g start (part cs at (at + d - at)) (part ws at (at + d - at)) P′ (part s′ place (place + (d + groups) - place)) Q S
       turn-asks Q S x y =
           let u : at + d - at ≡ d = add-sub-cancel-left at d in
           let v : place + (d + groups) - place ≡ d + groups = add-sub-cancel-left place (d + groups) in
@@ -199,9 +199,9 @@ module _ (p g : ℕ) (ds cs ws P s : List ℕ) (first : Bool) (R : Running (grap
           rw (u, v, record-end, a, b, i) (turn-room m h (lent P′ s′) l Q S (x ∙ w) (y ∙ w))
 
       pub turn-done : (P″ r : List ℕ)
-          → P″ ≡ costsNow p g first (part cs at (at + d - at)) (part ws at (at + d - at)) (part s′ place (place + (d + groups) - place)) P′
-          → r ≡ recordNow p g first (part cs at (at + d - at)) (part ws at (at + d - at)) (part s′ place (place + (d + groups) - place)) P′
-          → lent P″ (patch s′ place (place + (d + groups) - place) r) ≡ upto (turnAt (graph p g ds cs ws) first) (m + 1) (lent P s)
+          → P″ ≡ costsNow p g start (part cs at (at + d - at)) (part ws at (at + d - at)) (part s′ place (place + (d + groups) - place)) P′
+          → r ≡ recordNow p g start (part cs at (at + d - at)) (part ws at (at + d - at)) (part s′ place (place + (d + groups) - place)) P′
+          → lent P″ (patch s′ place (place + (d + groups) - place) r) ≡ upto (turnAt (graph p g ds cs ws) start) (m + 1) (lent P s)
       unfolding turnAt
       turn-done P″ r x y =
           let u : at + d - at ≡ d = add-sub-cancel-left at d in

@@ -122,7 +122,7 @@ heard-zeros p g ws r n h =
     a : length (map (scaled g) (part z (n * q) q)) ≡ q
     a = length-map (part z (n * q) q) (scaled g) ∙ length-part z (n * q) q room
 
-pub heard-old : (p g : ℕ) (first : Bool) (ws r : List ℕ) (n : ℕ) → n < length ws → map (scaled g) (part (oldCosts p first ws r) (n * 2 ^ p) (2 ^ p)) ≡ heard p g first ws r n
+pub heard-old : (p g : ℕ) (start : Bool) (ws r : List ℕ) (n : ℕ) → n < length ws → map (scaled g) (part (oldCosts p start ws r) (n * 2 ^ p) (2 ^ p)) ≡ heard p g start ws r n
 unfolding oldCosts
 heard-old p g true ws r n h = heard-zeros p g ws r n h
 heard-old p g false ws r n h = heard-expansion p g ws r n h
@@ -140,13 +140,13 @@ expand-accepts p ws r out W f e =
     (append-nil (expansion (ruleFor p) ws r))
 
 -- what the old record sent
-pub recall-first : (p : ℕ) (first : Bool) (ws r out new : List ℕ) → RecallRoom p first ws r out → first ≡ true → new ≡ tab (λ x. 0) (length out) → new ≡ oldCosts p first ws r
+pub recall-first : (p : ℕ) (start : Bool) (ws r out new : List ℕ) → RecallRoom p start ws r out → start ≡ true → new ≡ tab (λ x. 0) (length out) → new ≡ oldCosts p start ws r
 unfolding oldCosts
-recall-first p first ws r out new R f e = e ∙ rw (f, R .full)
+recall-first p start ws r out new R f e = e ∙ rw (f, R .full)
 
-pub recall-later : (p : ℕ) (first : Bool) (ws r out new : List ℕ) → RecallRoom p first ws r out → first ≡ false → new ≡ expandLeaves p ws r out → new ≡ oldCosts p first ws r
+pub recall-later : (p : ℕ) (start : Bool) (ws r out new : List ℕ) → RecallRoom p start ws r out → start ≡ false → new ≡ expandLeaves p ws r out → new ≡ oldCosts p start ws r
 unfolding oldCosts
-recall-later p first ws r out new R f e = e ∙ expand-accepts p ws r out (R .weighed) (R .form f) (R .full) ∙ rw f
+recall-later p start ws r out new R f e = e ∙ expand-accepts p ws r out (R .weighed) (R .form f) (R .full) ∙ rw f
 
 module _ (p : ℕ) (ws Q : List ℕ) (D : Ready p ws Q) where
   pub ready-weighed : Weighed p ws
@@ -179,15 +179,15 @@ module _ (p : ℕ) (ws Q : List ℕ) (D : Ready p ws Q) where
     o ∙ messages-pass r out e f (λ k. out) _ ∙ rw (← f, drop-length out) (append-nil (allSent (ruleFor p) (columnsOf (2 ^ p) ws Q))),
   )
 
-module _ (p g : ℕ) (first : Bool) (cs ws P r Q S : List ℕ) (U : UpdateRoom p g first cs ws P r Q S) where
+module _ (p g : ℕ) (start : Bool) (cs ws P r Q S : List ℕ) (U : UpdateRoom p g start cs ws P r Q S) where
   abbrev pub arrived : List ℕ
-  arrived = gatheredCosts P cs (oldCosts p first ws r) g (2 ^ p) (length cs) Q
+  arrived = gatheredCosts P cs (oldCosts p start ws r) g (2 ^ p) (length cs) Q
 
-  pub arrived-columns : columnsOf (2 ^ p) ws arrived ≡ columnsNow p g first cs ws r P
+  pub arrived-columns : columnsOf (2 ^ p) ws arrived ≡ columnsNow p g start cs ws r P
   arrived-columns =
       let e : length (edgesOf cs ws) ≡ length cs = length-edges cs ws (U .same) in
-      gathered-arriving p cs ws (U .same) P (oldCosts p first ws r) Q g
-      ∙ arriving-ext p (edgesOf cs ws) _ _ P (λ n h. heard-old p g first ws r n (omega (arith, U .same)) ∙ ap (λ w. heard p g first w r n) (sym (weights-edges cs ws (U .same))))
+      gathered-arriving p cs ws (U .same) P (oldCosts p start ws r) Q g
+      ∙ arriving-ext p (edgesOf cs ws) _ _ P (λ n h. heard-old p g start ws r n (omega (arith, U .same)) ∙ ap (λ w. heard p g start w r n) (sym (weights-edges cs ws (U .same))))
 
   pub arrived-ready : Ready p ws arrived
   arrived-ready =
@@ -199,12 +199,12 @@ module _ (p g : ℕ) (first : Bool) (cs ws P r Q S : List ℕ) (U : UpdateRoom p
         few = W .few;
         weight-some = W .some;
         weight-small = W .small;
-        count = length-gathered P cs (oldCosts p first ws r) g (2 ^ p) Q (length cs) (pow-pos p) (rw (U .same, U .for-costs) (omega arith)) ∙ U .for-costs;
+        count = length-gathered P cs (oldCosts p start ws r) g (2 ^ p) Q (length cs) (pow-pos p) (rw (U .same, U .for-costs) (omega arith)) ∙ U .for-costs;
         zeros = λ n h.
             let k : n < length cs = omega (arith, U .same) in
-            let e : costsAt (2 ^ p) arrived n ≡ oneColumn P cs (oldCosts p first ws r) g (2 ^ p) n = gathered-at P cs (oldCosts p first ws r) g (2 ^ p) Q n (length cs) (pow-pos p) k in
-            let l = length-incoming (2 ^ p) (pow-pos p) (columnOf (2 ^ p) P (getD cs n 0)) (map (scaled g) (part (oldCosts p first ws r) (n * 2 ^ p) (2 ^ p))) in
-            let z = zero-incoming (2 ^ p) (pow-pos p) (columnOf (2 ^ p) P (getD cs n 0)) (map (scaled g) (part (oldCosts p first ws r) (n * 2 ^ p) (2 ^ p))) in
+            let e : costsAt (2 ^ p) arrived n ≡ oneColumn P cs (oldCosts p start ws r) g (2 ^ p) n = gathered-at P cs (oldCosts p start ws r) g (2 ^ p) Q n (length cs) (pow-pos p) k in
+            let l = length-incoming (2 ^ p) (pow-pos p) (columnOf (2 ^ p) P (getD cs n 0)) (map (scaled g) (part (oldCosts p start ws r) (n * 2 ^ p) (2 ^ p))) in
+            let z = zero-incoming (2 ^ p) (pow-pos p) (columnOf (2 ^ p) P (getD cs n 0)) (map (scaled g) (part (oldCosts p start ws r) (n * 2 ^ p) (2 ^ p))) in
             rw e (omega (arith, first-zero z .0));
       }
 
@@ -221,7 +221,7 @@ module _ (p g : ℕ) (first : Bool) (cs ws P r Q S : List ℕ) (U : UpdateRoom p
         some = pow-pos p;
       }
 
-  pub send-fits : (q : ℕ) (old new out : List ℕ) → q ≡ 2 ^ p → old ≡ oldCosts p first ws r → new ≡ gatheredCosts P cs old g q (length cs) Q → length out ≡ length S → SendRoom p ws new r out
+  pub send-fits : (q : ℕ) (old new out : List ℕ) → q ≡ 2 ^ p → old ≡ oldCosts p start ws r → new ≡ gatheredCosts P cs old g q (length cs) Q → length out ≡ length S → SendRoom p ws new r out
   send-fits q old new out e o n l = rw (n, o, e) record { ready = arrived-ready; for-record = U .for-record; full = l ∙ U .recall .full }
 
   pub scatter-fits : (q : ℕ) (now new : List ℕ) → q ≡ 2 ^ p → length now ≡ length Q → length new ≡ length S → ScatterRoom now new cs g q P
@@ -229,7 +229,7 @@ module _ (p g : ℕ) (first : Bool) (cs ws P r Q S : List ℕ) (U : UpdateRoom p
       rw e record { columns = U .columns; for-q = rw (U .same, k, U .for-costs) (omega arith); for-new = rw (U .same, l, U .recall .full) (omega arith); scale = U .scale; some = pow-pos p }
 
   -- and what they leave
-  costs-is : scattered arrived (expansion (ruleFor p) ws (recordOf (ruleFor p) (columnsOf (2 ^ p) ws arrived))) cs g (2 ^ p) (length cs) P ≡ costsNow p g first cs ws r P
+  costs-is : scattered arrived (expansion (ruleFor p) ws (recordOf (ruleFor p) (columnsOf (2 ^ p) ws arrived))) cs g (2 ^ p) (length cs) P ≡ costsNow p g start cs ws r P
   unfolding costsNow
   costs-is =
       let k : length (edgesOf cs ws) ≡ length cs = length-edges cs ws (U .same) in
@@ -239,11 +239,11 @@ module _ (p g : ℕ) (first : Bool) (cs ws P r Q S : List ℕ) (U : UpdateRoom p
       heard-expansion p g ws new n (omega (arith, U .same)) ∙ ap (λ w. heard p g false w new n) (sym (weights-edges cs ws (U .same))))
       ∙ ap (λ c. spread p (edgesOf cs ws) c (heard p g false (weightsOf (edgesOf cs ws)) (recordOf (ruleFor p) c)) P) arrived-columns
 
-  pub update-is : (q : ℕ) (old now bytes new last : List ℕ) → q ≡ 2 ^ p → old ≡ oldCosts p first ws r → now ≡ gatheredCosts P cs old g q (length cs) Q
+  pub update-is : (q : ℕ) (old now bytes new last : List ℕ) → q ≡ 2 ^ p → old ≡ oldCosts p start ws r → now ≡ gatheredCosts P cs old g q (length cs) Q
       → bytes ≡ recordOf (ruleFor p) (columnsOf (2 ^ p) ws now)
       → new ≡ allSent (ruleFor p) (columnsOf (2 ^ p) ws now)
       → last ≡ scattered now new cs g q (length cs) P
-      → (last ≡ costsNow p g first cs ws r P) × (bytes ≡ recordNow p g first cs ws r P)
+      → (last ≡ costsNow p g start cs ws r P) × (bytes ≡ recordNow p g start cs ws r P)
   unfolding recordNow
   update-is q old now bytes new last e o n b s l =
       let i : now ≡ arrived = n ∙ rw (o, e) in

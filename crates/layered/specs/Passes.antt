@@ -51,14 +51,14 @@ recordAt p ds m s = part s (placeAt p ds m) (lengthAt p ds m)
 
 -- one update of check m
 unfoldable pub turnAt : Graph → Bool → ℕ → Lent → Lent
-turnAt T first m l =
+turnAt T start m l =
     record {
-      costs = costsNow (T .p) (T .scale) first (tableAt (T .degrees) (T .columns) m) (tableAt (T .degrees) (T .weights) m) (recordAt (T .p) (T .degrees) m (l .store)) (l .costs);
-      store = patch (l .store) (placeAt (T .p) (T .degrees) m) (lengthAt (T .p) (T .degrees) m) (recordNow (T .p) (T .scale) first (tableAt (T .degrees) (T .columns) m) (tableAt (T .degrees) (T .weights) m) (recordAt (T .p) (T .degrees) m (l .store)) (l .costs));
+      costs = costsNow (T .p) (T .scale) start (tableAt (T .degrees) (T .columns) m) (tableAt (T .degrees) (T .weights) m) (recordAt (T .p) (T .degrees) m (l .store)) (l .costs);
+      store = patch (l .store) (placeAt (T .p) (T .degrees) m) (lengthAt (T .p) (T .degrees) m) (recordNow (T .p) (T .scale) start (tableAt (T .degrees) (T .columns) m) (tableAt (T .degrees) (T .weights) m) (recordAt (T .p) (T .degrees) m (l .store)) (l .costs));
     }
 
 unfoldable pub passOver : Graph → Bool → Lent → Lent
-passOver T first l = upto (turnAt T first) (length (T .degrees)) l
+passOver T start l = upto (turnAt T start) (length (T .degrees)) l
 
 -- the decisions of n columns satisfy every check
 abbrev pub settledOn : Graph → ℕ → List ℕ → Bool
@@ -83,7 +83,7 @@ pub record Tables (C : Code) (T : Graph) : Type 0 where
   pub weights : take (length (tablesOf (C .checks) .edges .weights)) (T .weights) ≡ tablesOf (C .checks) .edges .weights
 
 -- the buffers hold a state of a run of some accepted code; in the first iteration no check has a record, later each has
-pub record Running (T : Graph) (first : Bool) (P store : List ℕ) : Type 0 where
+pub record Running (T : Graph) (start : Bool) (P store : List ℕ) : Type 0 where
   pub code : Code
   pub good : GoodCode code
   pub tables : Tables code T
@@ -91,17 +91,17 @@ pub record Running (T : Graph) (first : Bool) (P store : List ℕ) : Type 0 wher
   pub room : used code ≤ length old
   pub state : State
   pub kept : Kept code state
-  pub when : (m : ℕ) → m < length (code .checks) → When code first (lastOf state m)
+  pub when : (m : ℕ) → m < length (code .checks) → When code start (lastOf state m)
   pub ranged : Ranged code (state .costs)
   pub holds : lent P store ≡ lentOf code old state
 
 -- room to work in: two lists for the largest check's columns
-pub record PassRoom (T : Graph) (first : Bool) (P store A S : List ℕ) : Type 0 where
-  pub running : Running T first P store
+pub record PassRoom (T : Graph) (start : Bool) (P store A S : List ℕ) : Type 0 where
+  pub running : Running T start P store
   pub arrived : 2048 ≤ length A
   pub sent : 2048 ≤ length S
 
 -- and a symbol for each column
-pub record RunRoom (T : Graph) (first : Bool) (P store z : List ℕ) : Type 0 where
-  pub running : Running T first P store
+pub record RunRoom (T : Graph) (start : Bool) (P store z : List ℕ) : Type 0 where
+  pub running : Running T start P store
   pub symbols : length z ≡ running .code .columns

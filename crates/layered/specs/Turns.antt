@@ -17,18 +17,18 @@ use Rattle.layered.specs.Columns.{Below}
 
 -- what the old record sent, before scaling: its expansion; 0 in the first iteration
 unfoldable pub oldCosts : ℕ → Bool → List ℕ → List ℕ → List ℕ
-oldCosts p first ws r = pick first (tab (λ x. 0) (length ws * 2 ^ p)) (expansion (ruleFor p) ws r)
+oldCosts p start ws r = pick start (tab (λ x. 0) (length ws * 2 ^ p)) (expansion (ruleFor p) ws r)
 
 -- the columns of the update, its record, and P after it
 abbrev pub columnsNow : ℕ → ℕ → Bool → List ℕ → List ℕ → List ℕ → List ℕ → List Column
-columnsNow p g first cs ws r P = gathered p g first (edgesOf cs ws) r P
+columnsNow p g start cs ws r P = gathered p g start (edgesOf cs ws) r P
 
 unfoldable pub recordNow : ℕ → ℕ → Bool → List ℕ → List ℕ → List ℕ → List ℕ → List ℕ
-recordNow p g first cs ws r P = recordOf (ruleFor p) (columnsNow p g first cs ws r P)
+recordNow p g start cs ws r P = recordOf (ruleFor p) (columnsNow p g start cs ws r P)
 
 unfoldable pub costsNow : ℕ → ℕ → Bool → List ℕ → List ℕ → List ℕ → List ℕ → List ℕ
-costsNow p g first cs ws r P =
-    spread p (edgesOf cs ws) (columnsNow p g first cs ws r P) (heard p g false (weightsOf (edgesOf cs ws)) (recordOf (ruleFor p) (columnsNow p g first cs ws r P))) P
+costsNow p g start cs ws r P =
+    spread p (edgesOf cs ws) (columnsNow p g start cs ws r P) (heard p g false (weightsOf (edgesOf cs ws)) (recordOf (ruleFor p) (columnsNow p g start cs ws r P))) P
 
 -- the weights of an accepted check
 pub record Weighed (p : ℕ) (ws : List ℕ) : Type 0 where
@@ -40,9 +40,9 @@ pub record Weighed (p : ℕ) (ws : List ℕ) : Type 0 where
   pub small : (n : ℕ) → n < length ws → getD ws n 0 < 2 ^ p
 
 -- room for what the old record sent; a record is there after the first iteration
-pub record RecallRoom (p : ℕ) (first : Bool) (ws r out : List ℕ) : Type 0 where
+pub record RecallRoom (p : ℕ) (start : Bool) (ws r out : List ℕ) : Type 0 where
   pub weighed : Weighed p ws
-  pub form : first ≡ false → recordOk (ruleFor p) (length ws) r ≡ true
+  pub form : start ≡ false → recordOk (ruleFor p) (length ws) r ≡ true
   pub full : length out ≡ length ws * 2 ^ p
 
 -- a check that is accepted, room for its record and for its sent costs
@@ -52,8 +52,8 @@ pub record SendRoom (p : ℕ) (ws Q r out : List ℕ) : Type 0 where
   pub full : length out ≡ length ws * 2 ^ p
 
 -- room for an update: the lent costs and record, and two lists to work in
-pub record UpdateRoom (p g : ℕ) (first : Bool) (cs ws P r Q S : List ℕ) : Type 0 where
-  pub recall : RecallRoom p first ws r S
+pub record UpdateRoom (p g : ℕ) (start : Bool) (cs ws P r Q S : List ℕ) : Type 0 where
+  pub recall : RecallRoom p start ws r S
   pub same : length cs ≡ length ws
   pub columns : (k : ℕ) → k < length cs → getD cs k 0 * 2 ^ p + 2 ^ p ≤ length P
   pub small : Below 510 P

@@ -14,7 +14,7 @@ ghost use Rattle.layered.specs.Passes.{graph, lent, passOver, goOn, ende
 fn pass(
     p: u8,
     g: u16,
-    first: bool,
+    start: bool,
     degrees: &[u8],
     columns: &[u16],
     weights: &[u8],
@@ -23,8 +23,8 @@ fn pass(
     arrived: &mut [u8],
     sent: &mut [u8],
 )
-    requires { ⌜ PassRoom (graph p g (now degrees) (now columns) (now weights)) first (now costs) (now store) (now arrived) (now sent) ⌝ }
-    ensures { λ _. ⌜ lent (now (costs .exit)) (now (store .exit)) ≡ passOver (graph p g (now (degrees .entry)) (now (columns .entry)) (now (weights .entry))) first (lent (now (costs .entry)) (now (store .entry))) ⌝ }
+    requires { ⌜ PassRoom (graph p g (now degrees) (now columns) (now weights)) start (now costs) (now store) (now arrived) (now sent) ⌝ }
+    ensures { λ _. ⌜ lent (now (costs .exit)) (now (store .exit)) ≡ passOver (graph p g (now (degrees .entry)) (now (columns .entry)) (now (weights .entry))) start (lent (now (costs .entry)) (now (store .entry))) ⌝ }
 {
     let q = num::size(p);
     let groups = 5 * (q - 1);
@@ -39,7 +39,7 @@ fn pass(
         update::update(
             p,
             g,
-            first,
+            start,
             &columns[at..e],
             &weights[at..e],
             costs,

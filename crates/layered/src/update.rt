@@ -21,11 +21,11 @@ fn clear(out: &mut [u8])
 }
 
 // What the old record sent, before scaling; "0 if none".
-fn recall(p: u8, first: bool, weights: &[u8], bytes: &[u8], out: &mut [u8])
-    requires { ⌜ RecallRoom p first (now weights) (now bytes) (now out) ⌝ }
-    ensures { λ _. ⌜ now (out .exit) ≡ oldCosts p first (now (weights .entry)) (now (bytes .entry)) ⌝ }
+fn recall(p: u8, start: bool, weights: &[u8], bytes: &[u8], out: &mut [u8])
+    requires { ⌜ RecallRoom p start (now weights) (now bytes) (now out) ⌝ }
+    ensures { λ _. ⌜ now (out .exit) ≡ oldCosts p start (now (weights .entry)) (now (bytes .entry)) ⌝ }
 {
-    if first {
+    if start {
         clear(out);
         return;
     }
@@ -45,7 +45,7 @@ fn send(p: u8, weights: &[u8], costs: &[u8], bytes: &mut [u8], out: &mut [u8])
 pub fn update(
     p: u8,
     g: u16,
-    first: bool,
+    start: bool,
     columns: &[u16],
     weights: &[u8],
     costs: &mut [u16],
@@ -53,12 +53,12 @@ pub fn update(
     arrived: &mut [u8],
     sent: &mut [u8],
 )
-    requires { ⌜ UpdateRoom p g first (now columns) (now weights) (now costs) (now bytes) (now arrived) (now sent) ⌝ }
-    ensures { λ _. ⌜ now (costs .exit) ≡ costsNow p g first (now (columns .entry)) (now (weights .entry)) (now (bytes .entry)) (now (costs .entry)) ⌝ }
-    ensures { λ _. ⌜ now (bytes .exit) ≡ recordNow p g first (now (columns .entry)) (now (weights .entry)) (now (bytes .entry)) (now (costs .entry)) ⌝ }
+    requires { ⌜ UpdateRoom p g start (now columns) (now weights) (now costs) (now bytes) (now arrived) (now sent) ⌝ }
+    ensures { λ _. ⌜ now (costs .exit) ≡ costsNow p g start (now (columns .entry)) (now (weights .entry)) (now (bytes .entry)) (now (costs .entry)) ⌝ }
+    ensures { λ _. ⌜ now (bytes .exit) ≡ recordNow p g start (now (columns .entry)) (now (weights .entry)) (now (bytes .entry)) (now (costs .entry)) ⌝ }
 {
     let q = num::size(p);
-    recall(p, first, weights, bytes, sent);
+    recall(p, start, weights, bytes, sent);
     column::gather(costs, columns, sent, g, q, arrived);
     send(p, weights, arrived, bytes, sent);
     column::scatter(arrived, sent, columns, g, q, costs);

@@ -12,7 +12,7 @@ use lib.Seq.{take-at}
 use borrow.Author.Tests.{le-ltb, ne-eqb}
 use Rattle.trellis.specs.Lists.{pick}
 use Rattle.trellis.specs.Check.{shift, sent}
-use Rattle.trellis.specs.Record.{recordOf}
+use Rattle.trellis.specs.Record.{recordOf, recordLength}
 use Rattle.trellis.specs.Reply.{Reply}
 use Rattle.machine.specs.CodeLine.{Code, size, rule, check}
 use Rattle.machine.specs.Machine.{Last, none, made, State, lastOf, columnsIn, Status, found, notFound, run, records, used, recordIn}
@@ -88,7 +88,7 @@ records-agree C G f f′ i i′ = (
     rec : (f : List ℕ) → 0 < run C f .end .t → (m : ℕ) → m < length (C .checks) → recordIn C (lastOf (run C f .end) m) ≡ recordOf (rule C) (lastUpdate C f m)
     rec f i m h = last-record C G (run C f .end) (run-reached C G f) i m h
 
-    len : (f : List ℕ) → 0 < run C f .end .t → (m : ℕ) → m < length (C .checks) → length (recordIn C (lastOf (run C f .end) m)) ≡ length (check C m) + 5 * (size C - 1)
+    len : (f : List ℕ) → 0 < run C f .end .t → (m : ℕ) → m < length (C .checks) → length (recordIn C (lastOf (run C f .end) m)) ≡ recordLength (rule C) (length (check C m))
     len f i m h = last-length C G (run C f .end) (run-reached C G f) i m h
 
     count : (m : ℕ) → m < length (C .checks) → length (lastUpdate C f m) ≡ length (check C m)

@@ -8,6 +8,7 @@ use Rattle.trellis.specs.Field.{xor}
 use Rattle.trellis.specs.Check.{extra, sentAt, leastCost, choices, shift, decided, sent}
 use Rattle.trellis.specs.Record.{recordOf, shifts, group, above}
 use Rattle.trellis.specs.Reply.{foundIn}
+use Rattle.trellis.specs.Rules.{firstOk}
 use Rattle.machine.specs.CodeLine.{Code, edge, good, parse, checks, checkAt, edges, readEdge, frameFault, rule}
 use Rattle.machine.specs.Machine.{scaled, run, go, iteration, update, spread, arriving, outgoing, incoming, message, settled, symbols, records, place, Status, found, notFound}
 use Rattle.machine.specs.Decoding.{decoding, inBuffers, After, lastUpdate}
@@ -16,10 +17,10 @@ abbrev line : List ℕ
 line = 2 ∷ 0 ∷ 3 ∷ 1 ∷ 16 ∷ 1 ∷ 3 ∷ 0 ∷ 0 ∷ 1 ∷ 0 ∷ 1 ∷ 1 ∷ 0 ∷ 2 ∷ 1 ∷ []
 
 abbrev code : Code
-code = record { p = 2; columns = 3; scale = 16; limit = 1; checks = (edge 0 1 ∷ edge 1 1 ∷ edge 2 1 ∷ []) ∷ [] }
+code = record { first = 2; columns = 3; scale = 16; limit = 1; checks = (edge 0 1 ∷ edge 1 1 ∷ edge 2 1 ∷ []) ∷ [] }
 
 pub reads : parse line ≡ good code
-unfolding parse checks checkAt edges readEdge
+unfolding parse firstOk checks checkAt edges readEdge
 reads = refl
 
 abbrev frame-1 : List ℕ
@@ -45,17 +46,17 @@ call f = decoding line f (7 ∷ 7 ∷ 7 ∷ 7 ∷ []) (replicate 13 7) (replicat
 pub example-1 : (call frame-1 .reply ≡ foundIn 1) × ((call frame-1 .symbols ≡ 1 ∷ 1 ∷ 0 ∷ 7 ∷ [])
     × ((call frame-1 .costs ≡ 1 ∷ 0 ∷ 7 ∷ 6 ∷ 1 ∷ 0 ∷ 11 ∷ 1 ∷ 0 ∷ 2 ∷ 1 ∷ 13 ∷ 7 ∷ [])
     × (call frame-1 .store ≡ 0 ∷ 1 ∷ 1 ∷ 4 ∷ 1 ∷ 5 ∷ 255 ∷ 0 ∷ 2 ∷ 2 ∷ 7 ∷ 255 ∷ 0 ∷ 3 ∷ 1 ∷ 7 ∷ 255 ∷ 0 ∷ 7 ∷ [])))
-unfolding decoding inBuffers parse checks checkAt edges readEdge frameFault place records run go iteration update spread arriving outgoing incoming message settled symbols sent leastCost choices xor recordOf shifts group above extra sentAt shift decided
+unfolding decoding inBuffers parse firstOk checks checkAt edges readEdge frameFault place records run go iteration update spread arriving outgoing incoming message settled symbols sent leastCost choices xor recordOf shifts group above extra sentAt shift decided
 example-1 = (refl, (refl, (refl, refl)))
 
 -- found at t = 0: the store is untouched
 pub example-0 : (call frame-0 .reply ≡ foundIn 0) × ((call frame-0 .symbols ≡ 0 ∷ 0 ∷ 0 ∷ 7 ∷ []) × ((call frame-0 .costs ≡ frame-0 ++ (7 ∷ [])) × (call frame-0 .store ≡ replicate 19 7)))
-unfolding decoding inBuffers parse checks checkAt edges readEdge frameFault place records run go iteration update spread arriving outgoing incoming message settled symbols sent leastCost choices xor recordOf shifts group above extra sentAt shift decided
+unfolding decoding inBuffers parse firstOk checks checkAt edges readEdge frameFault place records run go iteration update spread arriving outgoing incoming message settled symbols sent leastCost choices xor recordOf shifts group above extra sentAt shift decided
 example-0 = (refl, (refl, (refl, refl)))
 
 -- equal stores and different symbols
 pub equal-stores : (call frame-1 .store ≡ call frame-2 .store) × (call frame-2 .symbols ≡ 3 ∷ 1 ∷ 2 ∷ 7 ∷ [])
-unfolding decoding inBuffers parse checks checkAt edges readEdge frameFault place records run go iteration update spread arriving outgoing incoming message settled symbols sent leastCost choices xor recordOf shifts group above extra sentAt shift decided
+unfolding decoding inBuffers parse firstOk checks checkAt edges readEdge frameFault place records run go iteration update spread arriving outgoing incoming message settled symbols sent leastCost choices xor recordOf shifts group above extra sentAt shift decided
 equal-stores = (refl, refl)
 
 -- equal sent costs and different stores
@@ -64,7 +65,7 @@ sentIn f = map (λ n. map (sent (rule code) (lastUpdate code f 0) n) (upTo 4)) (
 
 pub equal-sents : (sentIn frame-3 ≡ sentIn frame-4) × ((call frame-3 .store ≡ 0 ∷ 1 ∷ 1 ∷ 0 ∷ 255 ∷ 0 ∷ 255 ∷ 0 ∷ 0 ∷ 255 ∷ 0 ∷ 255 ∷ 0 ∷ 0 ∷ 255 ∷ 0 ∷ 255 ∷ 0 ∷ 7 ∷ [])
     × (call frame-4 .store ≡ 0 ∷ 2 ∷ 2 ∷ 0 ∷ 255 ∷ 0 ∷ 255 ∷ 0 ∷ 0 ∷ 255 ∷ 0 ∷ 255 ∷ 0 ∷ 0 ∷ 255 ∷ 0 ∷ 255 ∷ 0 ∷ 7 ∷ []))
-unfolding decoding inBuffers parse checks checkAt edges readEdge frameFault place records run go iteration update spread arriving outgoing incoming message settled symbols sent leastCost choices xor recordOf shifts group above extra sentAt shift decided
+unfolding decoding inBuffers parse firstOk checks checkAt edges readEdge frameFault place records run go iteration update spread arriving outgoing incoming message settled symbols sent leastCost choices xor recordOf shifts group above extra sentAt shift decided
 equal-sents = (refl, (refl, refl))
 
 -- Columns of the two runs below: a cost is scaled down to a whole number; a difference of 257 is capped; of differences below 0 the least is
@@ -80,7 +81,7 @@ columns = (refl, (refl, (refl, refl)))
 -- and 9 256 0 257 in column 2. In the second, check 0 subtracts what it sent before: from column 0 1 0 3 5, which is 10/16 of 2 0 6 8. Check 1
 -- then has -7 244 -13 242 in column 2
 abbrev code-2 : ℕ → Code
-code-2 I = record { p = 2; columns = 4; scale = 10; limit = I; checks = (edge 0 1 ∷ edge 1 2 ∷ edge 2 2 ∷ []) ∷ (edge 1 1 ∷ edge 2 2 ∷ edge 3 3 ∷ []) ∷ [] }
+code-2 I = record { first = 2; columns = 4; scale = 10; limit = I; checks = (edge 0 1 ∷ edge 1 2 ∷ edge 2 2 ∷ []) ∷ (edge 1 1 ∷ edge 2 2 ∷ edge 3 3 ∷ []) ∷ [] }
 
 abbrev frame-5 : List ℕ
 frame-5 = 255 ∷ 0 ∷ 255 ∷ 4 ∷ 255 ∷ 0 ∷ 2 ∷ 9 ∷ 6 ∷ 255 ∷ 0 ∷ 255 ∷ 255 ∷ 0 ∷ 29 ∷ 21 ∷ []
@@ -110,7 +111,7 @@ two-iterations = record { status = refl; iterations = refl; costs = refl; decisi
 -- g = 16, and the two checks contradict each other at column 2: in the second iteration it has a symbol of cost 0 whose old scaled cost is 255,
 -- the greatest there is. With a smaller offset the difference would be cut off, and the frame not be found
 abbrev pub code-3 : Code
-code-3 = record { p = 2; columns = 5; scale = 16; limit = 2; checks = (edge 0 1 ∷ edge 1 1 ∷ edge 2 1 ∷ []) ∷ (edge 2 1 ∷ edge 3 1 ∷ edge 4 1 ∷ []) ∷ [] }
+code-3 = record { first = 2; columns = 5; scale = 16; limit = 2; checks = (edge 0 1 ∷ edge 1 1 ∷ edge 2 1 ∷ []) ∷ (edge 2 1 ∷ edge 3 1 ∷ edge 4 1 ∷ []) ∷ [] }
 
 abbrev pub frame-6 : List ℕ
 frame-6 = 0 ∷ 255 ∷ 255 ∷ 255 ∷ 0 ∷ 255 ∷ 255 ∷ 255 ∷ 9 ∷ 0 ∷ 0 ∷ 9 ∷ 0 ∷ 255 ∷ 255 ∷ 255 ∷ 255 ∷ 0 ∷ 255 ∷ 255 ∷ []
@@ -124,7 +125,7 @@ whole-offset = record { status = refl; iterations = refl; costs = refl; decision
 
 -- Checks of degree 2, one behind the other: each hands a column the other's costs
 abbrev code-4 : Code
-code-4 = record { p = 2; columns = 3; scale = 16; limit = 2; checks = (edge 0 1 ∷ edge 1 1 ∷ []) ∷ (edge 1 1 ∷ edge 2 3 ∷ []) ∷ [] }
+code-4 = record { first = 2; columns = 3; scale = 16; limit = 2; checks = (edge 0 1 ∷ edge 1 1 ∷ []) ∷ (edge 1 1 ∷ edge 2 3 ∷ []) ∷ [] }
 
 pub two-columns : Ends code-4 (0 ∷ 5 ∷ 7 ∷ 9 ∷ 4 ∷ 0 ∷ 8 ∷ 3 ∷ 6 ∷ 2 ∷ 0 ∷ 10 ∷ []) found 2
     (5 ∷ 0 ∷ 20 ∷ 9 ∷ 5 ∷ 0 ∷ 20 ∷ 9 ∷ 5 ∷ 9 ∷ 0 ∷ 20 ∷ [])
@@ -142,7 +143,7 @@ call-2 = decoding line-2 (0 ∷ 5 ∷ 7 ∷ 9 ∷ 4 ∷ 0 ∷ 8 ∷ 3 ∷ []) (r
 
 pub least-code : (call-2 .reply ≡ foundIn 1) × ((call-2 .symbols ≡ 0 ∷ 0 ∷ 7 ∷ []) × ((call-2 .costs ≡ 0 ∷ 1 ∷ 11 ∷ 8 ∷ 0 ∷ 1 ∷ 11 ∷ 8 ∷ 7 ∷ [])
     × (call-2 .store ≡ 1 ∷ 0 ∷ 4 ∷ 1 ∷ 5 ∷ 255 ∷ 0 ∷ 3 ∷ 1 ∷ 7 ∷ 255 ∷ 0 ∷ 8 ∷ 1 ∷ 9 ∷ 255 ∷ 0 ∷ 7 ∷ [])))
-unfolding decoding inBuffers parse checks checkAt edges readEdge frameFault place records run go iteration update spread arriving outgoing incoming message settled symbols sent leastCost choices xor recordOf shifts group above extra sentAt shift decided
+unfolding decoding inBuffers parse firstOk checks checkAt edges readEdge frameFault place records run go iteration update spread arriving outgoing incoming message settled symbols sent leastCost choices xor recordOf shifts group above extra sentAt shift decided
 least-code = (refl, (refl, (refl, refl)))
 
 -- refusals, in their order
@@ -190,5 +191,5 @@ table =
     []
 
 pub refusals : map answerTo table ≡ map (λ c. c .gives) table
-unfolding decoding inBuffers parse checks checkAt edges readEdge frameFault place records run go iteration update spread arriving outgoing incoming message settled symbols sent leastCost choices xor recordOf shifts group above extra sentAt shift decided
+unfolding decoding inBuffers parse firstOk checks checkAt edges readEdge frameFault place records run go iteration update spread arriving outgoing incoming message settled symbols sent leastCost choices xor recordOf shifts group above extra sentAt shift decided
 refusals = refl

@@ -96,7 +96,7 @@ module _ (C : Code) (G : GoodCode C) (s₀ : List ℕ) (room : used C ≤ length
       let k : place C m + len C m ≤ length s₀ = omega (arith, place-suc C m, place-mono C (suc m) (length (C .checks)) h) in
       simp (length-take, length-drop) (omega arith)
   length-piece m h (made cs) f =
-      record-length (rule C) cs (made-proper C G (check C m) (G .each-check m h) cs f) ∙ ap (λ d. d + 5 * (size C - 1)) (f .count)
+      record-length (rule C) cs (made-proper C G (check C m) (G .each-check m h) cs f) ∙ ap (recordLength (rule C)) (f .count)
 
   module _ (s : State) (K : Kept C s) where
     length-front : (m : ℕ) → m ≤ length (C .checks) → length (blocks (λ m. pieceOf C s₀ m (lastOf s m)) m) ≡ place C m
@@ -127,26 +127,26 @@ module _ (C : Code) (G : GoodCode C) (s₀ : List ℕ) (room : used C ≤ length
 
   -- what a record's expansion says is what its columns were sent
   heard-made : (es : List Edge) → GoodCheck (C .columns) (size C) es → (cs : List Column) → Made C es cs → (n : ℕ) → n < length es
-      → heard (C .p) (C .scale) false (weightsOf es) (recordOf (rule C) cs) n ≡ message (C .p) (C .scale) (made cs) n
+      → heard (rule C) (C .scale) false (weightsOf es) (recordOf (rule C) cs) n ≡ message (rule C) (C .scale) (made cs) n
   unfolding heard message
   heard-made es H cs M n h =
       rw (← M .same) (map-ext (λ x i. ap (scaled (C .scale)) (expand-record (rule C) cs (made-proper C G es H cs M) n x (omega (arith, M .count)) (of-upTo i))))
 
-  heard-message : (es : List Edge) → GoodCheck (C .columns) (size C) es → (first : Bool) (m : ℕ) (l : Last) → Fine C es l → When C first l → (n : ℕ) → n < length es
-      → heard (C .p) (C .scale) first (weightsOf es) (pieceOf C s₀ m l) n ≡ message (C .p) (C .scale) l n
+  heard-message : (es : List Edge) → GoodCheck (C .columns) (size C) es → (start : Bool) (m : ℕ) (l : Last) → Fine C es l → When C start l → (n : ℕ) → n < length es
+      → heard (rule C) (C .scale) start (weightsOf es) (pieceOf C s₀ m l) n ≡ message (rule C) (C .scale) l n
   unfolding heard message
   heard-message es H true m none f w n h = refl
   heard-message es H true m (made cs) f w n h = let z : _≡_ {A = ℕ} 0 1 = cc in absurd (omega arith)
   heard-message es H false m none f w n h = absurd w
   heard-message es H false m (made cs) f w n h = heard-made es H cs f n h
 
-  pub turn-stands : (first : Bool) (s : State) → Kept C s → (m : ℕ) → m < length (C .checks) → When C first (lastOf s m)
-      → turn C first m (lentOf C s₀ s) ≡ lentOf C s₀ (update C m s)
+  pub turn-stands : (start : Bool) (s : State) → Kept C s → (m : ℕ) → m < length (C .checks) → When C start (lastOf s m)
+      → turn C start m (lentOf C s₀ s) ≡ lentOf C s₀ (update C m s)
   unfolding turn update
-  turn-stands first s K m h w =
+  turn-stands start s K m h w =
       ap₂ (λ a b. record { costs = a; store = b })
-      (ap (λ cs. spread (C .p) es cs (heard (C .p) (C .scale) false (weightsOf es) (recordOf (rule C) cs)) (s .costs)) same
-      ∙ spread-ext (C .p) es now _ _ (s .costs) (heard-made es H now M))
+      (ap (λ cs. spread (size C) es cs (heard (rule C) (C .scale) false (weightsOf es) (recordOf (rule C) cs)) (s .costs)) same
+      ∙ spread-ext (size C) es now _ _ (s .costs) (heard-made es H now M))
       (ap (λ cs. patch (held C s₀ s) (place C m) (len C m) (recordOf (rule C) cs)) same ∙ sym (held-update s K m h (update C m s) now (last-same C G s K m h) (last-other C G s K m h)))
     where
       es : List Edge
@@ -156,15 +156,15 @@ module _ (C : Code) (G : GoodCode C) (s₀ : List ℕ) (room : used C ≤ length
       H = G .each-check m h
 
       now : List Column
-      now = arriving (C .p) es (message (C .p) (C .scale) (lastOf s m)) (s .costs)
+      now = arriving (size C) es (message (rule C) (C .scale) (lastOf s m)) (s .costs)
 
       M : Made C es now
       M = arriving-made C es H _ (s .costs)
 
-      same : gathered (C .p) (C .scale) first es (part (held C s₀ s) (place C m) (len C m)) (s .costs) ≡ now
+      same : gathered (rule C) (C .scale) start es (part (held C s₀ s) (place C m) (len C m)) (s .costs) ≡ now
       same =
           rw (held-part s K m h)
-          (arriving-ext (C .p) es _ _ (s .costs) (heard-message es H first m (lastOf s m) (K .fine m h) w))
+          (arriving-ext (size C) es _ _ (s .costs) (heard-message es H start m (lastOf s m) (K .fine m h) w))
 
   -- the checks from k on are as they were
   pub untouched : (s : State) → Kept C s → (k : ℕ) → k ≤ length (C .checks) → (j : ℕ) → k ≤ j → lastOf (upto (update C) k s) j ≡ lastOf s j
@@ -172,17 +172,17 @@ module _ (C : Code) (G : GoodCode C) (s₀ : List ℕ) (room : used C ≤ length
   untouched s K (suc k) h j i =
       last-other C G (upto (update C) k s) (updates-kept C G s K k (omega arith) .0) k h j (omega arith) ∙ untouched s K k (omega arith) j (omega arith)
 
-  pub turns-stand : (first : Bool) (s : State) → Kept C s → ((m : ℕ) → m < length (C .checks) → When C first (lastOf s m)) → (k : ℕ) → k ≤ length (C .checks)
-      → upto (turn C first) k (lentOf C s₀ s) ≡ lentOf C s₀ (upto (update C) k s)
-  turns-stand first s K w zero h = refl
-  turns-stand first s K w (suc k) h =
-      ap (turn C first k) (turns-stand first s K w k (omega arith))
-      ∙ turn-stands first (upto (update C) k s) (updates-kept C G s K k (omega arith) .0) k h (rw (untouched s K k (omega arith) k (omega arith)) (w k h))
+  pub turns-stand : (start : Bool) (s : State) → Kept C s → ((m : ℕ) → m < length (C .checks) → When C start (lastOf s m)) → (k : ℕ) → k ≤ length (C .checks)
+      → upto (turn C start) k (lentOf C s₀ s) ≡ lentOf C s₀ (upto (update C) k s)
+  turns-stand start s K w zero h = refl
+  turns-stand start s K w (suc k) h =
+      ap (turn C start k) (turns-stand start s K w k (omega arith))
+      ∙ turn-stands start (upto (update C) k s) (updates-kept C G s K k (omega arith) .0) k h (rw (untouched s K k (omega arith) k (omega arith)) (w k h))
 
-  pub pass-stands : (first : Bool) (s : State) → Kept C s → ((m : ℕ) → m < length (C .checks) → When C first (lastOf s m))
-      → pass C first (lentOf C s₀ s) ≡ lentOf C s₀ (iteration C s)
+  pub pass-stands : (start : Bool) (s : State) → Kept C s → ((m : ℕ) → m < length (C .checks) → When C start (lastOf s m))
+      → pass C start (lentOf C s₀ s) ≡ lentOf C s₀ (iteration C s)
   unfolding pass iteration held
-  pass-stands first s K w = turns-stand first (record { costs = s .costs; last = s .last; t = s .t + 1 }) (record { full = K .full; fine = K .fine }) w (length (C .checks)) (omega arith)
+  pass-stands start s K w = turns-stand start (record { costs = s .costs; last = s .last; t = s .t + 1 }) (record { full = K .full; fine = K .fine }) w (length (C .checks)) (omega arith)
 
   iteration-t : (s : State) → iteration C s .t ≡ s .t + 1
   unfolding iteration update

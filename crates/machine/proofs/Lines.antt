@@ -1,6 +1,6 @@
 -- What a code line that is read has: the ranges of its numbers.
 use mathlib.Core.Path.{_≡_, refl, sym, ap}
-use mathlib.Core.Bool.{Bool, true, false}
+use mathlib.Core.Bool.{Bool, true, false, not}
 use mathlib.Core.Logic.{_≢_}
 use mathlib.Core.List.{List, [], _∷_}
 use Prim.Native.Nat.{ℕ, zero, suc, _+_, _*_, _-_, _^_, _≤_, _<_}
@@ -8,9 +8,11 @@ use native.Mathlib.Nat.{not-suc-le-zero}
 use native.Mathlib.Omega.{arith}
 use lib.Dec.{eqb, ltb, leb}
 use lib.ListN.{length, getD}
-use borrow.Author.Tests.{ltb-false, leb-false, eqb-false}
+use borrow.Author.Tests.{ltb-false, leb-false, eqb-false, not-false}
 use Rattle.trellis.specs.Lists.{pick}
-use Rattle.machine.specs.CodeLine.{Read, good, bad, then, Edge, Code, edge, wordAt, readEdge, edges, checkAt, checks, parse, size, check, edgeAt, Numbers, numbersOf}
+use Rattle.trellis.specs.Rules.{sizeOf, firstOk}
+use Rattle.trellis.proofs.Rules.{first-power}
+use Rattle.machine.specs.CodeLine.{Read, good, bad, then, Edge, Code, edge, wordAt, readEdge, edges, checkAt, checks, parse, power, size, check, edgeAt, Numbers, numbersOf}
 
 -- tests that refuse, in their order
 abbrev guard : {A : Type 0} → List (Bool × ℕ) → Read A → Read A
@@ -153,8 +155,9 @@ checks-good (suc c) s at n q total l f h =
         rw e (record { count = ap suc (r .count); each-check = at-more es k g (r .each-check); few-edges = omega (arith, r .few-edges) })
 
 pub record GoodCode (C : Code) : Type 0 where
-  pub p-low : 2 ≤ C .p
-  pub p-high : C .p ≤ 6
+  pub first : firstOk (C .first) ≡ true
+  pub p-low : 2 ≤ power C
+  pub p-high : power C ≤ 6
   pub columns-low : 1 ≤ C .columns
   pub columns-high : C .columns ≤ 256
   pub scale-low : 1 ≤ C .scale
@@ -168,26 +171,28 @@ pub record GoodCode (C : Code) : Type 0 where
 pub parse-good : (s : List ℕ) (C : Code) → parse s ≡ good C → GoodCode C
 unfolding parse
 parse-good s C h =
-    let p : ℕ = getD s 0 0 in
+    let f : ℕ = getD s 0 0 in
     let n : ℕ = wordAt s 1 in
     let m : ℕ = getD s 3 0 in
     let g : ℕ = getD s 4 0 in
     let i : ℕ = getD s 5 0 in
-    let a = passed ((ltb (length s) 6, 5) ∷ (ltb p 2, 6) ∷ (ltb 6 p, 6) ∷ (ltb n 1, 7) ∷ (ltb 256 n, 7) ∷ (ltb m 1, 7) ∷ (ltb 128 m, 7) ∷ (ltb g 1, 8) ∷ (ltb 16 g, 8) ∷ (ltb i 1, 8) ∷ []) _ C h in
-    let b = then-good (checks m s 6 n (2 ^ p) 0) _ C (a .1) in
-    let r = checks-good m s 6 n (2 ^ p) 0 (b .0) (omega arith) (b .1) in
-    let e : C ≡ record { p = p; columns = n; scale = g; limit = i; checks = b .0 } = sym (good-one _ C (b .2)) in
+    let a = passed ((ltb (length s) 6, 5) ∷ (not (firstOk f), 6) ∷ (ltb n 1, 7) ∷ (ltb 256 n, 7) ∷ (ltb m 1, 7) ∷ (ltb 128 m, 7) ∷ (ltb g 1, 8) ∷ (ltb 16 g, 8) ∷ (ltb i 1, 8) ∷ []) _ C h in
+    let b = then-good (checks m s 6 n (sizeOf f) 0) _ C (a .1) in
+    let r = checks-good m s 6 n (sizeOf f) 0 (b .0) (omega arith) (b .1) in
+    let e : C ≡ record { first = f; columns = n; scale = g; limit = i; checks = b .0 } = sym (good-one _ C (b .2)) in
+    let o : firstOk f ≡ true = not-false _ (a .0 .1 .0) in
     rw e
     record {
-      p-low = ltb-false _ _ (a .0 .1 .0);
-      p-high = ltb-false _ _ (a .0 .1 .1 .0);
-      columns-low = ltb-false _ _ (a .0 .1 .1 .1 .0);
-      columns-high = ltb-false _ _ (a .0 .1 .1 .1 .1 .0);
-      scale-low = ltb-false _ _ (a .0 .1 .1 .1 .1 .1 .1 .1 .0);
-      scale-high = ltb-false _ _ (a .0 .1 .1 .1 .1 .1 .1 .1 .1 .0);
-      limit-low = ltb-false _ _ (a .0 .1 .1 .1 .1 .1 .1 .1 .1 .1 .0);
-      checks-low = omega (arith, ltb-false m 1 (a .0 .1 .1 .1 .1 .1 .0), r .count);
-      checks-high = omega (arith, ltb-false 128 m (a .0 .1 .1 .1 .1 .1 .1 .0), r .count);
+      first = o;
+      p-low = first-power f o .0;
+      p-high = first-power f o .1;
+      columns-low = ltb-false _ _ (a .0 .1 .1 .0);
+      columns-high = ltb-false _ _ (a .0 .1 .1 .1 .0);
+      scale-low = ltb-false _ _ (a .0 .1 .1 .1 .1 .1 .1 .0);
+      scale-high = ltb-false _ _ (a .0 .1 .1 .1 .1 .1 .1 .1 .0);
+      limit-low = ltb-false _ _ (a .0 .1 .1 .1 .1 .1 .1 .1 .1 .0);
+      checks-low = omega (arith, ltb-false m 1 (a .0 .1 .1 .1 .1 .0), r .count);
+      checks-high = omega (arith, ltb-false 128 m (a .0 .1 .1 .1 .1 .1 .0), r .count);
       each-check = r .each-check;
       edges-high = omega (arith, r .few-edges);
     }

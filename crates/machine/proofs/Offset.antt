@@ -7,7 +7,7 @@ use native.Mathlib.Omega.{arith}
 use lib.ListN.{length, getD, length-replicate, getD-replicate}
 use Rattle.trellis.specs.Lists.{upto}
 use Rattle.trellis.specs.Check.{Column, column, blank, costAt}
-use Rattle.machine.specs.CodeLine.{Edge, Code, size, check, edgeAt, columnOf}
+use Rattle.machine.specs.CodeLine.{Edge, Code, size, check, edgeAt, columnOf, rule}
 use Rattle.machine.specs.Machine.{Last, none, made, State, lastOf, columnsIn, message, incoming, arriving, update, iteration, start, result, found, notFound, go, run, settled}
 use Rattle.machine.specs.Decoding.{Accepts}
 use Rattle.machine.proofs.Lists.{at-upTo, pick-elim}
@@ -28,7 +28,7 @@ abbrev pub costIn : Code → State → ℕ → ℕ → ℕ → ℕ
 costIn C s m n x = getD (columnOf (size C) (s .costs) (edgeAt (check C m) n .column)) x 0
 
 abbrev pub oldIn : Code → State → ℕ → ℕ → ℕ → ℕ
-oldIn C s m n x = getD (message (C .p) (C .scale) (lastOf s m) n) x 0
+oldIn C s m n x = getD (message (rule C) (C .scale) (lastOf s m) n) x 0
 
 abbrev pub arrivesIn : Code → State → ℕ → ℕ → ℕ → ℕ
 arrivesIn C s m n x = costAt (column (columnsIn (lastOf (update C m s) m)) n) x
@@ -44,7 +44,7 @@ pub record Uncut (C : Code) (s : State) (m n : ℕ) : Type 0 where
   pub arrives : (x : ℕ) → x < size C → arrivesIn C s m n x ≡ min 255 (costIn C s m n x + oldIn C s m n y - (costIn C s m n y + oldIn C s m n x))
 
 module _ (C : Code) (G : GoodCode C) where
-  message-below : (es : List Edge) → GoodCheck (C .columns) (size C) es → (l : Last) → Fine C es l → (n : ℕ) → n < length es → Below 255 (message (C .p) (C .scale) l n)
+  message-below : (es : List Edge) → GoodCheck (C .columns) (size C) es → (l : Last) → Fine C es l → (n : ℕ) → n < length es → Below 255 (message (rule C) (C .scale) l n)
   unfolding message
   message-below es H none f n h = below-upTo 255 (size C) (λ x. 0) (λ x i. omega arith)
   message-below es H (made cs) f n h = message-small C G es H cs f n h
@@ -67,7 +67,7 @@ module _ (C : Code) (G : GoodCode C) where
       P n = columnOf (size C) (s .costs) (edgeAt (check C m) n .column)
 
       old : ℕ → List ℕ
-      old = message (C .p) (C .scale) (lastOf s m)
+      old = message (rule C) (C .scale) (lastOf s m)
 
       f : ℕ → Column
       f n = record { weight = edgeAt (check C m) n .weight; costs = incoming (size C) (P n) (old n) }

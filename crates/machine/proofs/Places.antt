@@ -10,7 +10,7 @@ use lib.ListN.{length, take, drop, getD, length-map, length-append, length-take,
 use lib.Seq.{getD-take, getD-drop}
 use Rattle.trellis.specs.Lists.{each, part}
 use Rattle.trellis.specs.Field.{xor, product}
-use Rattle.machine.specs.CodeLine.{Edge, Code, check, edgeAt}
+use Rattle.machine.specs.CodeLine.{Edge, Code, check, edgeAt, power}
 use Rattle.machine.specs.Machine.{paritySum}
 use Rattle.machine.specs.Tables.{tablesOf, edgesOf, before, term, sumFrom}
 use Rattle.machine.proofs.Ranges.{part-front}
@@ -103,11 +103,11 @@ module _ (C : Code) (cs ws : List ℕ) (hc : take (length (tablesOf (C .checks) 
     pub weight-flat : (n : ℕ) → n < getD ds m 0 → getD ws (before ds m + n) 0 ≡ edgeAt (check C m) n .weight
     weight-flat n i = sym (rw (getD-take, getD-drop)) ∙ weight-table n
 
-    pub sum-flat : (z : List ℕ) (n : ℕ) → n ≤ getD ds m 0 → sumFrom (C .p) cs ws z (before ds m) n ≡ paritySum (C .p) (check C m) z n
+    pub sum-flat : (z : List ℕ) (n : ℕ) → n ≤ getD ds m 0 → sumFrom (power C) cs ws z (before ds m) n ≡ paritySum (power C) (check C m) z n
     unfolding sumFrom
     sum-flat z zero l = refl
     sum-flat z (suc n) l =
-        ap₂ xor (sum-flat z n (omega arith)) (ap₂ (λ u v. product (C .p) u (getD z v 0)) (weight-flat n (omega arith)) (column-flat n (omega arith)))
+        ap₂ xor (sum-flat z n (omega arith)) (ap₂ (λ u v. product (power C) u (getD z v 0)) (weight-flat n (omega arith)) (column-flat n (omega arith)))
 
   pub all-columns : before ds (length ds) ≤ length cs
   all-columns = rw (count, ← length-table (λ e. e .column) (C .checks)) (start-length cs (tablesOf (C .checks) .edges .columns) hc)

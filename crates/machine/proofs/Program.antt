@@ -18,7 +18,7 @@ use Rattle.trellis.proofs.Loops.{length-tab}
 use Rattle.trellis.proofs.Places.{length-count}
 use Rattle.trellis.proofs.Recurrence.{size-4}
 use Rattle.machine.specs.Line.{byteAt, lineBytes, lineOk}
-use Rattle.machine.specs.CodeLine.{Read, good, bad, Code, parse, size, frameFault}
+use Rattle.machine.specs.CodeLine.{Read, good, bad, Code, parse, size, frameFault, power}
 use Rattle.machine.specs.Machine.{Status, found, notFound, run, symbols}
 use Rattle.machine.specs.Printing.{digitsOf, Said, said, printed, ofFrame, frameSaid, frameLine}
 use Rattle.machine.specs.Decoding.{outcome}
@@ -217,7 +217,7 @@ decided-short code t C e f r h =
     let n : length y ≡ C .columns = simp length-map (length-count 0 (C .columns)) in
     let g = parse-good code C e in
     let i : length t / 2 ≡ C .columns * size C = sym (length-tab (byteAt t) (length t / 2)) ∙ frame-fits C (lineBytes t) f .0 in
-    let q : C .columns * 4 ≤ C .columns * size C = mul-le-mul (le-refl (C .columns)) (size-4 (C .p) (g .p-low)) in
+    let q : C .columns * 4 ≤ C .columns * size C = mul-le-mul (le-refl (C .columns)) (size-4 (power C) (g .p-low)) in
     let a : length (printed (said r y)) ≡ C .columns * 2 + 5 = length-printed (said r y) ∙ rw (h, n) refl in
     record { few = omega (arith, a, g .columns-high); fewer = omega (arith, a, i, q) }
 

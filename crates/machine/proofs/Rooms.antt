@@ -1,14 +1,15 @@
--- Buffers of 256 symbols, 16,384 costs and a store of 41,344 bytes are long enough for every accepted code line: 1,024 edges in all, and
--- at most 315 bytes more for each of at most 128 records.
+-- Buffers of 256 symbols, 16,384 costs and a store of 57,472 bytes are long enough for every accepted code line: 1,024 edges in all, and
+-- at most 441 bytes more for each of at most 128 records.
 use mathlib.Core.Path.{_≡_, ap, _∙_}
 use mathlib.Core.List.{List, [], _∷_}
-use Prim.Native.Nat.{ℕ, zero, suc, _+_, _*_, _≤_}
+use Prim.Native.Nat.{ℕ, zero, suc, _+_, _*_, _-_, _≤_}
 use native.Mathlib.Nat.{mul-le-mul, suc-mul}
 use native.Mathlib.Omega.{arith}
 use lib.Pow.{pow-mono}
 use lib.ListN.{length, getD}
 use Rattle.trellis.specs.Lists.{upto}
-use Rattle.trellis.specs.Record.{recordLength}
+use Rattle.trellis.specs.Record.{groupLength, recordLength}
+use Rattle.trellis.proofs.Rules.{most-few}
 use Rattle.machine.specs.CodeLine.{Edge, Code, size, rule}
 use Rattle.machine.specs.Machine.{place, used}
 use Rattle.machine.specs.Decoding.{Room}
@@ -30,15 +31,21 @@ module _ (C : Code) (G : GoodCode C) where
   size-high : size C ≤ 64
   size-high = pow-mono (G .p-high)
 
-  pub used-high : used C ≤ 41344
+  groups-high : groupLength (rule C) * (size C - 1) ≤ 441
+  groups-high =
+      let k : groupLength (rule C) ≤ 7 = omega (arith, most-few (C .first)) in
+      let n : size C - 1 ≤ 63 = omega (arith, size-high) in
+      mul-le-mul k n
+
+  pub used-high : used C ≤ 57472
   unfolding place
   used-high =
-      let s = sum-small (λ es. recordLength (rule C) (length es)) 315 (λ es. omega (arith, size-high)) (C .checks) in
+      let s = sum-small (λ es. recordLength (rule C) (length es)) 441 (λ es. omega (arith, groups-high)) (C .checks) in
       omega (arith, s, G .edges-high, G .checks-high)
 
   pub costs-high : C .columns * size C ≤ 16384
   costs-high = mul-le-mul (G .columns-high) size-high
 
-  pub roomy : (y c s : List ℕ) → length y ≡ 256 → length c ≡ 16384 → length s ≡ 41344 → Room C y c s
+  pub roomy : (y c s : List ℕ) → length y ≡ 256 → length c ≡ 16384 → length s ≡ 57472 → Room C y c s
   roomy y c s i j k =
       record { for-symbols = omega (arith, G .columns-high); for-costs = omega (arith, costs-high); for-store = omega (arith, used-high) }

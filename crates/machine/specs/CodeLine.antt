@@ -1,12 +1,12 @@
 -- The code line as bytes, read front to back, and the acceptance of a frame under it. SPEC 4, 5.
-use mathlib.Core.Bool.{Bool}
+use mathlib.Core.Bool.{Bool, not}
 use mathlib.Core.List.{List, [], _∷_}
-use Prim.Native.Nat.{ℕ, zero, suc, _+_, _-_, _*_, _^_}
+use Prim.Native.Nat.{ℕ, zero, suc, _+_, _-_, _*_}
 use lib.Dec.{eqb, ltb, leb}
 use lib.ListN.{length, getD}
 use Rattle.trellis.specs.Lists.{pick, allTo, part}
 use Rattle.trellis.specs.Check.{Rule, firstZero}
-use Rattle.trellis.specs.Rules.{ruleFor}
+use Rattle.trellis.specs.Rules.{powerOf, sizeOf, firstOk, ruleFor}
 
 -- what was read, or the number of the refusal
 pub data Read (A : Type 0) : Type 0 where
@@ -21,9 +21,9 @@ pub record Edge : Type 0 where
   pub column : ℕ
   pub weight : ℕ
 
--- p, N, g, I, and the edges of each check in code order
+-- the first byte, N, g, I, and the edges of each check in code order
 pub record Code : Type 0 where
-  pub p : ℕ
+  pub first : ℕ
   pub columns : ℕ
   pub scale : ℕ
   pub limit : ℕ
@@ -72,13 +72,12 @@ checks (suc c) s at n q total =
     then (checks c s (at + 1 + 3 * getD s at 0) n q (total + getD s at 0)) (λ (cs : List (List Edge)).
     good (es ∷ cs)))
 
--- the whole line: "p; N as two bytes, high first (1 to 256); M (1 to 128); scale g (1 to 16); iteration limit I (1 to 255). Then M checks";
+-- the whole line: "p", with k in the first byte; "N as two bytes, high first (1 to 256); M (1 to 128); scale g (1 to 16); iteration limit I (1 to 255). Then M checks";
 -- "5 if under six bytes, 6, 7, 8" (SPEC 4.1, 8.3)
 unfoldable pub parse : List ℕ → Read Code
 parse s =
     pick (ltb (length s) 6) (bad 5)
-    (pick (ltb (getD s 0 0) 2) (bad 6)
-    (pick (ltb 6 (getD s 0 0)) (bad 6)
+    (pick (not (firstOk (getD s 0 0))) (bad 6)
     (pick (ltb (wordAt s 1) 1) (bad 7)
     (pick (ltb 256 (wordAt s 1)) (bad 7)
     (pick (ltb (getD s 3 0) 1) (bad 7)
@@ -86,15 +85,18 @@ parse s =
     (pick (ltb (getD s 4 0) 1) (bad 8)
     (pick (ltb 16 (getD s 4 0)) (bad 8)
     (pick (ltb (getD s 5 0) 1) (bad 8)
-    (then (checks (getD s 3 0) s 6 (wordAt s 1) (2 ^ getD s 0 0) 0) (λ (cs : List (List Edge)).
-    good (record { p = getD s 0 0; columns = wordAt s 1; scale = getD s 4 0; limit = getD s 5 0; checks = cs }))))))))))))
+    (then (checks (getD s 3 0) s 6 (wordAt s 1) (sizeOf (getD s 0 0)) 0) (λ (cs : List (List Edge)).
+    good (record { first = getD s 0 0; columns = wordAt s 1; scale = getD s 4 0; limit = getD s 5 0; checks = cs })))))))))))
 
--- q, and the rule of a code
+-- p, q, and the rule of a code
+abbrev pub power : Code → ℕ
+power C = powerOf (C .first)
+
 abbrev pub size : Code → ℕ
-size C = 2 ^ C .p
+size C = sizeOf (C .first)
 
 abbrev pub rule : Code → Rule
-rule C = ruleFor (C .p)
+rule C = ruleFor (C .first)
 
 -- the edges of check m, and edge n of a check
 abbrev pub check : Code → ℕ → List Edge
@@ -118,9 +120,9 @@ frameFault C f =
     (pick (allTo (zeroIn (size C) f) (C .columns)) 0 13)
     12
 
--- the numbers of a code line before its checks: p, N, M, g, I (SPEC 4.1)
+-- the numbers of a code line before its checks: the first byte, N, M, g, I (SPEC 4.1)
 pub record Numbers : Type 0 where
-  pub p : ℕ
+  pub first : ℕ
   pub columns : ℕ
   pub checks : ℕ
   pub scale : ℕ
@@ -128,7 +130,7 @@ pub record Numbers : Type 0 where
 
 -- they are given where the whole line is accepted (SPEC 7.7.1)
 abbrev pub numbersOf : Read Code → Read Numbers
-numbersOf (good C) = good (record { p = C .p; columns = C .columns; checks = length (C .checks); scale = C .scale; limit = C .limit })
+numbersOf (good C) = good (record { first = C .first; columns = C .columns; checks = length (C .checks); scale = C .scale; limit = C .limit })
 numbersOf (bad k) = bad k
 
 -- N, where the code line is accepted (SPEC 7.7.5)

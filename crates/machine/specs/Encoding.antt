@@ -10,7 +10,7 @@ use lib.ListN.{length, getD, take, drop}
 use Rattle.trellis.specs.Lists.{pick, allTo}
 use Rattle.trellis.specs.Field.{quotient}
 use Rattle.trellis.specs.Reply.{Reply, accepted, refusal, foundIn}
-use Rattle.machine.specs.CodeLine.{Read, good, bad, Edge, Code, size, check, edgeAt, columnOf, parse}
+use Rattle.machine.specs.CodeLine.{Read, good, bad, Edge, Code, power, size, check, edgeAt, columnOf, parse}
 use Rattle.machine.specs.Machine.{paritySum, satisfied}
 use Rattle.machine.specs.Decoding.{After}
 
@@ -47,7 +47,7 @@ ownSymbol p es w = quotient p (lastWeight es) (paritySum p es w (length es - 1))
 -- the message, and the symbols of the first m checks after it
 unfoldable pub encodeTo : Code → List ℕ → ℕ → List ℕ
 encodeTo C u zero = u
-encodeTo C u (suc m) = encodeTo C u m ++ (ownSymbol (C .p) (check C m) (encodeTo C u m) ∷ [])
+encodeTo C u (suc m) = encodeTo C u m ++ (ownSymbol (power C) (check C m) (encodeTo C u m) ∷ [])
 
 abbrev pub encoded : Code → List ℕ → List ℕ
 encoded C u = encodeTo C u (length (C .checks))
@@ -90,7 +90,7 @@ encoding code u out = encodingUnder (parse code) u out
 pub record Codeword (C : Code) (w : List ℕ) : Type 0 where
   pub full : length w ≡ C .columns
   pub small : (i : ℕ) → i < length w → getD w i 0 < size C
-  pub holds : (m : ℕ) → m < length (C .checks) → satisfied (C .p) (check C m) w ≡ true
+  pub holds : (m : ℕ) → m < length (C .checks) → satisfied (power C) (check C m) w ≡ true
 
 -- "The first N - M symbols are the message, each check is satisfied, and no other word with that message satisfies them all."
 pub record Encodes (C : Code) (u w : List ℕ) : Type 0 where

@@ -1,15 +1,14 @@
 -- Document 01's layered machine: start, one update of a check, one iteration, the run with its result. SPEC 6.
 use mathlib.Core.Bool.{Bool}
 use mathlib.Core.List.{List, [], map}
-use Prim.Native.Nat.{ℕ, zero, suc, _+_, _-_, _*_, _/_, _^_, min}
+use Prim.Native.Nat.{ℕ, zero, suc, _+_, _-_, _*_, _/_, min}
 use lib.Dec.{eqb}
 use lib.ListN.{length, getD, set, replicate}
 use Rattle.trellis.specs.Lists.{upTo, smallest, pick, upto, allTo, patch, blocks}
 use Rattle.trellis.specs.Field.{xor, product}
-use Rattle.trellis.specs.Check.{Column, column, firstZero, sent}
+use Rattle.trellis.specs.Check.{Rule, Column, column, firstZero, sent}
 use Rattle.trellis.specs.Record.{recordOf, recordLength}
-use Rattle.trellis.specs.Rules.{ruleFor}
-use Rattle.machine.specs.CodeLine.{Edge, Code, size, rule, check, edgeAt, columnOf}
+use Rattle.machine.specs.CodeLine.{Edge, Code, power, size, rule, check, edgeAt, columnOf}
 
 -- a check's last update: none so far, or the columns (weights and Q) that it had. "its hard decisions, shifts and sent costs are those of
 -- this Q", and so is its record
@@ -44,16 +43,16 @@ satisfied p es z = eqb (paritySum p es z (length es)) 0
 
 -- the decisions "satisfy every check"
 unfoldable pub settled : Code → List ℕ → Bool
-settled C P = allTo (λ m. satisfied (C .p) (check C m) (symbols C P)) (length (C .checks))
+settled C P = allTo (λ m. satisfied (power C) (check C m) (symbols C P)) (length (C .checks))
 
 -- "The scaled cost is floor(g times sent cost / 16)." (SPEC 6.6)
 abbrev pub scaled : ℕ → ℕ → ℕ
 scaled g c = g * c / 16
 
 -- the scaled costs that column n was sent at a check's last update; "0 if none" (SPEC 6.5)
-unfoldable pub message : ℕ → ℕ → Last → ℕ → List ℕ
-message p g none n = map (λ x. 0) (upTo (2 ^ p))
-message p g (made cs) n = map (λ x. scaled g (sent (ruleFor p) cs n x)) (upTo (2 ^ p))
+unfoldable pub message : Rule → ℕ → Last → ℕ → List ℕ
+message R g none n = map (λ x. 0) (upTo (R .size))
+message R g (made cs) n = map (λ x. scaled g (sent R cs n x)) (upTo (R .size))
 
 abbrev pub lessLeast : List ℕ → List ℕ
 lessLeast l = map (λ v. v - smallest l) l
@@ -73,20 +72,20 @@ outgoing q Q new = lessLeast (map (λ x. getD Q x 0 + getD new x 0) (upTo q))
 
 -- the columns of an update of a check with the edges es, where column n's old scaled costs are old n
 unfoldable pub arriving : ℕ → List Edge → (ℕ → List ℕ) → List ℕ → List Column
-arriving p es old P =
-    map (λ n. record { weight = edgeAt es n .weight; costs = incoming (2 ^ p) (columnOf (2 ^ p) P (edgeAt es n .column)) (old n) }) (upTo (length es))
+arriving q es old P =
+    map (λ n. record { weight = edgeAt es n .weight; costs = incoming q (columnOf q P (edgeAt es n .column)) (old n) }) (upTo (length es))
 
 -- P after it, where column n's new scaled costs are new n
 unfoldable pub spread : ℕ → List Edge → List Column → (ℕ → List ℕ) → List ℕ → List ℕ
-spread p es cs new P =
-    upto (λ n (P : List ℕ). patch P (edgeAt es n .column * 2 ^ p) (2 ^ p) (outgoing (2 ^ p) (column cs n .costs) (new n))) (length es) P
+spread q es cs new P =
+    upto (λ n (P : List ℕ). patch P (edgeAt es n .column * q) q (outgoing q (column cs n .costs) (new n))) (length es) P
 
 -- "This is one update of the check", of check m (SPEC 6.5)
 unfoldable pub update : Code → ℕ → State → State
 update C m s =
-    let cs : List Column = arriving (C .p) (check C m) (message (C .p) (C .scale) (lastOf s m)) (s .costs) in
+    let cs : List Column = arriving (size C) (check C m) (message (rule C) (C .scale) (lastOf s m)) (s .costs) in
     record {
-      costs = spread (C .p) (check C m) cs (message (C .p) (C .scale) (made cs)) (s .costs);
+      costs = spread (size C) (check C m) cs (message (rule C) (C .scale) (made cs)) (s .costs);
       last = set (s .last) m (made cs);
       t = s .t;
     }

@@ -13,6 +13,7 @@ pub mod Before
 pub mod Ranks
 pub mod Kept
 pub mod Instances
+pub mod Rules
 pub mod FieldLaws
 pub mod Quotients
 pub mod Recurrence

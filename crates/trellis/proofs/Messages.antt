@@ -2,7 +2,7 @@
 use mathlib.Core.Path.{_≡_, refl, sym, ap, _∙_, subst}
 use mathlib.Core.Bool.{true}
 use mathlib.Core.List.{List, [], _∷_, map}
-use Prim.Native.Nat.{ℕ, _+_, _*_, _^_, _<_}
+use Prim.Native.Nat.{ℕ, _+_, _*_, _<_}
 use native.Mathlib.Nat.{mul-comm, zero-add}
 use lib.ListN.{length, getD, drop, length-map}
 use lib.Seq.{getD-take, getD-drop}
@@ -10,7 +10,7 @@ use Rattle.trellis.specs.Lists.{upTo, others, part}
 use Rattle.trellis.specs.Field.{product}
 use Rattle.trellis.specs.Check.{Rule, Column, IsLeast, weights, sent, allSent}
 use Rattle.trellis.specs.Record.{recordOf, recordLength, recordOk, expansion}
-use Rattle.trellis.specs.Rules.{ruleFor, columnsOf}
+use Rattle.trellis.specs.Rules.{ruleFor, powerOf, sizeOf, columnsOf}
 use Rattle.trellis.specs.Ready.{Ready}
 use Rattle.trellis.proofs.Places.{length-count, at-map-count, slice-each, length-each}
 use Rattle.trellis.proofs.Records.{expand-all, sent-exists}
@@ -42,33 +42,36 @@ module _ (R : Rule) (cs : List Column) where
       let e : getD (part (allSent R cs) (n * R .size) (R .size)) x 0 ≡ getD (allSent R cs) (n * R .size + x) 0 = rw (getD-take, getD-drop) in
       sym e ∙ ap (λ l. getD l x 0) at ∙ at-map-count (sent R cs n) 0 (R .size) x 0 h ∙ ap (sent R cs n) (zero-add x)
 
-module _ (p : ℕ) (ws cs : List ℕ) (D : Ready p ws cs) where
+module _ (f : ℕ) (ws cs : List ℕ) (D : Ready f ws cs) where
+  abbrev R : Rule
+  R = ruleFor f
+
   abbrev theColumns : List Column
-  theColumns = columnsOf (2 ^ p) ws cs
+  theColumns = columnsOf (sizeOf f) ws cs
 
   abbrev theRecord : List ℕ
-  theRecord = recordOf (ruleFor p) theColumns
+  theRecord = recordOf R theColumns
 
-  pub ready-length : length theRecord ≡ recordLength (ruleFor p) (length ws)
-  ready-length = record-length (ruleFor p) theColumns (ready-proper p ws cs D) ∙ ap (recordLength (ruleFor p)) (length-columns (2 ^ p) ws cs)
+  pub ready-length : length theRecord ≡ recordLength R (length ws)
+  ready-length = record-length R theColumns (ready-proper f ws cs D) ∙ ap (recordLength R) (length-columns (sizeOf f) ws cs)
 
   -- an expansion accepts it
-  pub ready-form : recordOk (ruleFor p) (length ws) theRecord ≡ true
-  ready-form = ap (λ d. recordOk (ruleFor p) d theRecord) (sym (length-columns (2 ^ p) ws cs)) ∙ record-ok (ruleFor p) theColumns (ready-proper p ws cs D)
+  pub ready-form : recordOk R (length ws) theRecord ≡ true
+  ready-form = ap (λ d. recordOk R d theRecord) (sym (length-columns (sizeOf f) ws cs)) ∙ record-ok R theColumns (ready-proper f ws cs D)
 
   -- and is all the sent costs
-  pub ready-messages : expansion (ruleFor p) ws theRecord ≡ allSent (ruleFor p) theColumns
+  pub ready-messages : expansion R ws theRecord ≡ allSent R theColumns
   ready-messages =
-      subst (λ (w : List ℕ). expansion (ruleFor p) w theRecord ≡ allSent (ruleFor p) theColumns) (weights-columns (2 ^ p) ws cs)
-      (expand-all (ruleFor p) theColumns (ready-proper p ws cs D))
+      subst (λ (w : List ℕ). expansion R w theRecord ≡ allSent R theColumns) (weights-columns (sizeOf f) ws cs)
+      (expand-all R theColumns (ready-proper f ws cs D))
 
-  pub ready-many : length (allSent (ruleFor p) theColumns) ≡ length ws * 2 ^ p
-  ready-many = length-sent (ruleFor p) theColumns ∙ ap (λ d. d * 2 ^ p) (length-columns (2 ^ p) ws cs)
+  pub ready-many : length (allSent R theColumns) ≡ length ws * sizeOf f
+  ready-many = length-sent R theColumns ∙ ap (λ d. d * sizeOf f) (length-columns (sizeOf f) ws cs)
 
   -- each of them the least cost that document 01 names
-  pub ready-least : (n x : ℕ) → n < length ws → x < 2 ^ p → IsLeast (ruleFor p) (others n theColumns) (product p (getD ws n 0) x) (getD (allSent (ruleFor p) theColumns) (n * 2 ^ p + x) 0)
+  pub ready-least : (n x : ℕ) → n < length ws → x < sizeOf f → IsLeast R (others n theColumns) (product (powerOf f) (getD ws n 0) x) (getD (allSent R theColumns) (n * sizeOf f + x) 0)
   ready-least n x l h =
-      let k : n < length theColumns = rw (length-columns (2 ^ p) ws cs) l in
-      rw (sent-place (ruleFor p) theColumns n x k h)
-      (subst (λ (c : Column). IsLeast (ruleFor p) (others n theColumns) (product p (c .weight) x) (sent (ruleFor p) theColumns n x)) (column-at (2 ^ p) ws cs n l)
-      (sent-exists (ruleFor p) theColumns (ready-proper p ws cs D) n x k h))
+      let k : n < length theColumns = rw (length-columns (sizeOf f) ws cs) l in
+      rw (sent-place R theColumns n x k h)
+      (subst (λ (c : Column). IsLeast R (others n theColumns) (product (powerOf f) (c .weight) x) (sent R theColumns n x)) (column-at (sizeOf f) ws cs n l)
+      (sent-exists R theColumns (ready-proper f ws cs D) n x k h))

@@ -8,11 +8,12 @@ use lib.Pow.{pow-mono}
 use lib.ListN.{length, getD, take, drop, length-take, length-drop}
 use lib.Seq.{drop-drop}
 use Rattle.trellis.specs.Check.{Column, firstZero, column}
-use Rattle.trellis.specs.Rules.{ruleFor, columnsOf, costsAt}
+use Rattle.trellis.specs.Rules.{ruleFor, powerOf, sizeOf, mostOf, columnsOf, costsAt}
 use Rattle.trellis.specs.Ready.{Ready}
 use Rattle.trellis.proofs.Sent.{Proper}
 use Rattle.trellis.proofs.FieldLaws.{fields-at}
-use Rattle.trellis.proofs.Instances.{Accepted, proper, sum-joins}
+use Rattle.trellis.proofs.Instances.{Accepted, proper}
+use Rattle.trellis.proofs.Rules.{first-power, first-joins, most-some}
 
 pub length-columns : (q : ℕ) (ws cs : List ℕ) → length (columnsOf q ws cs) ≡ length ws
 unfolding columnsOf
@@ -36,12 +37,12 @@ zero-member [] h = absurd (not-suc-le-zero h)
 zero-member (zero ∷ l) h = List·Memᴰ·head refl
 zero-member (suc x ∷ l) h = List·Memᴰ·tail (zero-member l (le-of-suc-le-suc h))
 
-module _ (p : ℕ) (ws cs : List ℕ) (D : Ready p ws cs) where
+module _ (f : ℕ) (ws cs : List ℕ) (D : Ready f ws cs) where
   abbrev q : ℕ
-  q = 2 ^ p
+  q = sizeOf f
 
   abbrev theColumns : List Column
-  theColumns = columnsOf (2 ^ p) ws cs
+  theColumns = columnsOf (sizeOf f) ws cs
 
   room : (n : ℕ) → n < length ws → n * q + q ≤ length ws * q
   room n h = rw suc-mul at (mul-le-mul-right q h)
@@ -49,9 +50,9 @@ module _ (p : ℕ) (ws cs : List ℕ) (D : Ready p ws cs) where
   pub costs-length : (n : ℕ) → n < length ws → length (costsAt q cs n) ≡ q
   costs-length n h = simp (length-take, length-drop) (omega (arith, D .count, room n h))
 
-  accepted : (n : ℕ) → n < length ws → Accepted p (column theColumns n)
+  accepted : (n : ℕ) → n < length ws → Accepted (powerOf f) (column theColumns n)
   accepted n h =
-      subst (λ c. Accepted p c) (sym (column-at q ws cs n h))
+      subst (λ c. Accepted (powerOf f) c) (sym (column-at q ws cs n h))
       record {
         weight-small = D .weight-small n h;
         weight-some = D .weight-some n h;
@@ -59,8 +60,14 @@ module _ (p : ℕ) (ws cs : List ℕ) (D : Ready p ws cs) where
         zero-in = zero-member (costsAt q cs n) (omega (arith, costs-length n h, D .zeros n h));
       }
 
-  pub ready-proper : Proper (ruleFor p) theColumns
+  pub ready-low : 2 ≤ powerOf f
+  ready-low = first-power f (D .first) .0
+
+  pub ready-high : powerOf f ≤ 6
+  ready-high = first-power f (D .first) .1
+
+  pub ready-proper : Proper (ruleFor f) theColumns
   ready-proper =
       let e : length theColumns ≡ length ws = length-columns q ws cs in
-      proper p (fields-at p (D .low) (D .high)) _+_ 2 theColumns (λ n l. accepted n (omega arith)) sum-joins (omega (arith, D .two)) (omega (arith, D .few)) (omega arith)
-      (omega (arith, pow-mono {i = 1} {j = p} (omega (arith, D .low))))
+      proper (powerOf f) (fields-at (powerOf f) ready-low ready-high) (ruleFor f .join) (mostOf f) theColumns (λ n l. accepted n (omega arith)) (first-joins f)
+      (omega (arith, D .two)) (omega (arith, D .few)) (omega (arith, most-some f)) (omega (arith, pow-mono {i = 1} {j = powerOf f} (omega (arith, ready-low))))

@@ -1,7 +1,10 @@
--- The rules of document 01, and a check as a caller hands it over: p, the weights, and the costs column by column.
+-- The rule that a first code byte stands for, and a check as a caller hands it over: this byte, the weights, and the costs column by column.
+use mathlib.Core.Bool.{Bool, cond, _&&_, _||_}
 use mathlib.Core.List.{List, [], _∷_}
-use Prim.Native.Nat.{ℕ, _+_, _^_, _*_}
+use Prim.Native.Nat.{ℕ, _+_, _^_, _*_, _/_, _%_, max}
+use lib.Dec.{leb, eqb}
 use lib.ListN.{take, drop}
+use Rattle.trellis.specs.Lists.{pick}
 use Rattle.trellis.specs.Field.{product}
 use Rattle.trellis.specs.Check.{Rule, Column}
 
@@ -9,9 +12,28 @@ use Rattle.trellis.specs.Check.{Rule, Column}
 abbrev pub ruleOf : ℕ → (ℕ → ℕ → ℕ) → ℕ → Rule
 ruleOf p op k = record { size = 2 ^ p; times = product p; join = op; most = k }
 
--- document 01: a choice costs the sum of its columns' Q, and has at most two deviations (SPEC 2.4)
+-- how the costs of a choice are joined: their sum, or the greatest of them
+abbrev pub joinOf : Bool → ℕ → ℕ → ℕ
+joinOf greatest = pick greatest max _+_
+
+-- the first code byte f. "p in its low digit"; q is 2 ^ p (SPEC 4.1)
+abbrev pub powerOf : ℕ → ℕ
+powerOf f = f % 16
+
+abbrev pub sizeOf : ℕ → ℕ
+sizeOf f = 2 ^ powerOf f
+
+-- "The number of deviations becomes k, 2 or 3; a first code byte of 22 to 26 hexadecimal means k = 3" (SPEC 4.1)
+abbrev pub mostOf : ℕ → ℕ
+mostOf f = cond (eqb (f / 16) 2) 3 2
+
+-- it is 02 to 06 or 22 to 26: "Refusal 6 covers the new first byte" (SPEC 8.2)
+unfoldable pub firstOk : ℕ → Bool
+firstOk f = (eqb (f / 16) 0 || eqb (f / 16) 2) && (leb 2 (powerOf f) && leb (powerOf f) 6)
+
+-- "A choice costs the sum of its columns' Q", and has at most k deviations (SPEC 2.4)
 abbrev pub ruleFor : ℕ → Rule
-ruleFor p = ruleOf p _+_ 2
+ruleFor f = ruleOf (powerOf f) _+_ (mostOf f)
 
 -- the columns: each weight with the next q costs
 unfoldable pub columnsOf : ℕ → List ℕ → List ℕ → List Column

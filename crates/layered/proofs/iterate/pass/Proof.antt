@@ -16,11 +16,11 @@ use Rattle.layered.proofs.iterate.pass.Statement.{statement}
 use Rattle.layered.proofs.iterate.pass.Tie as tie
 
 abbrev Inv-loop : tie.InvT-loop
-Inv-loop p g first degrees columns weights costs₀ store₀ arrived₀ sent₀ q groups m₀ at₀ place₀ costs store arrived sent m at place =
-    (m ≤ length degrees) × ((at ≡ before degrees m) × ((place ≡ placeAt p degrees m) × ((lent costs store ≡ upto (turnAt (graph p g degrees columns weights) first) m (lent costs₀ store₀)) × ((length costs ≡ length costs₀) × ((length store ≡ length store₀) × ((length arrived ≡ length arrived₀) × (length sent ≡ length sent₀)))))))
+Inv-loop p g start degrees columns weights costs₀ store₀ arrived₀ sent₀ q groups m₀ at₀ place₀ costs store arrived sent m at place =
+    (m ≤ length degrees) × ((at ≡ before degrees m) × ((place ≡ placeAt p degrees m) × ((lent costs store ≡ upto (turnAt (graph p g degrees columns weights) start) m (lent costs₀ store₀)) × ((length costs ≡ length costs₀) × ((length store ≡ length store₀) × ((length arrived ≡ length arrived₀) × (length sent ≡ length sent₀)))))))
 
 abbrev μ-loop : tie.MeasureT-loop
-μ-loop p g first degrees columns weights costs₀ store₀ arrived₀ sent₀ q groups m₀ at₀ place₀ costs store arrived sent m at place =
+μ-loop p g start degrees columns weights costs₀ store₀ arrived₀ sent₀ q groups m₀ at₀ place₀ costs store arrived sent m at place =
     length degrees - m
 
 -- the check's parts of the tables, of the store and of the lists to work in are inside
@@ -36,7 +36,7 @@ places c =
     let z = l .before in
     let s = z .before .before .before .before .before .before .before .before in
     let a = s .args in
-    turn-places (a .p) (a .g) (a .degrees .now) (a .columns .now) (a .weights .now) (a .costs .now) (a .store .now) (a .first) (s .pre .running) (l .loop .m) (l .loop .at) (l .loop .place) (c .index .result) (z .size .result) (5 * (z .size .result - 1)) (omega arith) (l .loop .inv .1 .0) (l .loop .inv .1 .1 .0) (c .index .ensures .0) (z .size .ensures .0) refl
+    turn-places (a .p) (a .g) (a .degrees .now) (a .columns .now) (a .weights .now) (a .costs .now) (a .store .now) (a .start) (s .pre .running) (l .loop .m) (l .loop .at) (l .loop .place) (c .index .result) (z .size .result) (5 * (z .size .result - 1)) (omega arith) (l .loop .inv .1 .0) (l .loop .inv .1 .1 .0) (c .index .ensures .0) (z .size .ensures .0) refl
 
 size-requires : tie.Need-size-requires Inv-loop μ-loop
 size-requires c κs = search needs
@@ -143,7 +143,7 @@ update-requires c κs =
     let s = z .before .before .before .before .before .before .before .before in
     let a = s .args in
     let n : ℕ = i .index .result * z .size .result in
-    turn-asks (a .p) (a .g) (a .degrees .now) (a .columns .now) (a .weights .now) (a .costs .now) (a .store .now) (a .first) (s .pre .running) (l .loop .m) (l .loop .at) (l .loop .place) (i .index .result) (z .size .result) (5 * (z .size .result - 1)) (omega arith) (l .loop .inv .1 .0) (l .loop .inv .1 .1 .0) (i .index .ensures .0) (z .size .ensures .0) refl (l .loop .costs) (l .loop .store) (l .loop .inv .1 .1 .1 .0) (take n (l .loop .arrived)) (take n (l .loop .sent))
+    turn-asks (a .p) (a .g) (a .degrees .now) (a .columns .now) (a .weights .now) (a .costs .now) (a .store .now) (a .start) (s .pre .running) (l .loop .m) (l .loop .at) (l .loop .place) (i .index .result) (z .size .result) (5 * (z .size .result - 1)) (omega arith) (l .loop .inv .1 .0) (l .loop .inv .1 .1 .0) (i .index .ensures .0) (z .size .ensures .0) refl (l .loop .costs) (l .loop .store) (l .loop .inv .1 .1 .1 .0) (take n (l .loop .arrived)) (take n (l .loop .sent))
     (simp length-take (omega (arith, places i, s .pre .arrived, l .loop .inv .1 .1 .1 .1 .1 .1 .0)))
     (simp length-take (omega (arith, places i, s .pre .sent, l .loop .inv .1 .1 .1 .1 .1 .1 .1)))
 
@@ -171,9 +171,9 @@ loop-again c =
       (
         before-more (a .degrees .now) (l .loop .m) (l .loop .at) (i .index .result) (l .loop .inv .1 .0) (i .index .ensures .0),
         (
-          next-place (a .p) (a .g) (a .degrees .now) (a .columns .now) (a .weights .now) (a .costs .now) (a .store .now) (a .first) (s .pre .running) (l .loop .m) (l .loop .at) (l .loop .place) (i .index .result) (z .size .result) (5 * (z .size .result - 1)) (omega arith) (l .loop .inv .1 .0) (l .loop .inv .1 .1 .0) (i .index .ensures .0) (z .size .ensures .0) refl,
+          next-place (a .p) (a .g) (a .degrees .now) (a .columns .now) (a .weights .now) (a .costs .now) (a .store .now) (a .start) (s .pre .running) (l .loop .m) (l .loop .at) (l .loop .place) (i .index .result) (z .size .result) (5 * (z .size .result - 1)) (omega arith) (l .loop .inv .1 .0) (l .loop .inv .1 .1 .0) (i .index .ensures .0) (z .size .ensures .0) refl,
           (
-            turn-done (a .p) (a .g) (a .degrees .now) (a .columns .now) (a .weights .now) (a .costs .now) (a .store .now) (a .first) (s .pre .running) (l .loop .m) (l .loop .at) (l .loop .place) (i .index .result) (z .size .result) (5 * (z .size .result - 1)) (omega arith) (l .loop .inv .1 .0) (l .loop .inv .1 .1 .0) (i .index .ensures .0) (z .size .ensures .0) refl (l .loop .costs) (l .loop .store) (l .loop .inv .1 .1 .1 .0) _ _ (u .update .ensures .0) (u .update .ensures .1),
+            turn-done (a .p) (a .g) (a .degrees .now) (a .columns .now) (a .weights .now) (a .costs .now) (a .store .now) (a .start) (s .pre .running) (l .loop .m) (l .loop .at) (l .loop .place) (i .index .result) (z .size .result) (5 * (z .size .result - 1)) (omega arith) (l .loop .inv .1 .0) (l .loop .inv .1 .1 .0) (i .index .ensures .0) (z .size .ensures .0) refl (l .loop .costs) (l .loop .store) (l .loop .inv .1 .1 .1 .0) _ _ (u .update .ensures .0) (u .update .ensures .1),
             (
               omega (arith, u .update .kept, l .loop .inv .1 .1 .1 .1 .0),
               (
@@ -205,7 +205,7 @@ returns : tie.Need-returns Inv-loop μ-loop
 returns c =
     let l = c .before in
     let a = l .before .before .before .before .before .before .before .before .before .args in
-    pass-done (graph (a .p) (a .g) (a .degrees .now) (a .columns .now) (a .weights .now)) (a .first) (lent (a .costs .now) (a .store .now)) _ (l .loop .m) (omega arith) (l .loop .inv .1 .1 .1 .0)
+    pass-done (graph (a .p) (a .g) (a .degrees .now) (a .columns .now) (a .weights .now)) (a .start) (lent (a .costs .now) (a .store .now)) _ (l .loop .m) (omega arith) (l .loop .inv .1 .1 .1 .0)
 
 pub pass-spec : {M : Type 1} → statement M
 pass-spec =

@@ -1,0 +1,18 @@
+-- The fields one by one.
+use mathlib.Core.Bool.{false}
+use borrow.Author.Needs.{needs}
+use Rattle.rules.specs.declared.Rule.{Rule}
+use Rattle.rules.proofs.rule_of.Statement.{statement}
+use Rattle.rules.proofs.rule_of.Tie as tie
+
+power-requires : tie.Need-power-requires
+power-requires c κs = search needs
+
+most-requires : tie.Need-most-requires
+most-requires c κs = search needs
+
+returns : tie.Need-returns
+returns c = rw (c .before .power .ensures, c .most .ensures .0)
+
+pub rule-of-spec : {M : Type 1} → statement M
+rule-of-spec = tie.close (tie.spec power-requires most-requires returns)
