@@ -13,10 +13,10 @@ use Rattle.codeline.specs.Answers.{headerNumbers, degreesOf, columnsOf, 
 use Rattle.codeline.specs.Reading.{CountFits, checksIn, handed}
 
 -- the line is accepted, and these are the numbers of its code
-pub record Accepted (s : List ℕ) (p n m g limit : ℕ) : Type 0 where
+pub record Accepted (s : List ℕ) (first n m g limit : ℕ) : Type 0 where
   pub code : Code
   pub parsed : parse s ≡ good code
-  pub p-is : p ≡ code .p
+  pub first-is : first ≡ code .first
   pub columns-is : n ≡ code .columns
   pub checks-is : m ≡ length (code .checks)
   pub scale-is : g ≡ code .scale
@@ -30,19 +30,19 @@ module _ (s : List ℕ) (h : Header) (e : headerNumbers h ≡ numbersOf (parse s
       go (good C) o = let z : _≡_ {A = ℕ} 0 1 = cc in absurd (omega arith)
       go (bad l) o = cc
 
-  pub header-read : (p n m g limit : ℕ) → h ≡ HeaderRead p n m g limit → Accepted s p n m g limit
-  header-read p n m g limit i = go (parse s) refl (sym e ∙ ap headerNumbers i)
+  pub header-read : (first n m g limit : ℕ) → h ≡ HeaderRead first n m g limit → Accepted s first n m g limit
+  header-read first n m g limit i = go (parse s) refl (sym e ∙ ap headerNumbers i)
     where
       numbers : Numbers
-      numbers = record { p = p; columns = n; checks = m; scale = g; limit = limit }
+      numbers = record { first = first; columns = n; checks = m; scale = g; limit = limit }
 
-      go : (r : Read Code) → parse s ≡ r → numbersOf r ≡ good numbers → Accepted s p n m g limit
+      go : (r : Read Code) → parse s ≡ r → numbersOf r ≡ good numbers → Accepted s first n m g limit
       go (good C) j o =
-          let v : record { p = C .p; columns = C .columns; checks = length (C .checks); scale = C .scale; limit = C .limit } ≡ numbers = cc in
+          let v : record { first = C .first; columns = C .columns; checks = length (C .checks); scale = C .scale; limit = C .limit } ≡ numbers = cc in
           record {
             code = C;
             parsed = j;
-            p-is = sym (ap (λ (a : Numbers). a .p) v);
+            first-is = sym (ap (λ (a : Numbers). a .first) v);
             columns-is = sym (ap (λ (a : Numbers). a .columns) v);
             checks-is = sym (ap (λ (a : Numbers). a .checks) v);
             scale-is = sym (ap (λ (a : Numbers). a .scale) v);
@@ -51,8 +51,8 @@ module _ (s : List ℕ) (h : Header) (e : headerNumbers h ≡ numbersOf (parse s
       go (bad l) j o = let z : _≡_ {A = ℕ} 0 1 = cc in absurd (omega arith)
 
 -- entries handed over, where the line is accepted
-pub handed-is : (h : Header) (p n m g l : ℕ) → h ≡ HeaderRead p n m g l → (count k : ℕ) (from to : List ℕ) {r : List ℕ} → k ≡ count → r ≡ take k from → r ++ drop k to ≡ handed h count from to
-handed-is h p n m g l e count k from to i o = rw (e, o, i) refl
+pub handed-is : (h : Header) (f n m g l : ℕ) → h ≡ HeaderRead f n m g l → (count k : ℕ) (from to : List ℕ) {r : List ℕ} → k ≡ count → r ≡ take k from → r ++ drop k to ≡ handed h count from to
+handed-is h f n m g l e count k from to i o = rw (e, o, i) refl
 
 -- and what that leaves
 pub left-is : (s : List ℕ) (h : Header) → headerNumbers h ≡ numbersOf (parse s) → (f : Code → List ℕ) (count : ℕ) (from to : List ℕ) {r : List ℕ} → ((C : Code) → parse s ≡ good C → (count ≤ length from) × (take count from ≡ f C))
@@ -60,16 +60,16 @@ pub left-is : (s : List ℕ) (h : Header) → headerNumbers h ≡ numbersOf (par
 left-is s h e f count from to {r} t o = go h refl (parse s) refl e
   where
     go : (k : Header) → h ≡ k → (y : Read Code) → parse s ≡ y → headerNumbers h ≡ numbersOf y → r ≡ leftIn f y to
-    go (HeaderRead p n m g l) i (good C) j u =
+    go (HeaderRead b n m g l) i (good C) j u =
         let q = t C j in
         let c : length (f C) ≡ count = ap length (sym (q .1)) ∙ length-take-le count from (q .0) in
         (rw i at o) ∙ rw (q .1, c) refl
-    go (HeaderRead p n m g l) i (bad x) j u = let z : _≡_ {A = ℕ} 0 1 = cc in absurd (omega arith)
+    go (HeaderRead b n m g l) i (bad x) j u = let z : _≡_ {A = ℕ} 0 1 = cc in absurd (omega arith)
     go (HeaderRefused x) i (good C) j u = let z : _≡_ {A = ℕ} 0 1 = cc in absurd (omega arith)
     go (HeaderRefused x) i (bad y) j u = rw i at o
 
 pub checks-small : (h : Header) (edges : ℕ) → CountFits h edges → checksIn h ≤ 128
-checks-small (HeaderRead p n m g l) edges f = f .0
+checks-small (HeaderRead b n m g l) edges f = f .0
 checks-small (HeaderRefused k) edges f = omega arith
 
 module _ (s : List ℕ) (h : Header) (e : headerNumbers h ≡ numbersOf (parse s)) (C : Code) (a : parse s ≡ good C) where
@@ -77,15 +77,15 @@ module _ (s : List ℕ) (h : Header) (e : headerNumbers h ≡ numbersOf (parse s
   edges-small edges l f i = go h refl (e ∙ ap numbersOf a)
     where
       go : (k : Header) → h ≡ k → headerNumbers h ≡ numbersOf (good C) → edges ≤ length l
-      go (HeaderRead p n m g j) o u = let b = rw o at f in omega (arith, b)
+      go (HeaderRead b n m g j) o u = let r = rw o at f in omega (arith, r)
       go (HeaderRefused k) o u = let z : _≡_ {A = ℕ} 0 1 = cc in absurd (omega arith)
 
   pub taken-degrees : (ds : List ℕ) → take (length (C .checks)) ds ≡ degreesOf C → take (checksIn h) ds ≡ degreesOf C
   taken-degrees ds t = ap (λ n. take n ds) (go h refl (e ∙ ap numbersOf a)) ∙ t
     where
       go : (k : Header) → h ≡ k → headerNumbers h ≡ numbersOf (good C) → checksIn h ≡ length (C .checks)
-      go (HeaderRead p n m g j) o u =
-          let v : _≡_ {A = Numbers} (record { p = p; columns = n; checks = m; scale = g; limit = j }) (record { p = C .p; columns = C .columns; checks = length (C .checks); scale = C .scale; limit = C .limit }) = cc in
+      go (HeaderRead b n m g j) o u =
+          let v : _≡_ {A = Numbers} (record { first = b; columns = n; checks = m; scale = g; limit = j }) (record { first = C .first; columns = C .columns; checks = length (C .checks); scale = C .scale; limit = C .limit }) = cc in
           rw o (ap (λ (a : Numbers). a .checks) v)
       go (HeaderRefused k) o u = let z : _≡_ {A = ℕ} 0 1 = cc in absurd (omega arith)
 

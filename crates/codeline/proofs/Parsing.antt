@@ -1,8 +1,8 @@
 -- Steps of reading the code line into tables, and that the numbers with the tables are the whole line.
 use mathlib.Core.Path.{_≡_, refl, sym, subst, ap, _∙_}
-use mathlib.Core.Bool.{Bool, true, false, _||_}
+use mathlib.Core.Bool.{Bool, true, false, _||_, not}
 use mathlib.Core.List.{List, [], _∷_}
-use Prim.Native.Nat.{ℕ, zero, suc, _+_, _-_, _*_, _^_, _≤_, _<_}
+use Prim.Native.Nat.{ℕ, zero, suc, _+_, _-_, _*_, _≤_, _<_}
 use native.Mathlib.Numerals.{add-one}
 use native.Mathlib.Omega.{arith}
 use lib.Dec.{ltb, eqb}
@@ -10,6 +10,7 @@ use lib.ListN.{length, take, getD, set, length-map}
 use lib.Seq.{take-suc-set, length-take-le}
 use borrow.Author.Tests.{ltb-false, eq-eqb, ne-eqb, le-ltb, lt-leb}
 use Rattle.trellis.specs.Lists.{pick}
+use Rattle.trellis.specs.Rules.{sizeOf, firstOk}
 use Rattle.machine.specs.CodeLine.{Read, good, bad, then, Edge, edge, wordAt, readEdge, Code, checks, parse, Numbers, numbersOf}
 use Rattle.machine.specs.Tables.{flat, edgesInto, checkInto, Tables, tables, checksInto, tablesOf}
 use Rattle.machine.proofs.Tables.{pick-then, checks-into}
@@ -80,10 +81,14 @@ inside x low high e = go (ltb x low) e
 pub tested : {A : Type 0} (x y low high : ℕ) (r b : Bool) (u v : A) → r ≡ isOutside x low high → x ≡ y → r ≡ b → pick (isOutside y low high) u v ≡ pick b u v
 tested x y low high r b u v e i k = let o : isOutside y low high ≡ b = rw (← i) (sym e ∙ k) in ap (λ t. pick t u v) o
 
+-- and the test of the first byte
+pub first-tested : {A : Type 0} (x y : ℕ) (r b : Bool) (u v : A) → r ≡ firstOk x → x ≡ y → not r ≡ b → pick (not (firstOk y)) u v ≡ pick b u v
+first-tested x y r b u v e i k = let o : not (firstOk y) ≡ b = rw (← i, ← e) k in ap (λ t. pick t u v) o
+
 -- the numbers, past all tests
-pub head-read : (s : List ℕ) (p n m g i : ℕ) → p ≡ getD s 0 0 → n ≡ wordAt s 1 → m ≡ getD s 3 0 → g ≡ getD s 4 0 → i ≡ getD s 5 0 → 1 ≤ i
-    → good (record { p = p; columns = n; checks = m; scale = g; limit = i }) ≡ fromLimit s
-head-read s p n m g i e₀ e₁ e₃ e₄ e₅ l = rw (e₀, e₁, e₃, e₄, e₅) (simp (le-ltb (getD s 5 0) 1 (omega arith)))
+pub head-read : (s : List ℕ) (f n m g i : ℕ) → f ≡ getD s 0 0 → n ≡ wordAt s 1 → m ≡ getD s 3 0 → g ≡ getD s 4 0 → i ≡ getD s 5 0 → 1 ≤ i
+    → good (record { first = f; columns = n; checks = m; scale = g; limit = i }) ≡ fromLimit s
+head-read s f n m g i e₀ e₁ e₃ e₄ e₅ l = rw (e₀, e₁, e₃, e₄, e₅) (simp (le-ltb (getD s 5 0) 1 (omega arith)))
 
 -- two tests that refuse by one number
 pick-or : {A : Type 0} (a b : Bool) (x y : A) → pick (a || b) x y ≡ pick a x (pick b x y)
@@ -92,10 +97,10 @@ pick-or false b x y = refl
 
 -- a code from its numbers and its checks
 abbrev coded : Numbers → List (List Edge) → Code
-coded h l = record { p = h .p; columns = h .columns; scale = h .scale; limit = h .limit; checks = l }
+coded h l = record { first = h .first; columns = h .columns; scale = h .scale; limit = h .limit; checks = l }
 
 abbrev afterHead : List ℕ → Numbers → Read Code
-afterHead s h = then (checks (h .checks) s 6 (h .columns) (2 ^ h .p) 0) (λ (l : List (List Edge)). good (coded h l))
+afterHead s h = then (checks (h .checks) s 6 (h .columns) (sizeOf (h .first)) 0) (λ (l : List (List Edge)). good (coded h l))
 
 parse-head : (s : List ℕ) → parse s ≡ then (headOf s) (afterHead s)
 unfolding parse headOf
@@ -109,7 +114,7 @@ pub refused : (s ds cs ws : List ℕ) (k n : ℕ) → parse s ≡ bad k → (bad
 refused s ds cs ws k n e = (rw e refl, λ C g. let z : _≡_ {A = ℕ} 0 1 = cc in absurd (omega arith))
 
 -- a line whose numbers are h
-module _ (s : List ℕ) (h : Numbers) (e : headOf s ≡ good h) (q : ℕ) (i : q ≡ 2 ^ h .p) where
+module _ (s : List ℕ) (h : Numbers) (e : headOf s ≡ good h) (q : ℕ) (i : q ≡ sizeOf (h .first)) where
   abbrev rest : Read (List (List Edge))
   rest = checks (h .checks) s 6 (h .columns) q 0
 

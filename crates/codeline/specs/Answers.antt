@@ -8,7 +8,7 @@ use Rattle.codeline.specs.declared.Header.{Header}
 use Rattle.codeline.specs.declared.Header.the-variants.{Read as HeaderRead, Refused as HeaderRefused}
 
 abbrev pub headerNumbers : Header → Read Numbers
-headerNumbers (HeaderRead p n m g i) = good (record { p = p; columns = n; checks = m; scale = g; limit = i })
+headerNumbers (HeaderRead f n m g i) = good (record { first = f; columns = n; checks = m; scale = g; limit = i })
 headerNumbers (HeaderRefused k) = bad k
 
 -- a code's degrees, and all its columns and weights end to end

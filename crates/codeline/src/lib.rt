@@ -12,7 +12,7 @@ ghost use Rattle.codeline.specs.Answers.{headerNumbers, degreesOf, colum
 // The numbers of a code line, or the number of the refusal.
 pub enum Header {
     Read {
-        p: u8,
+        first: u8,
         columns: u16,
         checks: u8,
         scale: u8,

@@ -1,20 +1,12 @@
-// A byte as an index, the field's size, and copies of slices.
+// A byte as an index, and copies of slices.
 ghost use mathlib.Core.Path.{_≡_};
-ghost use Prim.Native.Nat.{_<_, _≤_, _^_};
+ghost use Prim.Native.Nat.{_<_};
 ghost use lib.ListN.{length};
 
 pub fn index(x: u8) -> usize
     ensures { λ r. ⌜ (r ≡ x) × (r < 256) ⌝ }
 {
     x as usize
-}
-
-// q = 2^p
-pub fn size(p: u8) -> usize
-    requires { ⌜ p ≤ 6 ⌝ }
-    ensures { λ r. ⌜ (r ≡ 2 ^ p) × (r ≤ 64) ⌝ }
-{
-    1usize << p
 }
 
 pub fn copy(from: &[u8], to: &mut [u8])

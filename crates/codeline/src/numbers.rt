@@ -28,7 +28,7 @@ fn refused(k: u8) -> Front
     }
 }
 
-// "p; N as two bytes, high first (1 to 256); M (1 to 128); scale g (1 to 16); iteration limit I (1 to 255)";
+// "p", with k in the first byte; "N as two bytes, high first (1 to 256); M (1 to 128); scale g (1 to 16); iteration limit I (1 to 255)";
 // "5 if under six bytes, 6, 7, 8".
 pub fn head(code: &[u8]) -> Front
     ensures { λ r. ⌜ headerNumbers (r .header) ≡ headOf (now (code .entry)) ⌝ }
@@ -37,11 +37,12 @@ pub fn head(code: &[u8]) -> Front
     if reader::left_at(code, 0) < 6 {
         return refused(5);
     }
-    let p = reader::byte_at(code, 0);
-    if outside(p.value, 2, 6) {
+    let f = reader::byte_at(code, 0);
+    let first = f.value as u8;
+    if !rules::accepted(first) {
         return refused(6);
     }
-    let n = reader::word_at(code, p.next);
+    let n = reader::word_at(code, f.next);
     if outside(n.value, 1, 256) {
         return refused(7);
     }
@@ -59,7 +60,7 @@ pub fn head(code: &[u8]) -> Front
     }
     Front {
         header: Header::Read {
-            p: p.value as u8,
+            first,
             columns: n.value as u16,
             checks: m.value as u8,
             scale: g.value as u8,

@@ -32,7 +32,7 @@ pub fn read(code: &[u8], degrees: &mut [u8], columns: &mut [u16], weights: &mut 
     let f = numbers::head(code);
     let h = f.header;
     let Header::Read {
-        p,
+        first,
         columns: n,
         checks: m,
         ..
@@ -40,7 +40,7 @@ pub fn read(code: &[u8], degrees: &mut [u8], columns: &mut [u16], weights: &mut 
     else {
         return refused(h);
     };
-    let q = num::size(p);
+    let q = rules::size(first);
     match checks::checks_at(
         code,
         f.next,

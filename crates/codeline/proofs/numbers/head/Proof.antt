@@ -8,34 +8,34 @@ use borrow.Author.Needs.{needs}
 use borrow.Author.Tests.{lt-ltb, le-ltb}
 use lib.ListN.{length, getD}
 use Rattle.machine.specs.CodeLine.{wordAt}
-use Rattle.codeline.specs.Reading.{ByteAt, WordAt, fromField, fromColumns, fromChecks, fromScale, fromLimit, headOf}
-use Rattle.codeline.proofs.Parsing.{byte-there, word-there, tested, inside, head-read}
+use Rattle.codeline.specs.Reading.{ByteAt, WordAt, fromFirst, fromColumns, fromChecks, fromScale, fromLimit, headOf}
+use Rattle.codeline.proofs.Parsing.{byte-there, word-there, tested, first-tested, inside, head-read}
 use Rattle.codeline.proofs.numbers.head.Statement.{statement}
 use Rattle.codeline.proofs.numbers.head.Tie as tie
 
--- the line, p, N, M, g and I; and what is left of the line past each test
+-- the line, the first byte, N, M, g and I; and what is left of the line past each test
 abbrev line1 : tie.Else1 → List ℕ
 line1 c = c .before .before .before .args .code .now
 
-past1 : (c : tie.Else1) → headOf (line1 c) ≡ fromField (line1 c)
+past1 : (c : tie.Else1) → headOf (line1 c) ≡ fromFirst (line1 c)
 unfolding headOf
 past1 c = simp (le-ltb (length (line1 c)) 6 (omega arith))
 
-field : (c : tie.After-byte-at) → ByteAt (c .byte-at .result) (line1 (c .before)) 0
-field c = c .byte-at .ensures
+first : (c : tie.After-byte-at) → ByteAt (c .byte-at .result) (line1 (c .before)) 0
+first c = c .byte-at .ensures
 
 abbrev line2 : tie.Else2 → List ℕ
-line2 c = line1 (c .before .before .before)
+line2 c = line1 (c .before .before .before .before)
 
 past2 : (c : tie.Else2) → headOf (line2 c) ≡ fromColumns (line2 c)
 past2 c =
-    let w = c .before .before in
-    past1 (w .before) ∙ tested _ (getD (line2 c) 0 0) 2 6 _ false _ _ (c .before .outside .ensures) (field w .0) (c .if2 .left)
+    let w = c .before .before .before in
+    past1 (w .before) ∙ first-tested _ (getD (line2 c) 0 0) _ false _ _ (c .before .accepted .ensures) (first w .0) (c .if2 .left)
 
 columns : (c : tie.After-word-at) → WordAt (c .word-at .result) (line2 (c .before)) 1
 columns c =
-    let p = c .before .before .before in
-    word-there (c .word-at .result) (line2 (c .before)) (p .byte-at .result .next) 1 (c .word-at .ensures) (field p .1 .1)
+    let p = c .before .before .before .before in
+    word-there (c .word-at .result) (line2 (c .before)) (p .byte-at .result .next) 1 (c .word-at .ensures) (first p .1 .1)
 
 abbrev line3 : tie.Else3 → List ℕ
 line3 c = line2 (c .before .before .before)
@@ -43,7 +43,7 @@ line3 c = line2 (c .before .before .before)
 past3 : (c : tie.Else3) → headOf (line3 c) ≡ fromChecks (line3 c)
 past3 c =
     let w = c .before .before in
-    past2 (w .before) ∙ tested _ (wordAt (line3 c) 1) 1 256 _ false _ _ (c .before .outside2 .ensures) (columns w .0) (c .if3 .left)
+    past2 (w .before) ∙ tested _ (wordAt (line3 c) 1) 1 256 _ false _ _ (c .before .outside .ensures) (columns w .0) (c .if3 .left)
 
 checks : (c : tie.After-byte-at2) → ByteAt (c .byte-at2 .result) (line3 (c .before)) 3
 checks c =
@@ -56,7 +56,7 @@ line4 c = line3 (c .before .before .before)
 past4 : (c : tie.Else4) → headOf (line4 c) ≡ fromScale (line4 c)
 past4 c =
     let w = c .before .before in
-    past3 (w .before) ∙ tested _ (getD (line4 c) 3 0) 1 128 _ false _ _ (c .before .outside3 .ensures) (checks w .0) (c .if4 .left)
+    past3 (w .before) ∙ tested _ (getD (line4 c) 3 0) 1 128 _ false _ _ (c .before .outside2 .ensures) (checks w .0) (c .if4 .left)
 
 scale : (c : tie.After-byte-at3) → ByteAt (c .byte-at3 .result) (line4 (c .before)) 4
 scale c =
@@ -69,7 +69,7 @@ line5 c = line4 (c .before .before .before)
 past5 : (c : tie.Else5) → headOf (line5 c) ≡ fromLimit (line5 c)
 past5 c =
     let w = c .before .before in
-    past4 (w .before) ∙ tested _ (getD (line5 c) 4 0) 1 16 _ false _ _ (c .before .outside4 .ensures) (scale w .0) (c .if5 .left)
+    past4 (w .before) ∙ tested _ (getD (line5 c) 4 0) 1 16 _ false _ _ (c .before .outside3 .ensures) (scale w .0) (c .if5 .left)
 
 limit : (c : tie.After-byte-at4) → ByteAt (c .byte-at4 .result) (line5 (c .before)) 5
 limit c =
@@ -89,8 +89,11 @@ returns c = rw (c .refused .ensures) (simp (lt-ltb (length (c .before .before .b
 byte-at-requires : tie.Need-byte-at-requires
 byte-at-requires c κs = omega arith
 
-outside-requires : tie.Need-outside-requires
-outside-requires c κs = search needs
+cast-first : tie.Need-cast-first
+cast-first c = omega (arith, first (c .before))
+
+accepted-requires : tie.Need-accepted-requires
+accepted-requires c κs = search needs
 
 refused-requires-2 : tie.Need-refused-requires-2
 refused-requires-2 c κs = search needs
@@ -98,15 +101,15 @@ refused-requires-2 c κs = search needs
 returns-2 : tie.Need-returns-2
 returns-2 c =
     let t = c .before in
-    let w = t .before .before in
+    let w = t .before .before .before in
     let e = w .before in
-    rw (c .refused2 .ensures) (sym (past1 e ∙ tested _ (getD (line1 e) 0 0) 2 6 _ true _ _ (t .before .outside .ensures) (field w .0) (t .if2 .taken)), tt)
+    rw (c .refused2 .ensures) (sym (past1 e ∙ first-tested _ (getD (line1 e) 0 0) _ true _ _ (t .before .accepted .ensures) (first w .0) (t .if2 .taken)), tt)
 
 word-at-requires : tie.Need-word-at-requires
-word-at-requires c κs = omega (arith, field (c .before .before))
+word-at-requires c κs = omega (arith, first (c .before .before .before))
 
-outside-requires-2 : tie.Need-outside-requires-2
-outside-requires-2 c κs = search needs
+outside-requires : tie.Need-outside-requires
+outside-requires c κs = search needs
 
 refused-requires-3 : tie.Need-refused-requires-3
 refused-requires-3 c κs = search needs
@@ -116,13 +119,13 @@ returns-3 c =
     let t = c .before in
     let w = t .before .before in
     let e = w .before in
-    rw (c .refused3 .ensures) (sym (past2 e ∙ tested _ (wordAt (line2 e) 1) 1 256 _ true _ _ (t .before .outside2 .ensures) (columns w .0) (t .if3 .taken)), tt)
+    rw (c .refused3 .ensures) (sym (past2 e ∙ tested _ (wordAt (line2 e) 1) 1 256 _ true _ _ (t .before .outside .ensures) (columns w .0) (t .if3 .taken)), tt)
 
 byte-at-requires-2 : tie.Need-byte-at-requires-2
 byte-at-requires-2 c κs = omega (arith, columns (c .before .before))
 
-outside-requires-3 : tie.Need-outside-requires-3
-outside-requires-3 c κs = search needs
+outside-requires-2 : tie.Need-outside-requires-2
+outside-requires-2 c κs = search needs
 
 refused-requires-4 : tie.Need-refused-requires-4
 refused-requires-4 c κs = search needs
@@ -132,13 +135,13 @@ returns-4 c =
     let t = c .before in
     let w = t .before .before in
     let e = w .before in
-    rw (c .refused4 .ensures) (sym (past3 e ∙ tested _ (getD (line3 e) 3 0) 1 128 _ true _ _ (t .before .outside3 .ensures) (checks w .0) (t .if4 .taken)), tt)
+    rw (c .refused4 .ensures) (sym (past3 e ∙ tested _ (getD (line3 e) 3 0) 1 128 _ true _ _ (t .before .outside2 .ensures) (checks w .0) (t .if4 .taken)), tt)
 
 byte-at-requires-3 : tie.Need-byte-at-requires-3
 byte-at-requires-3 c κs = omega (arith, checks (c .before .before))
 
-outside-requires-4 : tie.Need-outside-requires-4
-outside-requires-4 c κs = search needs
+outside-requires-3 : tie.Need-outside-requires-3
+outside-requires-3 c κs = search needs
 
 refused-requires-5 : tie.Need-refused-requires-5
 refused-requires-5 c κs = search needs
@@ -148,7 +151,7 @@ returns-5 c =
     let t = c .before in
     let w = t .before .before in
     let e = w .before in
-    rw (c .refused5 .ensures) (sym (past4 e ∙ tested _ (getD (line4 e) 4 0) 1 16 _ true _ _ (t .before .outside4 .ensures) (scale w .0) (t .if5 .taken)), tt)
+    rw (c .refused5 .ensures) (sym (past4 e ∙ tested _ (getD (line4 e) 4 0) 1 16 _ true _ _ (t .before .outside3 .ensures) (scale w .0) (t .if5 .taken)), tt)
 
 byte-at-requires-4 : tie.Need-byte-at-requires-4
 byte-at-requires-4 c κs = omega (arith, scale (c .before .before))
@@ -161,9 +164,6 @@ returns-6 c =
     let w = c .before .before .before in
     let e = w .before in
     rw (c .refused6 .ensures) (sym (past5 e ∙ simp (lt-ltb (getD (line5 e) 5 0) 1 (omega (arith, limit w)))), tt)
-
-cast-t13 : tie.Need-cast-t13
-cast-t13 c = omega (arith, c .before .before .before .before .before .before .before .before .before .before .before .before .before .before .before .byte-at .ensures)
 
 cast-t14 : tie.Need-cast-t14
 cast-t14 c = omega arith
@@ -179,17 +179,17 @@ cast-t17 c = omega arith
 
 returns-7 : tie.Need-returns-7
 returns-7 c =
-    let w5 = c .before .before .before .before .before .before .before in
+    let w5 = c .before .before .before .before .before .before in
     let e5 = w5 .before in
     let w4 = e5 .before .before in
     let e4 = w4 .before in
     let w3 = e4 .before .before in
     let w2 = w3 .before .before .before in
     let e2 = w2 .before in
-    let w1 = e2 .before .before in
+    let w1 = e2 .before .before .before in
     let e1 = w1 .before in (
-      head-read (line5 e5) _ _ _ _ _ (field w1 .0) (columns w2 .0) (checks w3 .0) (scale w4 .0) (limit w5 .0) (c .before .before .before .before .before .if6 .left) ∙ sym (past5 e5),
-      (inside _ 2 6 (sym (e2 .before .outside .ensures) ∙ e2 .if2 .left), (inside _ 1 128 (sym (e4 .before .outside3 .ensures) ∙ e4 .if4 .left), (limit w5 .1 .1, omega (arith, limit w5, e1 .if1 .left, e1 .before .left-at .ensures)))),
+      head-read (line5 e5) _ _ _ _ _ (first w1 .0) (columns w2 .0) (checks w3 .0) (scale w4 .0) (limit w5 .0) (c .before .before .before .before .if6 .left) ∙ sym (past5 e5),
+      (inside _ 1 128 (sym (e4 .before .outside2 .ensures) ∙ e4 .if4 .left), (limit w5 .1 .1, omega (arith, limit w5, e1 .if1 .left, e1 .before .left-at .ensures))),
     )
 
 pub head-spec : {M : Type 1} → statement M
@@ -200,25 +200,25 @@ head-spec =
     refused-requires
     returns
     byte-at-requires
-    outside-requires
+    cast-first
+    accepted-requires
     refused-requires-2
     returns-2
     word-at-requires
-    outside-requires-2
+    outside-requires
     refused-requires-3
     returns-3
     byte-at-requires-2
-    outside-requires-3
+    outside-requires-2
     refused-requires-4
     returns-4
     byte-at-requires-3
-    outside-requires-4
+    outside-requires-3
     refused-requires-5
     returns-5
     byte-at-requires-4
     refused-requires-6
     returns-6
-    cast-t13
     cast-t14
     cast-t15
     cast-t16

@@ -8,8 +8,8 @@ use Rattle.codeline.proofs.Parsing.{head-bad, refused, rest-bad, filled
 use Rattle.codeline.proofs.tables.read.Statement.{statement}
 use Rattle.codeline.proofs.tables.read.Tie as tie
 
--- what the numbers keep to, and where they end
-fits : (c : tie.After-h) → (c .h .given .0 .0 ≤ 6) × ((c .h .given .0 .1 .1 .0 ≤ 128) × ((c .before .before .head .result .next ≡ 6) × (c .before .before .head .result .next ≤ length (c .before .before .before .before .before .before .before .args .code .now))))
+-- how many checks there are at most, and where the numbers end
+fits : (c : tie.After-h) → (c .h .given .0 .1 .1 .0 ≤ 128) × ((c .before .before .head .result .next ≡ 6) × (c .before .before .head .result .next ≤ length (c .before .before .before .before .before .before .before .args .code .now)))
 fits c = rw (c .h .given .1) at (c .before .before .head .ensures .1)
 
 head-requires : tie.Need-head-requires
@@ -33,7 +33,7 @@ returns c =
     (rw e (z .0), (rw e tt, z .1))
 
 size-requires : tie.Need-size-requires
-size-requires c κs = fits (c .before) .0
+size-requires c κs = search needs
 
 cast-checks-at : tie.Need-cast-checks-at
 cast-checks-at c = omega arith
@@ -42,7 +42,7 @@ cast-checks-at-2 : tie.Need-cast-checks-at-2
 cast-checks-at-2 c = omega arith
 
 checks-at-requires : tie.Need-checks-at-requires
-checks-at-requires c κs = let f = fits (c .before .before .before .before .before) in (f .1 .1 .1, (omega (arith, f), (omega arith, omega arith)))
+checks-at-requires c κs = let f = fits (c .before .before .before .before .before) in (f .1 .1, (omega (arith, f), (omega arith, omega arith)))
 
 enum-known-k : tie.Need-enum-known-k
 enum-known-k c = search needs
@@ -71,7 +71,7 @@ returns-2 c =
     let b = h .before .before in
     let s = b .before .before .before .before .before .args .code .now in
     let e = sym (rw (h .h .given .1) at (b .head .ensures .0)) in
-    let y = refused s _ _ _ _ _ (rest-bad s _ e (z .size .result) (z .size .ensures .0) _ (sym (rw (k .k .given .1, fits h .1 .1 .0) at (g .checks-at .ensures .0)))) in
+    let y = refused s _ _ _ _ _ (rest-bad s _ e (z .size .result) (z .size .ensures .0) _ (sym (rw (k .k .given .1, fits h .1 .0) at (g .checks-at .ensures .0)))) in
     (rw (c .refused2 .ensures) (y .0), (rw (c .refused2 .ensures) tt, y .1))
 
 same-length-4 : tie.Need-same-length-4
@@ -95,8 +95,8 @@ returns-3 c =
     let l = g .checks-at .last .1 .1 .1 .1 .1 in
     let r = checks-at-requires (g .before) (g .checks-at .lifetimes) in
     let f = fits h in
-    let y = filled s _ e (z .size .result) (z .size .ensures .0) (l .0) (l .1 .0) (l .1 .1 .0) (w .edges .given .0 .0) (omega (arith, r .1 .0, g .checks-at .kept .1 .1 .1 .1 .1 .0)) (sym (rw (w .edges .given .1, f .1 .1 .0) at (g .checks-at .ensures .0))) in
-    (y .0, ((f .1 .0, rw (w .edges .given .1) at (g .checks-at .ensures .1)), y .1))
+    let y = filled s _ e (z .size .result) (z .size .ensures .0) (l .0) (l .1 .0) (l .1 .1 .0) (w .edges .given .0 .0) (omega (arith, r .1 .0, g .checks-at .kept .1 .1 .1 .1 .1 .0)) (sym (rw (w .edges .given .1, f .1 .0) at (g .checks-at .ensures .0))) in
+    (y .0, ((f .0, rw (w .edges .given .1) at (g .checks-at .ensures .1)), y .1))
 
 pub read-spec : {M : Type 1} → statement M
 read-spec =
