@@ -2,15 +2,16 @@
 use mathlib.Core.Path.{_≡_, refl, sym, ap, ap₂, _∙_}
 use mathlib.Core.Bool.{_&&_}
 use mathlib.Core.List.{List, [], _∷_, _++_}
-use Prim.Native.Nat.{ℕ, zero, suc, _+_, _-_, _^_, _≤_, _<_}
+use Prim.Native.Nat.{ℕ, zero, suc, _+_, _-_, _≤_, _<_}
 use native.Mathlib.Omega.{arith}
 use lib.Dec.{eqb, ltb}
 use lib.ListN.{length, getD, take, drop, length-append, length-drop, length-take, length-map, List·getD-append}
 use lib.Seq.{length-take-le, take-at, take-append-add, drop-append-add, drop-drop}
 use borrow.Author.Tests.{eq-eqb, ne-eqb}
 use Rattle.trellis.specs.Field.{quotient}
+use Rattle.trellis.specs.Rules.{powerOf, sizeOf}
 use Rattle.trellis.specs.Reply.{Reply, accepted, refusal}
-use Rattle.machine.specs.CodeLine.{good, Code, size, check, edgeAt, numbersOf, parse}
+use Rattle.machine.specs.CodeLine.{good, Code, power, size, check, edgeAt, numbersOf, parse}
 use Rattle.machine.specs.Machine.{paritySum}
 use Rattle.machine.specs.Tables.{before, tablesOf, sumFrom, Tabled}
 use Rattle.machine.specs.Encoding.{encodable, lastWeight, ownSymbol, encodeTo, encoded, encodeFault, Wrote, wrote, encodingUnder, encoding}
@@ -43,16 +44,16 @@ module _ (C : Code) (G : GoodCode C) (cs ws : List ℕ) (hc : take (length (tabl
   some-edge : (m : ℕ) → m < length (C .checks) → 1 ≤ getD ds m 0
   some-edge m h = omega (arith, degree m, G .each-check m h .low)
 
-  pub words-are : (u : List ℕ) (m : ℕ) → m ≤ length (C .checks) → encodeOn (C .p) ds cs ws u m ≡ encodeTo C u m
+  pub words-are : (u : List ℕ) (m : ℕ) → m ≤ length (C .checks) → encodeOn (power C) ds cs ws u m ≡ encodeTo C u m
   unfolding encodeOn encodeTo ownAt ownSymbol
   words-are u zero h = refl
   words-are u (suc m) h =
-      let w : encodeOn (C .p) ds cs ws u m ≡ encodeTo C u m = words-are u m (omega arith) in
+      let w : encodeOn (power C) ds cs ws u m ≡ encodeTo C u m = words-are u m (omega arith) in
       let d : getD ds m 0 - 1 < getD ds m 0 = omega (arith, some-edge m h) in
       let e : getD ws (lastPlace ds m) 0 ≡ lastWeight (check C m) = weight-flat C cs ws hc hw m h (getD ds m 0 - 1) d ∙ ap (λ k. edgeAt (check C m) (k - 1) .weight) (degree m) in
-      let s : sumFrom (C .p) cs ws (encodeTo C u m) (before ds m) (getD ds m 0 - 1) ≡ paritySum (C .p) (check C m) (encodeTo C u m) (length (check C m) - 1) =
-      sum-flat C cs ws hc hw m h (encodeTo C u m) (getD ds m 0 - 1) (omega arith) ∙ ap (λ k. paritySum (C .p) (check C m) (encodeTo C u m) (k - 1)) (degree m) in
-      rw w (ap (λ x. encodeTo C u m ++ (x ∷ [])) (ap₂ (quotient (C .p)) e s))
+      let s : sumFrom (power C) cs ws (encodeTo C u m) (before ds m) (getD ds m 0 - 1) ≡ paritySum (power C) (check C m) (encodeTo C u m) (length (check C m) - 1) =
+      sum-flat C cs ws hc hw m h (encodeTo C u m) (getD ds m 0 - 1) (omega arith) ∙ ap (λ k. paritySum (power C) (check C m) (encodeTo C u m) (k - 1)) (degree m) in
+      rw w (ap (λ x. encodeTo C u m ++ (x ∷ [])) (ap₂ (quotient (power C)) e s))
 
   pub form-is : formedOn (C .columns) ds cs ≡ encodable C
   unfolding ownTo lastOwn
@@ -72,7 +73,7 @@ module _ (C : Code) (G : GoodCode C) (cs ws : List ℕ) (hc : take (length (tabl
   form-room = record { in-columns = all-columns C cs ws hc hw; one = λ m h. some-edge m (omega (arith, counted)); few = omega (arith, counted, G .checks-high) }
 
   -- no refusal: room for the loop, whatever stands after the message
-  pub filling-room : (u r : List ℕ) (room : ℕ) → encodeFault C u room ≡ 0 → length r ≡ length (C .checks) → FillRoom (C .p) ds cs ws (length u) (u ++ r)
+  pub filling-room : (u r : List ℕ) (room : ℕ) → encodeFault C u room ≡ 0 → length r ≡ length (C .checks) → FillRoom (power C) ds cs ws (length u) (u ++ r)
   filling-room u r room z l =
       let f = encode-none C u room z in
       record {
@@ -92,7 +93,7 @@ module _ (C : Code) (G : GoodCode C) (cs ws : List ℕ) (hc : take (length (tabl
       }
 
 -- a call under a code that was read
-module _ (C : Code) (p n m : ℕ) (dt cs ws : List ℕ) (H : Lined C p n m dt cs ws) where
+module _ (C : Code) (first n m : ℕ) (dt cs ws : List ℕ) (H : Lined C first n m dt cs ws) where
   abbrev hc′ : take (length (tablesOf (C .checks) .edges .columns)) cs ≡ tablesOf (C .checks) .edges .columns
   hc′ = H .tabled .columns
 
@@ -108,12 +109,9 @@ module _ (C : Code) (p n m : ℕ) (dt cs ws : List ℕ) (H : Lined C p n m dt cs
   pub call-form-room : FormRoom (take m dt) cs
   call-form-room = rw degrees-are (form-room C (H .good) cs ws hc′ hw′)
 
-  pub small-p : p ≤ 6
-  small-p = rw (H .p-is) (H .good .p-high)
-
-  module _ (u out : List ℕ) (q k : ℕ) (e : q ≡ 2 ^ p) (o : k ≡ encodeFaultOf q n (take m dt) cs u (length out)) where
+  module _ (u out : List ℕ) (q k : ℕ) (e : q ≡ sizeOf first) (o : k ≡ encodeFaultOf q n (take m dt) cs u (length out)) where
     pub call-fault : k ≡ encodeFault C u (length out)
-    call-fault = o ∙ rw (e, degrees-are, H .p-is, H .columns-is) (fault-is C (H .good) cs ws hc′ hw′ u (length out))
+    call-fault = o ∙ rw (e, degrees-are, H .first-is, H .columns-is) (fault-is C (H .good) cs ws hc′ hw′ u (length out))
 
     pub call-refused : (k ≡ 0 → ⊥) → Leaves (encodingUnder (good C) u out) (refusal k) out
     call-refused h =
@@ -131,7 +129,7 @@ module _ (C : Code) (p n m : ℕ) (dt cs ws : List ℕ) (H : Lined C p n m dt cs
       call-room = let f = encode-none C u (length out) no-fault in (omega (arith, f .3, H .columns-is, split-n), omega (arith, f .3, H .columns-is))
 
       -- after the copy of the message
-      module _ (v : List ℕ) (i : v ≡ u) where
+      module _ (p : ℕ) (b : p ≡ powerOf first) (v : List ℕ) (i : v ≡ u) where
         abbrev rest : List ℕ
         rest = take (length (C .checks)) (drop (length u) out)
 
@@ -142,21 +140,21 @@ module _ (C : Code) (p n m : ℕ) (dt cs ws : List ℕ) (H : Lined C p n m dt cs
         length-rest = simp (length-take, length-drop) (omega (arith, call-room, split-n))
 
         pub call-fill-room : FillRoom p (take m dt) cs ws (length u) (take n (v ++ drop (length u) out))
-        call-fill-room = rw (front, degrees-are, H .p-is) (filling-room C (H .good) cs ws hc′ hw′ u rest (length out) no-fault length-rest)
+        call-fill-room = rw (b, front, degrees-are, H .first-is) (filling-room C (H .good) cs ws hc′ hw′ u rest (length out) no-fault length-rest)
 
         pub call-leaves : (x : List ℕ) → x ≡ encodeOn p (take m dt) cs ws (take (length u) (take n (v ++ drop (length u) out))) (length (take m dt))
             → Leaves (encodingUnder (good C) u out) (accepted n) (x ++ drop n (v ++ drop (length u) out))
         call-leaves x j =
             let a : take (length u) (take n (v ++ drop (length u) out)) ≡ u = ap (take (length u)) front ∙ take-at u rest (length u) refl in
-            let b : encodeOn p (take m dt) cs ws u (length (take m dt)) ≡ encoded C u =
-            rw (← degree-count, degrees-are, H .p-is, H .checks-is) (words-are C (H .good) cs ws hc′ hw′ u (length (C .checks)) (omega arith)) in
+            let w : encodeOn p (take m dt) cs ws u (length (take m dt)) ≡ encoded C u =
+            rw (b, ← degree-count, degrees-are, H .first-is, H .checks-is) (words-are C (H .good) cs ws hc′ hw′ u (length (C .checks)) (omega arith)) in
             let d : drop n (v ++ drop (length u) out) ≡ drop n out =
             ap₂ (λ k a. drop k (a ++ drop (length u) out)) split-n i ∙ drop-append-add u (drop (length u) out) (length (C .checks)) ∙ drop-drop (length (C .checks)) (length u) out ∙ ap (λ k. drop k out) (sym split-n) in
             let y : encodingUnder (good C) u out ≡ wrote (accepted (C .columns)) (encoded C u ++ drop (C .columns) out) = rw (eq-eqb (encodeFault C u (length out)) 0 no-fault) in
             rw y
             record {
               replies = ap accepted (H .columns-is);
-              out-then = ap₂ (λ l r. l ++ r) (j ∙ ap (λ l. encodeOn p (take m dt) cs ws l (length (take m dt))) a ∙ b) (d ∙ ap (λ k. drop k out) (H .columns-is));
+              out-then = ap₂ (λ l r. l ++ r) (j ∙ ap (λ l. encodeOn p (take m dt) cs ws l (length (take m dt))) a ∙ w) (d ∙ ap (λ k. drop k out) (H .columns-is));
             }
 
 -- what the reader's answer says of the line
@@ -165,25 +163,25 @@ module _ (s : List ℕ) (h : Header) (e : headerNumbers h ≡ numbersOf (parse s
   unfolding encoding
   line-refused k i u out = rw (header-refused s h e k i) (record { replies = refl; out-then = refl })
 
-  module _ (p n m g limit : ℕ) (i : h ≡ HeaderRead p n m g limit) where
-    read : Accepted s p n m g limit
-    read = header-read s h e p n m g limit i
+  module _ (first n m g limit : ℕ) (i : h ≡ HeaderRead first n m g limit) where
+    read : Accepted s first n m g limit
+    read = header-read s h e first n m g limit i
 
     -- with the numbers as wider ones
     module _ (N M : ℕ) (j : N ≡ n) (k : M ≡ m) (ds cs ws : List ℕ) (T : (C : Code) → parse s ≡ good C → Tabled C ds cs ws) where
-      lined : Lined (read .code) p N M ds cs ws
+      lined : Lined (read .code) first N M ds cs ws
       lined =
           record {
             good = parse-good s (read .code) (read .parsed);
-            p-is = read .p-is;
+            first-is = read .first-is;
             columns-is = j ∙ read .columns-is;
             checks-is = k ∙ read .checks-is;
             tabled = T (read .code) (read .parsed);
           }
 
-      pub line-room : LineRoom p N M ds cs ws
+      pub line-room : LineRoom first N M ds cs ws
       line-room = record { code = read .code; lined = lined }
 
-      pub line-encodes : (u out : List ℕ) (r : Reply) (after : List ℕ) → LeavesLined p N M ds cs ws u out r after → Leaves (encoding s u out) r after
+      pub line-encodes : (u out : List ℕ) (r : Reply) (after : List ℕ) → LeavesLined first N M ds cs ws u out r after → Leaves (encoding s u out) r after
       unfolding encoding
       line-encodes u out r after L = rw (read .parsed) (L (read .code) lined)

@@ -67,18 +67,18 @@ pub record FormRoom (ds cs : List ℕ) : Type 0 where
   pub one : (m : ℕ) → m < length ds → 1 ≤ getD ds m 0
   pub few : length ds ≤ 128
 
--- p, N and M of an accepted code, and tables that start with its own
-pub record Lined (C : Code) (p n m : ℕ) (ds cs ws : List ℕ) : Type 0 where
+-- the first byte, N and M of an accepted code, and tables that start with its own
+pub record Lined (C : Code) (first n m : ℕ) (ds cs ws : List ℕ) : Type 0 where
   pub good : GoodCode C
-  pub p-is : p ≡ C .p
+  pub first-is : first ≡ C .first
   pub columns-is : n ≡ C .columns
   pub checks-is : m ≡ length (C .checks)
   pub tabled : Tabled C ds cs ws
 
-pub record LineRoom (p n m : ℕ) (ds cs ws : List ℕ) : Type 0 where
+pub record LineRoom (first n m : ℕ) (ds cs ws : List ℕ) : Type 0 where
   pub code : Code
-  pub lined : Lined code p n m ds cs ws
+  pub lined : Lined code first n m ds cs ws
 
 -- what a call under such a line leaves: the encoding under its code
 abbrev pub LeavesLined : ℕ → ℕ → ℕ → List ℕ → List ℕ → List ℕ → List ℕ → List ℕ → Reply → List ℕ → Type 0
-LeavesLined p n m ds cs ws u out reply after = (C : Code) → Lined C p n m ds cs ws → Leaves (encodingUnder (good C) u out) reply after
+LeavesLined f n m ds cs ws u out reply after = (C : Code) → Lined C f n m ds cs ws → Leaves (encodingUnder (good C) u out) reply after

@@ -34,7 +34,7 @@ fn fault(q: usize, n: usize, degrees: &[u8], columns: &[u16], message: &[u8], ro
 
 // Nothing is written before the last refusal has been tested.
 fn under_code(
-    p: u8,
+    first: u8,
     n: usize,
     m: usize,
     degrees: &[u8],
@@ -43,11 +43,12 @@ fn under_code(
     message: &[u8],
     symbols: &mut [u8],
 ) -> Written
-    requires { ⌜ LineRoom p n m (now degrees) (now columns) (now weights) ⌝ }
-    ensures { λ r. ⌜ LeavesLined p n m (now (degrees .entry)) (now (columns .entry)) (now (weights .entry))
+    requires { ⌜ LineRoom first n m (now degrees) (now columns) (now weights) ⌝ }
+    ensures { λ r. ⌜ LeavesLined first n m (now (degrees .entry)) (now (columns .entry)) (now (weights .entry))
         (now (message .entry)) (now (symbols .entry)) (writtenReply r) (now (symbols .exit)) ⌝ }
 {
-    let q = num::size(p);
+    let p = rules::power(first);
+    let q = rules::size(first);
     let k = fault(q, n, &degrees[..m], columns, message, symbols.len());
     if k != 0 {
         return Written::Refused(k);
@@ -73,14 +74,14 @@ pub fn encode_in(
     match codeline::code_tables(code, degrees, columns, weights) {
         Header::Refused(k) => Written::Refused(k),
         Header::Read {
-            p,
+            first,
             columns: n,
             checks: m,
             ..
         } => {
             let n = num::long(n);
             let m = num::index(m);
-            under_code(p, n, m, degrees, columns, weights, message, symbols)
+            under_code(first, n, m, degrees, columns, weights, message, symbols)
         }
     }
 }
