@@ -19,7 +19,7 @@ use Rattle.trellis.proofs.Tests.{of-true, all-at}
 use Rattle.trellis.proofs.Recurrence.{size-64}
 use Rattle.trellis.proofs.FieldLaws.{fields-at, has-inverse}
 use Rattle.trellis.proofs.Loops.{length-tab, getD-tab, tab-ext, map-tab, each-blocks, blocks-ext}
-use Rattle.checknode.specs.Asks.{Times, formOk, Expandable, columnBytes}
+use Rattle.checknode.specs.Asks.{Times, Expandable, columnBytes}
 use Rattle.checknode.specs.Transposed.{zeroRow, everyAt, listOf, unpacked, byteIn, besideFrom, valueIn, bySymbol, Unpackable, Shifted}
 use Rattle.checknode.proofs.Blocks.{block-at}
 use Rattle.checknode.proofs.Refusals.{Weighed, weight-at}
@@ -137,27 +137,22 @@ module _ {p k : ℕ} {ws r : List ℕ} (X : Expandable p k ws r) where
   unfolding expansion
   expansion-is = sym (each-blocks (columnBytes p k ws r) 0 (length ws) ∙ blocks-ext _ _ (length ws) (λ n l. ap (columnBytes p k ws r) (zero-add n)))
 
--- formOk is document 01's form
-pub form-is : (p d : ℕ) (r : List ℕ) {q : ℕ} → q ≡ 2 ^ p → formOk q d r ≡ recordOk (ruleFor p) d r
-unfolding formOk recordOk
-form-is p d r e = rw e
-
-pub expandable : (p : ℕ) (ws r : List ℕ) → Weighed p ws → recordOk (ruleFor p) (length ws) r ≡ true → Expandable p 2 ws r
+pub expandable : (first : ℕ) (ws r : List ℕ) → Weighed first ws → recordOk (ruleFor first) (length ws) r ≡ true → Expandable (powerOf first) (mostOf first) ws r
 unfolding recordOk
-expandable p ws r W o = go (eqb (length r) (length ws + 5 * (2 ^ p - 1))) refl (allTo (λ n. ltb (getD r n 0) (2 ^ p)) (length ws)) refl o
+expandable first ws r W o = go (eqb (length r) (recordLength (ruleFor first) (length ws))) refl (allTo (λ n. ltb (getD r n 0) (sizeOf first)) (length ws)) refl o
   where
-    go : (a : Bool) → eqb (length r) (length ws + 5 * (2 ^ p - 1)) ≡ a → (b : Bool) → allTo (λ n. ltb (getD r n 0) (2 ^ p)) (length ws) ≡ b
-        → pick a (pick b (allTo (groupOk (ruleFor p) (length ws) r) (2 ^ p - 1)) false) false ≡ true → Expandable p 2 ws r
+    go : (a : Bool) → eqb (length r) (recordLength (ruleFor first) (length ws)) ≡ a → (b : Bool) → allTo (λ n. ltb (getD r n 0) (sizeOf first)) (length ws) ≡ b
+        → pick a (pick b (allTo (groupOk (ruleFor first) (length ws) r) (sizeOf first - 1)) false) false ≡ true → Expandable (powerOf first) (mostOf first) ws r
     go false u b v o = let z : _≡_ {A = ℕ} 0 1 = cc in absurd (omega arith)
     go true u false v o = let z : _≡_ {A = ℕ} 0 1 = cc in absurd (omega arith)
     go true u true v o =
         record {
           low = W .low;
           high = W .high;
-          pairs = omega arith;
+          pairs = most-few first;
           few = W .few;
-          weight-some = λ n h. weight-at p ws W n h .0;
-          weight-small = λ n h. weight-at p ws W n h .1;
+          weight-some = λ n h. weight-at first ws W n h .0;
+          weight-small = λ n h. weight-at first ws W n h .1;
           long = eqb→eq _ _ (of-true u);
           shift-small = λ n h. ltb→lt _ _ (all-at _ (length ws) (of-true v) n h);
         }

@@ -10,6 +10,7 @@ use lib.Seq.{getD-take, getD-drop, drop-at, ext-getD}
 use Rattle.trellis.specs.Lists.{tab, part, blocks}
 use Rattle.trellis.specs.Field.{xor, product}
 use Rattle.trellis.specs.Check.{firstZero}
+use Rattle.trellis.specs.Rules.{powerOf, sizeOf}
 use Rattle.trellis.specs.Ready.{Ready}
 use Rattle.engine.specs.Lines.{placed}
 use Rattle.checknode.specs.Asks.{Times}
@@ -78,9 +79,9 @@ row-full p ws n = length-tab _ (2 ^ p)
 pub rests-full : (p : ℕ) (ws cs : List ℕ) (l n : ℕ) → length (restsOf p ws cs l n) ≡ l
 rests-full p ws cs l n = length-placed _ _ _ (2 ^ p) (tab (λ a. 0) l) ∙ length-tab _ l
 
-pub lines-room : (p l : ℕ) (ws cs rows lines out : List ℕ) → Ready p ws cs → LinesRoom p l (length ws) rows lines out → (n : ℕ) → n < length ws → (w : ℕ) → w ≡ 2 ^ p
+pub lines-room : (first l : ℕ) (ws cs rows lines out : List ℕ) → Ready first ws cs → LinesRoom (powerOf first) l (length ws) rows lines out → (n : ℕ) → n < length ws → (w : ℕ) → w ≡ sizeOf first
     → (n * w + w ≤ length cs) × (n * w + w ≤ length rows) × (n * l + l ≤ length lines) × (n < length out)
-lines-room p l ws cs rows lines out D R n h w e =
+lines-room first l ws cs rows lines out D R n h w e =
     let a : n * w + w ≤ length ws * w = rw suc-mul at (mul-le-mul-right w h) in
     let b : n * l + l ≤ length ws * l = rw suc-mul at (mul-le-mul-right l h) in
     let c : length cs ≡ length ws * w = D .count ∙ ap (λ k. length ws * k) (sym e) in
@@ -102,13 +103,13 @@ pub rows-turn : (p : ℕ) (ws : List ℕ) (n w : ℕ) (rows₀ rows : List ℕ) 
     → take (n * w) rows ++ (r ++ drop (n * w + w - n * w) (drop (n * w) rows)) ≡ blocks (rowOf p ws) (n + 1) ++ drop ((n + 1) * 2 ^ p) rows₀
 rows-turn p ws n w rows₀ rows e h k = rw e (block-more (rowOf p ws) (2 ^ p) (row-full p ws) rows₀ rows n h k)
 
-pub lines-turn : (p : ℕ) (ws cs : List ℕ) (l n : ℕ) → Ready p ws cs → n < length ws → (w : ℕ) (lines₀ lines : List ℕ) {r : List ℕ} → w ≡ 2 ^ p → lines ≡ blocks (restsOf p ws cs l) n ++ drop (n * l) lines₀
-    → length lines₀ ≡ length ws * l → length lines ≡ length lines₀ → r ≡ restsFrom p (getD ws n 0) (take (n * w + w - n * w) (drop (n * w) cs)) (length (take (n * l + l - n * l) (drop (n * l) lines)))
-    → take (n * l) lines ++ (r ++ drop (n * l + l - n * l) (drop (n * l) lines)) ≡ blocks (restsOf p ws cs l) (n + 1) ++ drop ((n + 1) * l) lines₀
-lines-turn p ws cs l n D i w lines₀ lines {r} e h f g k =
+pub lines-turn : (first : ℕ) (ws cs : List ℕ) (l n : ℕ) → Ready first ws cs → n < length ws → (w : ℕ) (lines₀ lines : List ℕ) {r : List ℕ} → w ≡ sizeOf first → lines ≡ blocks (restsOf (powerOf first) ws cs l) n ++ drop (n * l) lines₀
+    → length lines₀ ≡ length ws * l → length lines ≡ length lines₀ → r ≡ restsFrom (powerOf first) (getD ws n 0) (take (n * w + w - n * w) (drop (n * w) cs)) (length (take (n * l + l - n * l) (drop (n * l) lines)))
+    → take (n * l) lines ++ (r ++ drop (n * l + l - n * l) (drop (n * l) lines)) ≡ blocks (restsOf (powerOf first) ws cs l) (n + 1) ++ drop ((n + 1) * l) lines₀
+lines-turn first ws cs l n D i w lines₀ lines {r} e h f g k =
     let b : n * l + l ≤ length ws * l = rw suc-mul at (mul-le-mul-right l i) in
     let m : length (take (n * l + l - n * l) (drop (n * l) lines)) ≡ l = simp (length-take, length-drop) (omega arith) in
-    block-more (restsOf p ws cs l) l (rests-full p ws cs l) lines₀ lines n h (k ∙ rw (m, part-is p ws cs D n i w e) refl)
+    block-more (restsOf (powerOf first) ws cs l) l (rests-full (powerOf first) ws cs l) lines₀ lines n h (k ∙ rw (m, part-is first ws cs D n i w e) refl)
 
 -- one symbol's cost more
 pub send-turn : (row : List ℕ) (s : ℕ) (rests out₀ out : List ℕ) (x : ℕ) {i r : ℕ} → x < length out₀ → out ≡ tab (sentFrom row s rests) x ++ drop x out₀ → i ≡ bitXor (getD row x 0) s → r ≡ 255 - getD rests i 0

@@ -1,6 +1,6 @@
 -- The tests behind the refusals, as the definitions of a check's and an expansion's cases have them.
 use mathlib.Core.Path.{_≡_, refl, ap, _∙_, sym}
-use mathlib.Core.Bool.{Bool, true, false, _||_}
+use mathlib.Core.Bool.{Bool, true, false, not, _||_}
 use mathlib.Core.Logic.{_≢_}
 use mathlib.Core.List.{List}
 use Prim.Native.Nat.{ℕ, suc, _+_, _*_, _^_, _≤_, _<_, _-_}
@@ -13,8 +13,9 @@ use lib.ListN.{length, take, drop, getD, length-take, length-drop}
 use Rattle.trellis.specs.Lists.{pick, allTo}
 use Rattle.trellis.specs.Check.{firstZero}
 use Rattle.trellis.specs.Record.{recordOk}
-use Rattle.trellis.specs.Rules.{ruleFor}
+use Rattle.trellis.specs.Rules.{ruleFor, powerOf, sizeOf, firstOk}
 use Rattle.trellis.specs.Ready.{Ready}
+use Rattle.trellis.proofs.Rules.{first-power}
 use Rattle.trellis.proofs.Tests.{of-true, to-true, all-at, all-of}
 use Rattle.checknode.specs.Answers.{weightOk, weightsOk, weightCases, zeroOk, expandCases}
 use Rattle.checknode.specs.Asks.{weightsFault}
@@ -46,13 +47,14 @@ weight-true q h t = go (eqb h 0) refl t
 pub mul-small : (d w : ℕ) → d ≤ 32 → w < 256 → d * w ≤ 8192
 mul-small d w h k = omega (arith, mul-le-mul-right w h)
 
--- p and the weights of a check that none of 6, 9, 11 refuses
-pub record Weighed (p : ℕ) (ws : List ℕ) : Type 0 where
-  pub low : 2 ≤ p
-  pub high : p ≤ 6
+-- first byte and weights of a check that none of 6, 9, 11 refuses
+pub record Weighed (first : ℕ) (ws : List ℕ) : Type 0 where
+  pub accepted : firstOk first ≡ true
+  pub low : 2 ≤ powerOf first
+  pub high : powerOf first ≤ 6
   pub two : 2 ≤ length ws
   pub few : length ws ≤ 32
-  pub ok : weightsOk (2 ^ p) ws ≡ true
+  pub ok : weightsOk (sizeOf first) ws ≡ true
 
 pub at-least : {m n : ℕ} → ltb m n ≡ false → n ≤ m
 at-least {m} {n} e =
@@ -61,72 +63,71 @@ at-least {m} {n} e =
       | no h ↦ absurd (no-true (lt-ltb m n (omega arith)) e)
     ]
 
-pub no-fault : (p : ℕ) (ws : List ℕ) → weightsFault p ws ≡ 0 → Weighed p ws
+pub no-fault : (first : ℕ) (ws : List ℕ) → weightsFault first ws ≡ 0 → Weighed first ws
 unfolding weightsFault
-no-fault p ws e = go (ltb p 2) refl (ltb 6 p) refl (ltb (length ws) 2) refl (ltb 32 (length ws)) refl (weightsOk (2 ^ p) ws) refl e
+no-fault first ws e = go (firstOk first) refl (ltb (length ws) 2) refl (ltb 32 (length ws)) refl (weightsOk (sizeOf first) ws) refl e
   where
-    go : (a : Bool) → ltb p 2 ≡ a → (b : Bool) → ltb 6 p ≡ b → (c : Bool) → ltb (length ws) 2 ≡ c → (d : Bool) → ltb 32 (length ws) ≡ d → (o : Bool) → weightsOk (2 ^ p) ws ≡ o
-        → _≡_ {A = ℕ} (pick a 6 (pick b 6 (pick c 9 (pick d 9 (pick o 0 11))))) 0 → Weighed p ws
-    go true i b j c k d l o m e = absurd (omega arith)
-    go false i true j c k d l o m e = absurd (omega arith)
-    go false i false j true k d l o m e = absurd (omega arith)
-    go false i false j false k true l o m e = absurd (omega arith)
-    go false i false j false k false l false m e = absurd (omega arith)
-    go false i false j false k false l true m e = record { low = at-least i; high = at-least j; two = at-least k; few = at-least l; ok = m }
+    go : (a : Bool) → firstOk first ≡ a → (c : Bool) → ltb (length ws) 2 ≡ c → (d : Bool) → ltb 32 (length ws) ≡ d → (o : Bool) → weightsOk (sizeOf first) ws ≡ o
+        → _≡_ {A = ℕ} (pick (not a) 6 (pick c 9 (pick d 9 (pick o 0 11)))) 0 → Weighed first ws
+    go false i c k d l o m e = absurd (omega arith)
+    go true i true k d l o m e = absurd (omega arith)
+    go true i false k true l o m e = absurd (omega arith)
+    go true i false k false l false m e = absurd (omega arith)
+    go true i false k false l true m e =
+        record { accepted = i; low = first-power first i .0; high = first-power first i .1; two = at-least k; few = at-least l; ok = m }
 
 -- a refusal by its number, and none
-pub fault-case : {A : Type 0} (p : ℕ) (ws : List ℕ) (bad : ℕ → A) (rest : A) {k : ℕ} → k ≡ weightsFault p ws → k ≢ 0 → bad k ≡ weightCases p ws bad rest
+pub fault-case : {A : Type 0} (first : ℕ) (ws : List ℕ) (bad : ℕ → A) (rest : A) {k : ℕ} → k ≡ weightsFault first ws → k ≢ 0 → bad k ≡ weightCases first ws bad rest
 unfolding weightsFault
-fault-case p ws bad rest e n = go (ltb p 2) (ltb 6 p) (ltb (length ws) 2) (ltb 32 (length ws)) (weightsOk (2 ^ p) ws) e n
+fault-case first ws bad rest e n = go (firstOk first) (ltb (length ws) 2) (ltb 32 (length ws)) (weightsOk (sizeOf first) ws) e n
   where
-    go : (a b c d o : Bool) {k : ℕ} → k ≡ pick a 6 (pick b 6 (pick c 9 (pick d 9 (pick o 0 11)))) → k ≢ 0 → bad k ≡ pick a (bad 6) (pick b (bad 6) (pick c (bad 9) (pick d (bad 9) (pick o rest (bad 11)))))
-    go true b c d o e n = ap bad e
-    go false true c d o e n = ap bad e
-    go false false true d o e n = ap bad e
-    go false false false true o e n = ap bad e
-    go false false false false false e n = ap bad e
-    go false false false false true e n = absurd (n e)
+    go : (a c d o : Bool) {k : ℕ} → k ≡ pick (not a) 6 (pick c 9 (pick d 9 (pick o 0 11))) → k ≢ 0 → bad k ≡ pick (not a) (bad 6) (pick c (bad 9) (pick d (bad 9) (pick o rest (bad 11))))
+    go false c d o e n = ap bad e
+    go true true d o e n = ap bad e
+    go true false true o e n = ap bad e
+    go true false false false e n = ap bad e
+    go true false false true e n = absurd (n e)
 
-module _ (p : ℕ) (ws : List ℕ) (W : Weighed p ws) where
-  pub rest-case : {A : Type 0} (bad : ℕ → A) (rest : A) → weightCases p ws bad rest ≡ rest
-  rest-case bad rest = simp (le-ltb _ _ (W .low), le-ltb _ _ (W .high), le-ltb _ _ (W .two), le-ltb _ _ (W .few), W .ok)
+module _ (first : ℕ) (ws : List ℕ) (W : Weighed first ws) where
+  pub rest-case : {A : Type 0} (bad : ℕ → A) (rest : A) → weightCases first ws bad rest ≡ rest
+  rest-case bad rest = simp (W .accepted, le-ltb _ _ (W .two), le-ltb _ _ (W .few), W .ok)
 
-  pub weight-at : (n : ℕ) → n < length ws → (getD ws n 0 ≢ 0) × (getD ws n 0 < 2 ^ p)
-  weight-at n k = weight-true (2 ^ p) (getD ws n 0) (all-at _ (length ws) (of-true (W .ok)) n k)
+  pub weight-at : (n : ℕ) → n < length ws → (getD ws n 0 ≢ 0) × (getD ws n 0 < sizeOf first)
+  weight-at n k = weight-true (sizeOf first) (getD ws n 0) (all-at _ (length ws) (of-true (W .ok)) n k)
 
-  pub ready-law : (cs : List ℕ) → length cs ≡ length ws * 2 ^ p → allTo (zeroOk (2 ^ p) cs) (length ws) ≡ true → Ready p ws cs
+  pub ready-law : (cs : List ℕ) → length cs ≡ length ws * sizeOf first → allTo (zeroOk (sizeOf first) cs) (length ws) ≡ true → Ready first ws cs
   unfolding zeroOk
   ready-law cs c z =
       record {
-        low = W .low;
-        high = W .high;
+        first = W .accepted;
         two = W .two;
         few = W .few;
         count = c;
         weight-some = λ n k. weight-at n k .0;
         weight-small = λ n k. weight-at n k .1;
-        zeros = λ n k. ltb→lt _ (2 ^ p) (all-at _ (length ws) (of-true z) n k);
+        zeros = λ n k. ltb→lt _ (sizeOf first) (all-at _ (length ws) (of-true z) n k);
       }
 
   module _ {A : Type 0} (room : ℕ) (bad : ℕ → A) (good : A) where
     module _ (r : List ℕ) where
-      pub case-16 : recordOk (ruleFor p) (length ws) r ≡ false → bad 16 ≡ expandCases p ws r room bad good
+      pub case-16 : recordOk (ruleFor first) (length ws) r ≡ false → bad 16 ≡ expandCases first ws r room bad good
       case-16 o = sym (rest-case bad _ ∙ simp o)
 
-      module _ (o : recordOk (ruleFor p) (length ws) r ≡ true) where
-        pub case-2 : room < length ws * 2 ^ p → bad 2 ≡ expandCases p ws r room bad good
+      module _ (o : recordOk (ruleFor first) (length ws) r ≡ true) where
+        pub case-2 : room < length ws * sizeOf first → bad 2 ≡ expandCases first ws r room bad good
         case-2 k = sym (rest-case bad _ ∙ simp (o, lt-ltb _ _ k))
 
-        pub expand-case : length ws * 2 ^ p ≤ room → good ≡ expandCases p ws r room bad good
+        pub expand-case : length ws * sizeOf first ≤ room → good ≡ expandCases first ws r room bad good
         expand-case k = sym (rest-case bad _ ∙ simp (o, le-ltb _ _ k))
 
 -- the weights of an accepted check
-pub ready-weighed : (p : ℕ) (ws cs : List ℕ) → Ready p ws cs → Weighed p ws
+pub ready-weighed : (first : ℕ) (ws cs : List ℕ) → Ready first ws cs → Weighed first ws
 unfolding weightOk
-ready-weighed p ws cs D =
+ready-weighed first ws cs D =
     record {
-      low = D .low;
-      high = D .high;
+      accepted = D .first;
+      low = first-power first (D .first) .0;
+      high = first-power first (D .first) .1;
       two = D .two;
       few = D .few;
       ok = to-true (all-of _ (length ws) (λ n h. rw (ne-eqb (getD ws n 0) 0 (D .weight-some n h)) (lt→ltb _ _ (D .weight-small n h))));

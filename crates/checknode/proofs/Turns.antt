@@ -9,21 +9,25 @@ use lib.ListN.{length, take, drop, getD, set}
 use Rattle.trellis.specs.Lists.{tab}
 use Rattle.trellis.specs.Field.{xor, product}
 use Rattle.trellis.specs.Check.{firstZero}
-use Rattle.trellis.specs.Rules.{costsAt}
+use Rattle.trellis.specs.Rules.{powerOf, costsAt}
 use Rattle.trellis.specs.Ready.{Ready}
 use Rattle.engine.specs.Terms.{termOf, sumTo}
 use Rattle.checknode.specs.Asks.{Times}
 use Rattle.trellis.proofs.FieldLaws.{fields-at, has-inverse}
+use Rattle.trellis.proofs.Ready.{ready-low, ready-high}
 use Rattle.trellis.proofs.Loops.{tab-more}
 
-module _ (p : ℕ) (ws cs : List ℕ) (D : Ready p ws cs) (n : ℕ) (h : n < length ws) where
+module _ (first : ℕ) (ws cs : List ℕ) (D : Ready first ws cs) (n : ℕ) (h : n < length ws) where
+  abbrev p : ℕ
+  p = powerOf first
+
   pub ready-times : Times p (getD ws n 0)
   ready-times =
       record {
-        low = D .low;
-        high = D .high;
+        low = ready-low first ws cs D;
+        high = ready-high first ws cs D;
         element = D .weight-small n h;
-        closed = has-inverse p (fields-at p (D .low) (D .high)) (getD ws n 0) (D .weight-small n h) (D .weight-some n h) .closed;
+        closed = has-inverse p (fields-at p (ready-low first ws cs D) (ready-high first ws cs D)) (getD ws n 0) (D .weight-small n h) (D .weight-some n h) .closed;
       }
 
   pub part-is : (w : ℕ) → w ≡ 2 ^ p → take (n * w + w - n * w) (drop (n * w) cs) ≡ costsAt (2 ^ p) cs n

@@ -30,13 +30,13 @@ TableFor p t = length t ≡ 4096 → (p ≡ 6) × (t ≡ productTable)
 unfoldable pub shiftsOf : ℕ → List ℕ → List ℕ → List ℕ
 shiftsOf p ws cs = tab (λ n. xor (sumTo (termOf p ws cs) (length ws)) (termOf p ws cs n)) (length ws)
 
--- the number of the first refusal of p and the weights, 0 for none
+-- the number of the first refusal of the first byte and the weights, 0 for none
 unfoldable pub weightsFault : ℕ → List ℕ → ℕ
-weightsFault p ws = weightCases p ws (λ k. k) 0
+weightsFault f ws = weightCases f ws (λ k. k) 0
 
 -- the number of the first refusal of a check whose record buffer has `room` bytes, 0 for none
 unfoldable pub checkFault : ℕ → List ℕ → List ℕ → ℕ → ℕ
-checkFault p ws cs room = checkCases p ws cs room (λ k. k) 0
+checkFault f ws cs room = checkCases f ws cs room (λ k. k) 0
 
 -- after a pair, the least column that the next used pair may have: one more, 256 after an unused pair, 257 for a fault
 unfoldable pub pairNext : ℕ → ℕ → ℕ → ℕ → ℕ → ℕ
@@ -46,15 +46,6 @@ pairNext c s e d low =
     (pick (leb d c) 257
     (pick (leb s e) 257
     (c + 1))))
-
--- recordOk for two pairs a group, with q for 2 ^ p
-unfoldable pub formOk : ℕ → ℕ → List ℕ → Bool
-formOk q d r =
-    pick (eqb (length r) (d + 5 * (q - 1)))
-    (pick (allTo (λ n. ltb (getD r n 0) q) d)
-    (allTo (λ b. pairsOk 2 r (d + 5 * b + 1) (getD r (d + 5 * b) 0) d 0) (q - 1))
-    false)
-    false
 
 -- weights that are accepted, and a record of accepted form with k pairs a group
 pub record Expandable (p k : ℕ) (ws r : List ℕ) : Type 0 where

@@ -6,7 +6,7 @@ use lib.ListN.{length, getD}
 use Rattle.trellis.specs.Lists.{tab, part}
 use Rattle.trellis.specs.Field.{xor, product}
 use Rattle.trellis.specs.Check.{firstZero, sentAt}
-use Rattle.trellis.specs.Rules.{ruleFor, columnsOf, costsAt}
+use Rattle.trellis.specs.Rules.{powerOf, sizeOf, ruleFor, columnsOf, costsAt}
 use Rattle.engine.specs.Lines.{placed}
 
 -- each symbol's row is below 2 ^ p, and the line has these rows
@@ -70,6 +70,6 @@ pub record RestsRoom (p d : ℕ) (rows rests shifts : List ℕ) : Type 0 where
   pub of-shifts : length shifts ≡ d
 
 -- what is left of 255 after the cost sent to column n at a, for each column and each a
-pub record Rests (p : ℕ) (ws cs rests : List ℕ) : Type 0 where
-  pub full : length rests ≡ length ws * sideOf p
-  pub at : (n a : ℕ) → n < length ws → a < 2 ^ p → getD rests (n * sideOf p + a) 0 ≡ 255 - sentAt (ruleFor p) (columnsOf (2 ^ p) ws cs) n a
+pub record Rests (f : ℕ) (ws cs rests : List ℕ) : Type 0 where
+  pub full : length rests ≡ length ws * sideOf (powerOf f)
+  pub at : (n a : ℕ) → n < length ws → a < sizeOf f → getD rests (n * sideOf (powerOf f) + a) 0 ≡ 255 - sentAt (ruleFor f) (columnsOf (sizeOf f) ws cs) n a

@@ -10,7 +10,7 @@ ghost use lib.Dec.{eqb};
 ghost use lib.ListN.{length, take, getD};
 ghost use Rattle.trellis.specs.Lists.{tab};
 ghost use Rattle.trellis.specs.Record.{expansion};
-ghost use Rattle.trellis.specs.Rules.{ruleOf, ruleFor};
+ghost use Rattle.trellis.specs.Rules.{ruleOf, ruleFor, powerOf, sizeOf, mostOf};
 ghost use Rattle.checknode.specs.Asks.{TableFor, Expandable};
 ghost use Rattle.checknode.specs.Transposed.{zeroRow, everyAt, unpacked, besideIn, valueIn, bySymbol, Unpackable, Listed, Shifted};
 
@@ -197,16 +197,18 @@ fn in_room(
     columns(p, w, k, weights, r, t, table, &mut row[..w], out);
 }
 
-// The expansion, with the room that it takes: a group has two pairs. To have the table at hand it is copied, once for all columns, from 8
-// columns on; weights, at most 32, stand for no table.
-pub fn expand_in(p: u8, w: usize, weights: &[u8], r: &[u8], out: &mut [u8])
-    requires { ⌜ Expandable p 2 (now weights) (now r) ⌝ }
-    requires { ⌜ (w ≤ 64) × ((w ≡ 2 ^ p) × (length (now out) ≡ length (now weights) * 2 ^ p)) ⌝ }
-    ensures { λ _. ⌜ now (out .exit) ≡ expansion (ruleFor p) (now (weights .entry)) (now (r .entry)) ⌝ }
+// The expansion, with the room that it takes: a group has at most three pairs. To have the table at hand it is copied, once for all columns,
+// from 8 columns on; weights, at most 32, stand for no table.
+pub fn expand_in(first: u8, w: usize, weights: &[u8], r: &[u8], out: &mut [u8])
+    requires { ⌜ Expandable (powerOf first) (mostOf first) (now weights) (now r) ⌝ }
+    requires { ⌜ (w ≤ 64) × ((w ≡ sizeOf first) × (length (now out) ≡ length (now weights) * sizeOf first)) ⌝ }
+    ensures { λ _. ⌜ now (out .exit) ≡ expansion (ruleFor first) (now (weights .entry)) (now (r .entry)) ⌝ }
 {
-    let k = 2;
+    let rule = rules::rule_of(first);
+    let p = rule.p;
+    let k = num::index(rule.k);
     let mut row = [0u8; 64];
-    let mut t = [0u8; 320];
+    let mut t = [0u8; 448];
     if table::taken(p, weights.len()) {
         let products = table::products();
         in_room(p, w, k, weights, r, &products, &mut row, &mut t, out);

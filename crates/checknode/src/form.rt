@@ -1,19 +1,21 @@
 // The form of an accepted record.
 use crate::num;
 ghost use mathlib.Core.Path.{_≡_};
-ghost use Prim.Native.Nat.{_+_, _-_, _*_, _≤_, _<_};
+ghost use mathlib.Core.Bool.{true};
+ghost use Prim.Native.Nat.{_+_, _*_, _≤_};
 ghost use lib.Dec.{ltb};
 ghost use lib.ListN.{length, getD};
 ghost use Rattle.trellis.specs.Lists.{allTo};
-ghost use Rattle.trellis.specs.Record.{pairsOk};
-ghost use Rattle.checknode.specs.Asks.{pairNext, formOk};
+ghost use Rattle.trellis.specs.Record.{recordLength, pairsOk, recordOk};
+ghost use Rattle.trellis.specs.Rules.{ruleFor, firstOk};
+ghost use Rattle.checknode.specs.Asks.{pairNext};
 
 // The length of a record of degree d.
-pub fn record_bytes(d: usize, q: usize) -> usize
-    requires { ⌜ (d ≤ 32) × ((1 ≤ q) × (q ≤ 64)) ⌝ }
-    ensures { λ r. ⌜ r ≡ d + 5 * (q - 1) ⌝ }
+pub fn record_bytes(first: u8, d: usize) -> usize
+    requires { ⌜ d ≤ 32 ⌝ }
+    ensures { λ r. ⌜ r ≡ recordLength (ruleFor first) d ⌝ }
 {
-    d + 5 * (q - 1)
+    d + rules::groups(first)
 }
 
 // After the pair c, s: the least column that the next used pair may have, 256 after an unused pair, 257 for a fault.
@@ -39,27 +41,35 @@ fn pair_next(c: u8, s: u8, e: u8, d: usize, low: usize) -> usize
     column + 1
 }
 
-// The two pairs of the group that starts at place at.
-fn pairs_ok(r: &[u8], at: usize, d: usize) -> bool
-    requires { ⌜ at + 5 ≤ length (now r) ⌝ }
-    ensures { λ b. ⌜ b ≡ pairsOk 2 (now (r .entry)) (at + 1) (getD (now (r .entry)) at 0) d 0 ⌝ }
+// The k pairs of the group that starts at place at.
+fn pairs_ok(r: &[u8], at: usize, d: usize, k: usize) -> bool
+    requires { ⌜ at + (1 + 2 * k) ≤ length (now r) ⌝ }
+    ensures { λ b. ⌜ b ≡ pairsOk k (now (r .entry)) (at + 1) (getD (now (r .entry)) at 0) d 0 ⌝ }
 {
     let e = r[at];
-    let low = pair_next(r[at + 1], r[at + 2], e, d, 0);
-    if low == 257 {
-        return false;
+    let mut low = 0;
+    let mut next = at + 1;
+    let mut j = 0;
+    while j < k {
+        low = pair_next(r[next], r[next + 1], e, d, low);
+        if low == 257 {
+            return false;
+        }
+        next += 2;
+        j += 1;
     }
-    pair_next(r[at + 3], r[at + 4], e, d, low) != 257
+    true
 }
 
-fn groups_ok(r: &[u8], d: usize, n: usize) -> bool
-    requires { ⌜ (d ≤ 32) × (d + 5 * n ≤ length (now r)) ⌝ }
-    ensures { λ b. ⌜ b ≡ allTo (λ b. pairsOk 2 (now (r .entry)) (d + 5 * b + 1) (getD (now (r .entry)) (d + 5 * b) 0) d 0) n ⌝ }
+fn groups_ok(r: &[u8], d: usize, n: usize, k: usize) -> bool
+    requires { ⌜ (d ≤ 32) × ((k ≤ 3) × (d + (1 + 2 * k) * n ≤ length (now r))) ⌝ }
+    ensures { λ b. ⌜ b ≡ allTo (λ b. pairsOk k (now (r .entry)) (d + (1 + 2 * k) * b + 1) (getD (now (r .entry)) (d + (1 + 2 * k) * b) 0) d 0) n ⌝ }
 {
+    let g = 1 + 2 * k;
     let mut ok = true;
     let mut b = 0;
     while b < n {
-        ok = num::also(ok, pairs_ok(r, d + 5 * b, d));
+        ok = num::also(ok, pairs_ok(r, d + g * b, d, k));
         b += 1;
     }
     ok
@@ -78,15 +88,17 @@ fn shifts_ok(r: &[u8], d: usize, q: usize) -> bool
     ok
 }
 
-pub fn record_ok(r: &[u8], d: usize, q: usize) -> bool
-    requires { ⌜ (d ≤ 32) × ((1 ≤ q) × (q ≤ 64)) ⌝ }
-    ensures { λ b. ⌜ b ≡ formOk q d (now (r .entry)) ⌝ }
+pub fn record_ok(first: u8, r: &[u8], d: usize) -> bool
+    requires { ⌜ (d ≤ 32) × (firstOk first ≡ true) ⌝ }
+    ensures { λ b. ⌜ b ≡ recordOk (ruleFor first) d (now (r .entry)) ⌝ }
 {
-    if r.len() != record_bytes(d, q) {
+    if r.len() != record_bytes(first, d) {
         return false;
     }
+    let q = rules::size(first);
     if !shifts_ok(r, d, q) {
         return false;
     }
-    groups_ok(r, d, q - 1)
+    let rule = rules::rule_of(first);
+    groups_ok(r, d, q - 1, num::index(rule.k))
 }

@@ -45,63 +45,63 @@ pub fn product(p: u8, a: u8, b: u8) -> Element
     Element::Is(field::times(p, a, b))
 }
 
-// The record of a check: from p, d weights and d times q costs, column by column, d + 5 (q - 1) bytes. Refused: 6, p not 2 to 6; 9, degree
-// not 2 to 32; 11, a weight 0 or no element; 12, cost count; 13, a column without a cost of 0; 4, record buffer too short.
-pub fn check(p: u8, weights: &[u8], costs: &[u8], out: &mut [u8]) -> Written
-    ensures { λ r. ⌜ writtenReply r ≡ checkReply p (now (weights .entry)) (now (costs .entry)) (now (out .entry)) ⌝ }
-    ensures { λ _. ⌜ now (out .exit) ≡ checkLeaves p (now (weights .entry)) (now (costs .entry)) (now (out .entry)) ⌝ }
+// The record of a check: from the first code byte, d weights and d times q costs, column by column, d + (1 + 2k)(q - 1) bytes. Refused: 6, the
+// first byte; 9, degree not 2 to 32; 11, a weight 0 or no element; 12, cost count; 13, a column without a cost of 0; 4, record buffer too short.
+pub fn check(first: u8, weights: &[u8], costs: &[u8], out: &mut [u8]) -> Written
+    ensures { λ r. ⌜ writtenReply r ≡ checkReply first (now (weights .entry)) (now (costs .entry)) (now (out .entry)) ⌝ }
+    ensures { λ _. ⌜ now (out .exit) ≡ checkLeaves first (now (weights .entry)) (now (costs .entry)) (now (out .entry)) ⌝ }
 {
-    let k = tests::check_fault(p, weights, costs, out.len());
+    let k = tests::check_fault(first, weights, costs, out.len());
     if k != 0 {
         return Written::Refused(k);
     }
-    let w = num::index(field::size(p));
-    let n = form::record_bytes(weights.len(), w);
-    record::record_in(p, w, weights, costs, &mut out[..n]);
+    let w = rules::size(first);
+    let n = form::record_bytes(first, weights.len());
+    record::record_in(first, w, weights, costs, &mut out[..n]);
     Written::Bytes(n)
 }
 
 // The record of a check and, in a second buffer, its sent costs: d times q bytes, column by column, each column by x. Refused as a check is;
 // last 2, the second buffer too short. The answer is how many bytes the record has, as of a check.
-pub fn messages(p: u8, weights: &[u8], costs: &[u8], out: &mut [u8], sent: &mut [u8]) -> Written
-    ensures { λ r. ⌜ writtenReply r ≡ messagesReply p (now (weights .entry)) (now (costs .entry)) (now (out .entry)) (now (sent .entry)) ⌝ }
-    ensures { λ _. ⌜ now (out .exit) ≡ messagesLeaves p (now (weights .entry)) (now (costs .entry)) (now (out .entry)) (now (sent .entry)) ⌝ }
-    ensures { λ _. ⌜ now (sent .exit) ≡ messagesSent p (now (weights .entry)) (now (costs .entry)) (now (out .entry)) (now (sent .entry)) ⌝ }
+pub fn messages(first: u8, weights: &[u8], costs: &[u8], out: &mut [u8], sent: &mut [u8]) -> Written
+    ensures { λ r. ⌜ writtenReply r ≡ messagesReply first (now (weights .entry)) (now (costs .entry)) (now (out .entry)) (now (sent .entry)) ⌝ }
+    ensures { λ _. ⌜ now (out .exit) ≡ messagesLeaves first (now (weights .entry)) (now (costs .entry)) (now (out .entry)) (now (sent .entry)) ⌝ }
+    ensures { λ _. ⌜ now (sent .exit) ≡ messagesSent first (now (weights .entry)) (now (costs .entry)) (now (out .entry)) (now (sent .entry)) ⌝ }
 {
-    let k = tests::check_fault(p, weights, costs, out.len());
+    let k = tests::check_fault(first, weights, costs, out.len());
     if k != 0 {
         return Written::Refused(k);
     }
     let d = weights.len();
-    let w = num::index(field::size(p));
+    let w = rules::size(first);
     let m = d * w;
     if sent.len() < m {
         return Written::Refused(2);
     }
-    let n = form::record_bytes(d, w);
-    record::messages_in(p, w, weights, costs, &mut out[..n], &mut sent[..m]);
+    let n = form::record_bytes(first, d);
+    record::messages_in(first, w, weights, costs, &mut out[..n], &mut sent[..m]);
     Written::Bytes(n)
 }
 
-// The expansion of a record: from p, d weights and a record, d times q bytes, column by column, each column by x. Refused: 6, p not 2 to 6;
-// 9, degree not 2 to 32; 11, a weight 0 or no element; 16, the record's form; 2, buffer too short.
-pub fn expand(p: u8, weights: &[u8], bytes: &[u8], out: &mut [u8]) -> Written
-    ensures { λ r. ⌜ writtenReply r ≡ expandReply p (now (weights .entry)) (now (bytes .entry)) (now (out .entry)) ⌝ }
-    ensures { λ _. ⌜ now (out .exit) ≡ expandLeaves p (now (weights .entry)) (now (bytes .entry)) (now (out .entry)) ⌝ }
+// The expansion of a record: from the first code byte, d weights and a record, d times q bytes, column by column, each column by x. Refused:
+// 6, the first byte; 9, degree not 2 to 32; 11, a weight 0 or no element; 16, the record's form; 2, buffer too short.
+pub fn expand(first: u8, weights: &[u8], bytes: &[u8], out: &mut [u8]) -> Written
+    ensures { λ r. ⌜ writtenReply r ≡ expandReply first (now (weights .entry)) (now (bytes .entry)) (now (out .entry)) ⌝ }
+    ensures { λ _. ⌜ now (out .exit) ≡ expandLeaves first (now (weights .entry)) (now (bytes .entry)) (now (out .entry)) ⌝ }
 {
-    let k = tests::weights_fault(p, weights);
+    let k = tests::weights_fault(first, weights);
     if k != 0 {
         return Written::Refused(k);
     }
     let d = weights.len();
-    let w = num::index(field::size(p));
-    if !form::record_ok(bytes, d, w) {
+    let w = rules::size(first);
+    if !form::record_ok(first, bytes, d) {
         return Written::Refused(16);
     }
     let n = d * w;
     if out.len() < n {
         return Written::Refused(2);
     }
-    expansion::expand_in(p, w, weights, bytes, &mut out[..n]);
+    expansion::expand_in(first, w, weights, bytes, &mut out[..n]);
     Written::Bytes(n)
 }

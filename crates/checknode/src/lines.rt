@@ -1,6 +1,5 @@
 // The lines of one check: for each column, what is left of 255 after the cost of the symbol in each row. Beside them each weight's products
 // with every symbol are kept, for the sent costs.
-use crate::field;
 use crate::num;
 use crate::products;
 ghost use mathlib.Core.Path.{_≡_};
@@ -9,6 +8,7 @@ ghost use lib.ListN.{length, getD};
 ghost use Rattle.trellis.specs.Lists.{tab, blocks};
 ghost use Rattle.trellis.specs.Field.{xor, product};
 ghost use Rattle.trellis.specs.Check.{firstZero};
+ghost use Rattle.trellis.specs.Rules.{powerOf};
 ghost use Rattle.trellis.specs.Ready.{Ready};
 ghost use Rattle.engine.specs.Terms.{termOf, sumTo};
 ghost use Rattle.engine.specs.Lines.{placed};
@@ -100,7 +100,7 @@ fn column(p: u8, h: u8, costs: &[u8], table: &[u8], row: &mut [u8], line: &mut [
 
 // All columns: their products, their lines, l places each, and each h times z, whose sum is the answer.
 pub fn lines(
-    p: u8,
+    first: u8,
     l: usize,
     weights: &[u8],
     costs: &[u8],
@@ -109,15 +109,16 @@ pub fn lines(
     lines: &mut [u8],
     out: &mut [u8],
 ) -> u8
-    requires { ⌜ Ready p (now weights) (now costs) ⌝ }
-    requires { ⌜ TableFor p (now table) ⌝ }
-    requires { ⌜ LinesRoom p l (length (now weights)) (now rows) (now lines) (now out) ⌝ }
-    ensures { λ r. ⌜ r ≡ sumTo (termOf p (now (weights .entry)) (now (costs .entry))) (length (now (weights .entry))) ⌝ }
-    ensures { λ _. ⌜ now (rows .exit) ≡ blocks (rowOf p (now (weights .entry))) (length (now (weights .entry))) ⌝ }
-    ensures { λ _. ⌜ now (lines .exit) ≡ blocks (restsOf p (now (weights .entry)) (now (costs .entry)) l) (length (now (weights .entry))) ⌝ }
-    ensures { λ _. ⌜ now (out .exit) ≡ tab (termOf p (now (weights .entry)) (now (costs .entry))) (length (now (weights .entry))) ⌝ }
+    requires { ⌜ Ready first (now weights) (now costs) ⌝ }
+    requires { ⌜ TableFor (powerOf first) (now table) ⌝ }
+    requires { ⌜ LinesRoom (powerOf first) l (length (now weights)) (now rows) (now lines) (now out) ⌝ }
+    ensures { λ r. ⌜ r ≡ sumTo (termOf (powerOf first) (now (weights .entry)) (now (costs .entry))) (length (now (weights .entry))) ⌝ }
+    ensures { λ _. ⌜ now (rows .exit) ≡ blocks (rowOf (powerOf first) (now (weights .entry))) (length (now (weights .entry))) ⌝ }
+    ensures { λ _. ⌜ now (lines .exit) ≡ blocks (restsOf (powerOf first) (now (weights .entry)) (now (costs .entry)) l) (length (now (weights .entry))) ⌝ }
+    ensures { λ _. ⌜ now (out .exit) ≡ tab (termOf (powerOf first) (now (weights .entry)) (now (costs .entry))) (length (now (weights .entry))) ⌝ }
 {
-    let w = num::index(field::size(p));
+    let p = rules::power(first);
+    let w = rules::size(first);
     let mut sum: u8 = 0;
     let mut n = 0;
     while n < weights.len() {

@@ -34,13 +34,10 @@ fn weights_ok(q: u8, weights: &[u8]) -> bool
 }
 
 // 6, 9 or 11, in this order, or 0 for none of them.
-pub fn weights_fault(p: u8, weights: &[u8]) -> u8
-    ensures { λ r. ⌜ r ≡ weightsFault p (now (weights .entry)) ⌝ }
+pub fn weights_fault(first: u8, weights: &[u8]) -> u8
+    ensures { λ r. ⌜ r ≡ weightsFault first (now (weights .entry)) ⌝ }
 {
-    if p < 2 {
-        return 6;
-    }
-    if 6 < p {
+    if !rules::accepted(first) {
         return 6;
     }
     if weights.len() < 2 {
@@ -49,7 +46,7 @@ pub fn weights_fault(p: u8, weights: &[u8]) -> u8
     if 32 < weights.len() {
         return 9;
     }
-    if weights_ok(field::size(p), weights) {
+    if weights_ok(field::size(rules::power(first)), weights) {
         return 0;
     }
     11
@@ -85,22 +82,22 @@ fn zeros_ok(costs: &[u8], d: usize, w: usize) -> bool
 }
 
 // 6, 9, 11, 12, 13 or 4, in this order, or 0 for none of them. room is the length of the record buffer.
-pub fn check_fault(p: u8, weights: &[u8], costs: &[u8], room: usize) -> u8
-    ensures { λ r. ⌜ r ≡ checkFault p (now (weights .entry)) (now (costs .entry)) room ⌝ }
+pub fn check_fault(first: u8, weights: &[u8], costs: &[u8], room: usize) -> u8
+    ensures { λ r. ⌜ r ≡ checkFault first (now (weights .entry)) (now (costs .entry)) room ⌝ }
 {
-    let k = weights_fault(p, weights);
+    let k = weights_fault(first, weights);
     if k != 0 {
         return k;
     }
     let d = weights.len();
-    let w = num::index(field::size(p));
+    let w = rules::size(first);
     if costs.len() != d * w {
         return 12;
     }
     if !zeros_ok(costs, d, w) {
         return 13;
     }
-    if room < form::record_bytes(d, w) {
+    if room < form::record_bytes(first, d) {
         return 4;
     }
     0

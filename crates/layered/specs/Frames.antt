@@ -5,6 +5,7 @@ use Prim.Native.Nat.{ℕ, _*_, _^_, _≤_}
 use lib.Dec.{eqb, ltb}
 use lib.ListN.{length}
 use Rattle.trellis.specs.Lists.{pick, allTo}
+use Rattle.trellis.specs.Rules.{sizeOf}
 use Rattle.trellis.specs.Reply.{Reply}
 use Rattle.machine.specs.CodeLine.{Code, zeroIn}
 use Rattle.machine.specs.Tables.{Tabled}
@@ -14,7 +15,7 @@ use Rattle.layered.specs.Passes.{placeAt}
 
 -- "12, cost count wrong; 13, a column without a cost of 0"
 unfoldable pub frameFaultOf : ℕ → ℕ → List ℕ → ℕ
-frameFaultOf p n f = pick (eqb (length f) (n * 2 ^ p)) (pick (allTo (zeroIn (2 ^ p) f) n) 0 13) 12
+frameFaultOf first n f = pick (eqb (length f) (n * sizeOf first)) (pick (allTo (zeroIn (sizeOf first) f) n) 0 13) 12
 
 -- 2, 3, 4, in this order: n symbols, w costs and u bytes are needed
 unfoldable pub roomFault : ℕ → ℕ → ℕ → ℕ → ℕ → ℕ → ℕ
@@ -22,12 +23,12 @@ roomFault n w u y c s = pick (ltb y n) 2 (pick (ltb c w) 3 (pick (ltb s u) 4 0))
 
 -- "12, 13, 2, 3, 4"
 unfoldable pub faultOf : ℕ → ℕ → List ℕ → List ℕ → ℕ → ℕ → ℕ → ℕ
-faultOf p n ds f y c s = pick (eqb (frameFaultOf p n f) 0) (roomFault n (n * 2 ^ p) (placeAt p ds (length ds)) y c s) (frameFaultOf p n f)
+faultOf first n ds f y c s = pick (eqb (frameFaultOf first n f) 0) (roomFault n (n * sizeOf first) (placeAt first ds (length ds)) y c s) (frameFaultOf first n f)
 
 -- the numbers of an accepted code, and tables that start with its own
-pub record Coded (C : Code) (p n m g limit : ℕ) (ds cs ws : List ℕ) : Type 0 where
+pub record Coded (C : Code) (first n m g limit : ℕ) (ds cs ws : List ℕ) : Type 0 where
   pub good : GoodCode C
-  pub p-is : p ≡ C .p
+  pub first-is : first ≡ C .first
   pub columns-is : n ≡ C .columns
   pub checks-is : m ≡ length (C .checks)
   pub scale-is : g ≡ C .scale
@@ -35,9 +36,9 @@ pub record Coded (C : Code) (p n m g limit : ℕ) (ds cs ws : List ℕ) : Type 0
   pub tabled : Tabled C ds cs ws
 
 -- some accepted code has these; and room to work in
-pub record CodeRoom (p n m g limit : ℕ) (ds cs ws A S : List ℕ) : Type 0 where
+pub record CodeRoom (first n m g limit : ℕ) (ds cs ws A S : List ℕ) : Type 0 where
   pub code : Code
-  pub coded : Coded code p n m g limit ds cs ws
+  pub coded : Coded code first n m g limit ds cs ws
   pub arrived : 2048 ≤ length A
   pub sent : 2048 ≤ length S
 

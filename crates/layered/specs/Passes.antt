@@ -7,7 +7,7 @@ use lib.Dec.{eqb}
 use lib.ListN.{length, getD, take}
 use Rattle.trellis.specs.Lists.{pick, upto, part, patch}
 use Rattle.trellis.specs.Record.{recordLength}
-use Rattle.trellis.specs.Rules.{ruleFor}
+use Rattle.trellis.specs.Rules.{powerOf, sizeOf, ruleFor}
 use Rattle.machine.specs.CodeLine.{Code}
 use Rattle.machine.specs.Machine.{State, found, notFound, lastOf, used}
 use Rattle.machine.specs.Tables.{tablesOf, before}
@@ -21,16 +21,16 @@ use Rattle.layered.specs.declared.Outcome.the-variants.{Found, NotFound}
 use Rattle.layered.specs.Parity.{decisionsOf, allHold}
 use Rattle.layered.specs.Turns.{recordNow, costsNow}
 
--- p, g, the degrees of the checks, and the columns and weights of all edges end to end
+-- the first code byte, g, the degrees of the checks, and the columns and weights of all edges end to end
 pub record Graph : Type 0 where
-  pub p : ℕ
+  pub first : ℕ
   pub scale : ℕ
   pub degrees : List ℕ
   pub columns : List ℕ
   pub weights : List ℕ
 
 abbrev pub graph : ℕ → ℕ → List ℕ → List ℕ → List ℕ → Graph
-graph p g ds cs ws = record { p = p; scale = g; degrees = ds; columns = cs; weights = ws }
+graph first g ds cs ws = record { first = first; scale = g; degrees = ds; columns = cs; weights = ws }
 
 abbrev pub lent : List ℕ → List ℕ → Lent
 lent P s = record { costs = P; store = s }
@@ -41,20 +41,20 @@ tableAt ds l m = part l (before ds m) (getD ds m 0)
 
 -- the length of check m's record, and its place in the store
 abbrev pub lengthAt : ℕ → List ℕ → ℕ → ℕ
-lengthAt p ds m = recordLength (ruleFor p) (getD ds m 0)
+lengthAt first ds m = recordLength (ruleFor first) (getD ds m 0)
 
 unfoldable pub placeAt : ℕ → List ℕ → ℕ → ℕ
-placeAt p ds m = upto (λ k a. a + lengthAt p ds k) m 0
+placeAt first ds m = upto (λ k a. a + lengthAt first ds k) m 0
 
 abbrev pub recordAt : ℕ → List ℕ → ℕ → List ℕ → List ℕ
-recordAt p ds m s = part s (placeAt p ds m) (lengthAt p ds m)
+recordAt first ds m s = part s (placeAt first ds m) (lengthAt first ds m)
 
 -- one update of check m
 unfoldable pub turnAt : Graph → Bool → ℕ → Lent → Lent
 turnAt T start m l =
     record {
-      costs = costsNow (T .p) (T .scale) start (tableAt (T .degrees) (T .columns) m) (tableAt (T .degrees) (T .weights) m) (recordAt (T .p) (T .degrees) m (l .store)) (l .costs);
-      store = patch (l .store) (placeAt (T .p) (T .degrees) m) (lengthAt (T .p) (T .degrees) m) (recordNow (T .p) (T .scale) start (tableAt (T .degrees) (T .columns) m) (tableAt (T .degrees) (T .weights) m) (recordAt (T .p) (T .degrees) m (l .store)) (l .costs));
+      costs = costsNow (T .first) (T .scale) start (tableAt (T .degrees) (T .columns) m) (tableAt (T .degrees) (T .weights) m) (recordAt (T .first) (T .degrees) m (l .store)) (l .costs);
+      store = patch (l .store) (placeAt (T .first) (T .degrees) m) (lengthAt (T .first) (T .degrees) m) (recordNow (T .first) (T .scale) start (tableAt (T .degrees) (T .columns) m) (tableAt (T .degrees) (T .weights) m) (recordAt (T .first) (T .degrees) m (l .store)) (l .costs));
     }
 
 unfoldable pub passOver : Graph → Bool → Lent → Lent
@@ -62,7 +62,7 @@ passOver T start l = upto (turnAt T start) (length (T .degrees)) l
 
 -- the decisions of n columns satisfy every check
 abbrev pub settledOn : Graph → ℕ → List ℕ → Bool
-settledOn T n P = allHold (T .p) (T .degrees) (T .columns) (T .weights) (decisionsOf (2 ^ T .p) P n) (length (T .degrees))
+settledOn T n P = allHold (powerOf (T .first)) (T .degrees) (T .columns) (T .weights) (decisionsOf (sizeOf (T .first)) P n) (length (T .degrees))
 
 -- at most k iterations more, after t
 unfoldable pub goOn : Graph → ℕ → ℕ → ℕ → Lent → Ended
@@ -76,7 +76,7 @@ endedIn (NotFound t) l = ended notFound t l
 
 -- tables that start with those of a code's checks; the degrees are just theirs
 pub record Tables (C : Code) (T : Graph) : Type 0 where
-  pub p-is : T .p ≡ C .p
+  pub first-is : T .first ≡ C .first
   pub scale-is : T .scale ≡ C .scale
   pub degrees-is : T .degrees ≡ tablesOf (C .checks) .degrees
   pub columns : take (length (tablesOf (C .checks) .edges .columns)) (T .columns) ≡ tablesOf (C .checks) .edges .columns

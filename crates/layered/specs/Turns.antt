@@ -8,7 +8,7 @@ use lib.ListN.{length, getD}
 use Rattle.trellis.specs.Lists.{pick, tab}
 use Rattle.trellis.specs.Check.{Column}
 use Rattle.trellis.specs.Record.{recordOf, recordLength, recordOk, expansion}
-use Rattle.trellis.specs.Rules.{ruleFor}
+use Rattle.trellis.specs.Rules.{firstOk, sizeOf, ruleFor}
 use Rattle.trellis.specs.Ready.{Ready}
 use Rattle.machine.specs.Machine.{spread}
 use Rattle.machine.specs.Lent.{weightsOf, heard, gathered}
@@ -17,46 +17,45 @@ use Rattle.layered.specs.Columns.{Below}
 
 -- what the old record sent, before scaling: its expansion; 0 in the first iteration
 unfoldable pub oldCosts : ℕ → Bool → List ℕ → List ℕ → List ℕ
-oldCosts p start ws r = pick start (tab (λ x. 0) (length ws * 2 ^ p)) (expansion (ruleFor p) ws r)
+oldCosts first start ws r = pick start (tab (λ x. 0) (length ws * sizeOf first)) (expansion (ruleFor first) ws r)
 
 -- the columns of the update, its record, and P after it
 abbrev pub columnsNow : ℕ → ℕ → Bool → List ℕ → List ℕ → List ℕ → List ℕ → List Column
-columnsNow p g start cs ws r P = gathered p g start (edgesOf cs ws) r P
+columnsNow first g start cs ws r P = gathered (ruleFor first) g start (edgesOf cs ws) r P
 
 unfoldable pub recordNow : ℕ → ℕ → Bool → List ℕ → List ℕ → List ℕ → List ℕ → List ℕ
-recordNow p g start cs ws r P = recordOf (ruleFor p) (columnsNow p g start cs ws r P)
+recordNow first g start cs ws r P = recordOf (ruleFor first) (columnsNow first g start cs ws r P)
 
 unfoldable pub costsNow : ℕ → ℕ → Bool → List ℕ → List ℕ → List ℕ → List ℕ → List ℕ
-costsNow p g start cs ws r P =
-    spread p (edgesOf cs ws) (columnsNow p g start cs ws r P) (heard p g false (weightsOf (edgesOf cs ws)) (recordOf (ruleFor p) (columnsNow p g start cs ws r P))) P
+costsNow first g start cs ws r P =
+    spread (sizeOf first) (edgesOf cs ws) (columnsNow first g start cs ws r P) (heard (ruleFor first) g false (weightsOf (edgesOf cs ws)) (recordOf (ruleFor first) (columnsNow first g start cs ws r P))) P
 
 -- the weights of an accepted check
-pub record Weighed (p : ℕ) (ws : List ℕ) : Type 0 where
-  pub low : 2 ≤ p
-  pub high : p ≤ 6
+pub record Weighed (first : ℕ) (ws : List ℕ) : Type 0 where
+  pub accepted : firstOk first ≡ true
   pub two : 2 ≤ length ws
   pub few : length ws ≤ 32
   pub some : (n : ℕ) → n < length ws → getD ws n 0 ≢ 0
-  pub small : (n : ℕ) → n < length ws → getD ws n 0 < 2 ^ p
+  pub small : (n : ℕ) → n < length ws → getD ws n 0 < sizeOf first
 
 -- room for what the old record sent; a record is there after the first iteration
-pub record RecallRoom (p : ℕ) (start : Bool) (ws r out : List ℕ) : Type 0 where
-  pub weighed : Weighed p ws
-  pub form : start ≡ false → recordOk (ruleFor p) (length ws) r ≡ true
-  pub full : length out ≡ length ws * 2 ^ p
+pub record RecallRoom (first : ℕ) (start : Bool) (ws r out : List ℕ) : Type 0 where
+  pub weighed : Weighed first ws
+  pub form : start ≡ false → recordOk (ruleFor first) (length ws) r ≡ true
+  pub full : length out ≡ length ws * sizeOf first
 
 -- a check that is accepted, room for its record and for its sent costs
-pub record SendRoom (p : ℕ) (ws Q r out : List ℕ) : Type 0 where
-  pub ready : Ready p ws Q
-  pub for-record : length r ≡ recordLength (ruleFor p) (length ws)
-  pub full : length out ≡ length ws * 2 ^ p
+pub record SendRoom (first : ℕ) (ws Q r out : List ℕ) : Type 0 where
+  pub ready : Ready first ws Q
+  pub for-record : length r ≡ recordLength (ruleFor first) (length ws)
+  pub full : length out ≡ length ws * sizeOf first
 
 -- room for an update: the lent costs and record, and two lists to work in
-pub record UpdateRoom (p g : ℕ) (start : Bool) (cs ws P r Q S : List ℕ) : Type 0 where
-  pub recall : RecallRoom p start ws r S
+pub record UpdateRoom (first g : ℕ) (start : Bool) (cs ws P r Q S : List ℕ) : Type 0 where
+  pub recall : RecallRoom first start ws r S
   pub same : length cs ≡ length ws
-  pub columns : (k : ℕ) → k < length cs → getD cs k 0 * 2 ^ p + 2 ^ p ≤ length P
+  pub columns : (k : ℕ) → k < length cs → getD cs k 0 * sizeOf first + sizeOf first ≤ length P
   pub small : Below 510 P
   pub scale : g ≤ 16
-  pub for-record : length r ≡ recordLength (ruleFor p) (length ws)
-  pub for-costs : length Q ≡ length ws * 2 ^ p
+  pub for-record : length r ≡ recordLength (ruleFor first) (length ws)
+  pub for-costs : length Q ≡ length ws * sizeOf first

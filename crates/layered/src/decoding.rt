@@ -14,7 +14,7 @@ ghost use Rattle.layered.specs.Frames.{Coded, CodeRoom, Leaves};
 
 // "Decode: code, 12, 13, 2, 3, 4." Nothing is written before the last refusal has been tested.
 fn under_code(
-    p: u8,
+    first: u8,
     n: usize,
     m: usize,
     g: u16,
@@ -29,17 +29,17 @@ fn under_code(
     arrived: &mut [u8],
     sent: &mut [u8],
 ) -> Answer
-    requires { ⌜ CodeRoom p n m g limit (now degrees) (now columns) (now weights) (now arrived) (now sent) ⌝ }
-    ensures { λ r. ⌜ ((C : Code) → Coded C p n m g limit (now (degrees .entry)) (now (columns .entry)) (now (weights .entry)) → Leaves (underCode (good C) (now (frame .entry)) (now (symbols .entry)) (now (costs .entry)) (now (store .entry))) (answerReply r) (now (symbols .exit)) (now (costs .exit)) (now (store .exit))) ⌝ }
+    requires { ⌜ CodeRoom first n m g limit (now degrees) (now columns) (now weights) (now arrived) (now sent) ⌝ }
+    ensures { λ r. ⌜ ((C : Code) → Coded C first n m g limit (now (degrees .entry)) (now (columns .entry)) (now (weights .entry)) → Leaves (underCode (good C) (now (frame .entry)) (now (symbols .entry)) (now (costs .entry)) (now (store .entry))) (answerReply r) (now (symbols .exit)) (now (costs .exit)) (now (store .exit))) ⌝ }
 {
-    let k = frame::fault(p, n, &degrees[..m], frame, symbols, costs, store);
+    let k = frame::fault(first, n, &degrees[..m], frame, symbols, costs, store);
     if k != 0 {
         return Answer::Refused(k);
     }
     let w = frame.len();
     frame::copy(frame, &mut costs[..w]);
     let o = iterate::run(
-        p,
+        first,
         g,
         limit,
         &degrees[..m],
@@ -76,7 +76,7 @@ pub fn decode_in(
             columns: 0,
         },
         Header::Read {
-            p,
+            first,
             columns: n,
             checks: m,
             scale: g,
@@ -86,7 +86,7 @@ pub fn decode_in(
             let m = num::index(m);
             let g = num::wide(g);
             let answer = under_code(
-                p,
+                first,
                 n,
                 m,
                 g,

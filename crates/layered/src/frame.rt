@@ -1,10 +1,12 @@
 // A frame under a code: its tests, those of the buffers, and its costs in the cost buffer.
 use crate::num;
 ghost use mathlib.Core.Path.{_≡_};
+ghost use mathlib.Core.Bool.{true};
 ghost use Prim.Native.Nat.{_*_, _≤_};
 ghost use lib.ListN.{length};
 ghost use Rattle.trellis.specs.Lists.{allTo};
 ghost use Rattle.trellis.specs.Check.{firstZero};
+ghost use Rattle.trellis.specs.Rules.{firstOk};
 ghost use Rattle.machine.specs.CodeLine.{zeroIn};
 ghost use Rattle.layered.specs.Passes.{placeAt};
 ghost use Rattle.layered.specs.Frames.{frameFaultOf, roomFault, faultOf};
@@ -43,11 +45,11 @@ fn zeros_in(frame: &[u8], q: usize, n: usize) -> bool
 }
 
 // "12, cost count wrong; 13, a column without a cost of 0"; 0 for none.
-fn frame_fault(p: u8, n: usize, frame: &[u8]) -> u8
-    requires { ⌜ (p ≤ 6) × (n ≤ 256) ⌝ }
-    ensures { λ r. ⌜ r ≡ frameFaultOf p n (now (frame .entry)) ⌝ }
+fn frame_fault(first: u8, n: usize, frame: &[u8]) -> u8
+    requires { ⌜ (firstOk first ≡ true) × (n ≤ 256) ⌝ }
+    ensures { λ r. ⌜ r ≡ frameFaultOf first n (now (frame .entry)) ⌝ }
 {
-    let q = num::size(p);
+    let q = rules::size(first);
     if frame.len() != n * q {
         return 12;
     }
@@ -58,12 +60,11 @@ fn frame_fault(p: u8, n: usize, frame: &[u8]) -> u8
 }
 
 // "as many bytes as the M record lengths add up to".
-fn used(p: u8, degrees: &[u8]) -> usize
-    requires { ⌜ (p ≤ 6) × (length (now degrees) ≤ 128) ⌝ }
-    ensures { λ r. ⌜ r ≡ placeAt p (now (degrees .entry)) (length (now (degrees .entry))) ⌝ }
+fn used(first: u8, degrees: &[u8]) -> usize
+    requires { ⌜ (firstOk first ≡ true) × (length (now degrees) ≤ 128) ⌝ }
+    ensures { λ r. ⌜ r ≡ placeAt first (now (degrees .entry)) (length (now (degrees .entry))) ⌝ }
 {
-    let q = num::size(p);
-    let groups = 5 * (q - 1);
+    let groups = rules::groups(first);
     let mut sum = 0;
     let mut m = 0;
     while m < degrees.len() {
@@ -92,7 +93,7 @@ fn room_fault(n: usize, w: usize, u: usize, symbols: usize, costs: usize, store:
 
 // "Decode: code, 12, 13, 2, 3, 4.": what comes after the code; 0 for none.
 pub fn fault(
-    p: u8,
+    first: u8,
     n: usize,
     degrees: &[u8],
     frame: &[u8],
@@ -100,15 +101,15 @@ pub fn fault(
     costs: &[u16],
     store: &[u8],
 ) -> u8
-    requires { ⌜ (p ≤ 6) × ((n ≤ 256) × (length (now degrees) ≤ 128)) ⌝ }
-    ensures { λ r. ⌜ r ≡ faultOf p n (now (degrees .entry)) (now (frame .entry)) (length (now (symbols .entry))) (length (now (costs .entry))) (length (now (store .entry))) ⌝ }
+    requires { ⌜ (firstOk first ≡ true) × ((n ≤ 256) × (length (now degrees) ≤ 128)) ⌝ }
+    ensures { λ r. ⌜ r ≡ faultOf first n (now (degrees .entry)) (now (frame .entry)) (length (now (symbols .entry))) (length (now (costs .entry))) (length (now (store .entry))) ⌝ }
 {
-    let k = frame_fault(p, n, frame);
+    let k = frame_fault(first, n, frame);
     if k != 0 {
         return k;
     }
     let w = frame.len();
-    let u = used(p, degrees);
+    let u = used(first, degrees);
     room_fault(n, w, u, symbols.len(), costs.len(), store.len())
 }
 

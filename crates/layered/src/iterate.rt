@@ -5,14 +5,15 @@ use crate::parity;
 use crate::update;
 ghost use mathlib.Core.Path.{_≡_};
 ghost use mathlib.Core.Bool.{true};
-ghost use Prim.Native.Nat.{_^_, _≤_};
+ghost use Prim.Native.Nat.{_≤_};
 ghost use lib.ListN.{length};
+ghost use Rattle.trellis.specs.Rules.{sizeOf};
 ghost use Rattle.layered.specs.Parity.{decisionsOf};
 ghost use Rattle.layered.specs.Passes.{graph, lent, passOver, goOn, endedIn, PassRoom, RunRoom};
 
 // "An iteration .. takes the checks in code order." The places of a check's edges and of its record are carried along.
 fn pass(
-    p: u8,
+    first: u8,
     g: u16,
     start: bool,
     degrees: &[u8],
@@ -23,11 +24,11 @@ fn pass(
     arrived: &mut [u8],
     sent: &mut [u8],
 )
-    requires { ⌜ PassRoom (graph p g (now degrees) (now columns) (now weights)) start (now costs) (now store) (now arrived) (now sent) ⌝ }
-    ensures { λ _. ⌜ lent (now (costs .exit)) (now (store .exit)) ≡ passOver (graph p g (now (degrees .entry)) (now (columns .entry)) (now (weights .entry))) start (lent (now (costs .entry)) (now (store .entry))) ⌝ }
+    requires { ⌜ PassRoom (graph first g (now degrees) (now columns) (now weights)) start (now costs) (now store) (now arrived) (now sent) ⌝ }
+    ensures { λ _. ⌜ lent (now (costs .exit)) (now (store .exit)) ≡ passOver (graph first g (now (degrees .entry)) (now (columns .entry)) (now (weights .entry))) start (lent (now (costs .entry)) (now (store .entry))) ⌝ }
 {
-    let q = num::size(p);
-    let groups = 5 * (q - 1);
+    let q = rules::size(first);
+    let groups = rules::groups(first);
     let mut m = 0;
     let mut at = 0;
     let mut place = 0;
@@ -37,7 +38,7 @@ fn pass(
         let e = at + d;
         let f = place + (d + groups);
         update::update(
-            p,
+            first,
             g,
             start,
             &columns[at..e],
@@ -55,7 +56,7 @@ fn pass(
 
 // The machine on the costs in `costs`, at most `limit` iterations: "all checks satisfied means found. Otherwise, if t = I, not found."
 pub fn run(
-    p: u8,
+    first: u8,
     g: u16,
     limit: u8,
     degrees: &[u8],
@@ -67,10 +68,11 @@ pub fn run(
     arrived: &mut [u8],
     sent: &mut [u8],
 ) -> Outcome
-    requires { ⌜ RunRoom (graph p g (now degrees) (now columns) (now weights)) true (now costs) (now store) (now symbols) × ((2048 ≤ length (now arrived)) × (2048 ≤ length (now sent))) ⌝ }
-    ensures { λ r. ⌜ endedIn r (lent (now (costs .exit)) (now (store .exit))) ≡ goOn (graph p g (now (degrees .entry)) (now (columns .entry)) (now (weights .entry))) (length (now (symbols .entry))) limit 0 (lent (now (costs .entry)) (now (store .entry))) ⌝ }
-    ensures { λ _. ⌜ now (symbols .exit) ≡ decisionsOf (2 ^ p) (now (costs .exit)) (length (now (symbols .entry))) ⌝ }
+    requires { ⌜ RunRoom (graph first g (now degrees) (now columns) (now weights)) true (now costs) (now store) (now symbols) × ((2048 ≤ length (now arrived)) × (2048 ≤ length (now sent))) ⌝ }
+    ensures { λ r. ⌜ endedIn r (lent (now (costs .exit)) (now (store .exit))) ≡ goOn (graph first g (now (degrees .entry)) (now (columns .entry)) (now (weights .entry))) (length (now (symbols .entry))) limit 0 (lent (now (costs .entry)) (now (store .entry))) ⌝ }
+    ensures { λ _. ⌜ now (symbols .exit) ≡ decisionsOf (sizeOf first) (now (costs .exit)) (length (now (symbols .entry))) ⌝ }
 {
+    let p = rules::power(first);
     let mut t: u8 = 0;
     loop {
         if parity::settled(p, degrees, columns, weights, costs, symbols) {
@@ -80,7 +82,7 @@ pub fn run(
             return Outcome::NotFound(t);
         }
         pass(
-            p,
+            first,
             g,
             t == 0,
             degrees,

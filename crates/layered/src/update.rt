@@ -1,13 +1,11 @@
 // One update of a check: Q from the costs and the old record, the new record, and the costs again.
 use crate::column;
-use crate::num;
 ghost use mathlib.Core.Path.{_≡_};
-ghost use Prim.Native.Nat.{_^_};
 ghost use lib.ListN.{length};
 ghost use Rattle.trellis.specs.Lists.{tab};
 ghost use Rattle.trellis.specs.Check.{allSent};
 ghost use Rattle.trellis.specs.Record.{recordOf};
-ghost use Rattle.trellis.specs.Rules.{ruleFor, columnsOf};
+ghost use Rattle.trellis.specs.Rules.{ruleFor, sizeOf, columnsOf};
 ghost use Rattle.layered.specs.Turns.{oldCosts, RecallRoom, SendRoom, UpdateRoom, recordNow, costsNow};
 
 fn clear(out: &mut [u8])
@@ -21,29 +19,29 @@ fn clear(out: &mut [u8])
 }
 
 // What the old record sent, before scaling; "0 if none".
-fn recall(p: u8, start: bool, weights: &[u8], bytes: &[u8], out: &mut [u8])
-    requires { ⌜ RecallRoom p start (now weights) (now bytes) (now out) ⌝ }
-    ensures { λ _. ⌜ now (out .exit) ≡ oldCosts p start (now (weights .entry)) (now (bytes .entry)) ⌝ }
+fn recall(first: u8, start: bool, weights: &[u8], bytes: &[u8], out: &mut [u8])
+    requires { ⌜ RecallRoom first start (now weights) (now bytes) (now out) ⌝ }
+    ensures { λ _. ⌜ now (out .exit) ≡ oldCosts first start (now (weights .entry)) (now (bytes .entry)) ⌝ }
 {
     if start {
         clear(out);
         return;
     }
-    checknode::expand(p, weights, bytes, out);
+    checknode::expand(first, weights, bytes, out);
 }
 
 // The record of the check with these costs, and its sent costs.
-fn send(p: u8, weights: &[u8], costs: &[u8], bytes: &mut [u8], out: &mut [u8])
-    requires { ⌜ SendRoom p (now weights) (now costs) (now bytes) (now out) ⌝ }
-    ensures { λ _. ⌜ now (bytes .exit) ≡ recordOf (ruleFor p) (columnsOf (2 ^ p) (now (weights .entry)) (now (costs .entry))) ⌝ }
-    ensures { λ _. ⌜ now (out .exit) ≡ allSent (ruleFor p) (columnsOf (2 ^ p) (now (weights .entry)) (now (costs .entry))) ⌝ }
+fn send(first: u8, weights: &[u8], costs: &[u8], bytes: &mut [u8], out: &mut [u8])
+    requires { ⌜ SendRoom first (now weights) (now costs) (now bytes) (now out) ⌝ }
+    ensures { λ _. ⌜ now (bytes .exit) ≡ recordOf (ruleFor first) (columnsOf (sizeOf first) (now (weights .entry)) (now (costs .entry))) ⌝ }
+    ensures { λ _. ⌜ now (out .exit) ≡ allSent (ruleFor first) (columnsOf (sizeOf first) (now (weights .entry)) (now (costs .entry))) ⌝ }
 {
-    checknode::messages(p, weights, costs, bytes, out);
+    checknode::messages(first, weights, costs, bytes, out);
 }
 
 // "This is one update of the check", whose record stands in `bytes`; `arrived` and `sent` are room to work in.
 pub fn update(
-    p: u8,
+    first: u8,
     g: u16,
     start: bool,
     columns: &[u16],
@@ -53,13 +51,13 @@ pub fn update(
     arrived: &mut [u8],
     sent: &mut [u8],
 )
-    requires { ⌜ UpdateRoom p g start (now columns) (now weights) (now costs) (now bytes) (now arrived) (now sent) ⌝ }
-    ensures { λ _. ⌜ now (costs .exit) ≡ costsNow p g start (now (columns .entry)) (now (weights .entry)) (now (bytes .entry)) (now (costs .entry)) ⌝ }
-    ensures { λ _. ⌜ now (bytes .exit) ≡ recordNow p g start (now (columns .entry)) (now (weights .entry)) (now (bytes .entry)) (now (costs .entry)) ⌝ }
+    requires { ⌜ UpdateRoom first g start (now columns) (now weights) (now costs) (now bytes) (now arrived) (now sent) ⌝ }
+    ensures { λ _. ⌜ now (costs .exit) ≡ costsNow first g start (now (columns .entry)) (now (weights .entry)) (now (bytes .entry)) (now (costs .entry)) ⌝ }
+    ensures { λ _. ⌜ now (bytes .exit) ≡ recordNow first g start (now (columns .entry)) (now (weights .entry)) (now (bytes .entry)) (now (costs .entry)) ⌝ }
 {
-    let q = num::size(p);
-    recall(p, start, weights, bytes, sent);
+    let q = rules::size(first);
+    recall(first, start, weights, bytes, sent);
     column::gather(costs, columns, sent, g, q, arrived);
-    send(p, weights, arrived, bytes, sent);
+    send(first, weights, arrived, bytes, sent);
     column::scatter(arrived, sent, columns, g, q, costs);
 }

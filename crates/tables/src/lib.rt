@@ -1,4 +1,4 @@
-// A second engine for one check: tables of rests over the columns before and after each one, sixteen rows at a time.
+// The engine of one check: tables of rests over the columns before and after each one, sixteen rows at a time.
 mod block;
 mod copies;
 mod grow;
@@ -9,17 +9,11 @@ mod num;
 mod rows;
 
 use crate::num::Shape;
+use rules::Rule;
 ghost use mathlib.Core.Path.{_≡_};
 ghost use Prim.Native.Nat.{_^_, _≤_};
 ghost use Rattle.tables.specs.inner.Tables.{Shaped};
 ghost use Rattle.tables.specs.Calls.{side, inRange, shapeFor, sentLeaves, groupsLeave};
-
-// The rule that travels inside the code: q is 2 ^ p, at most k deviations, costs joined to their sum or to their greatest.
-pub struct Rule {
-    pub p: u8,
-    pub k: u8,
-    pub greatest: bool,
-}
 
 // Whether rule and degree are in range.
 fn fits(rule: Rule, d: usize) -> bool

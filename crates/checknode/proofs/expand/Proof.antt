@@ -16,47 +16,41 @@ weights-fault-requires c κs = search needs
 returns : tie.Need-returns
 returns c =
     let s = c .before .before .before .before .before in
-    refused-fault (s .args .p) (s .args .weights .now) (s .args .bytes .now) (s .args .out .now) (c .before .weights-fault .ensures) (c .if1 .taken)
+    refused-fault (s .args .first) (s .args .weights .now) (s .args .bytes .now) (s .args .out .now) (c .before .weights-fault .ensures) (c .if1 .taken)
 
 size-requires : tie.Need-size-requires
-size-requires c κs =
-    let s = c .before .before .before .before .before in
-    let W : Weighed (s .args .p) (s .args .weights .now) = no-fault _ _ (sym (c .before .weights-fault .ensures) ∙ c .if1 .left) in
-    (W .low, W .high)
-
-index-requires : tie.Need-index-requires
-index-requires c κs = search needs
+size-requires c κs = search needs
 
 record-ok-requires : tie.Need-record-ok-requires
 record-ok-requires c κs =
-    let at-if1 = c .before .before in
+    let at-if1 = c .before in
     let s = at-if1 .before .before .before .before .before in
-    let W : Weighed (s .args .p) (s .args .weights .now) = no-fault _ _ (sym (at-if1 .before .weights-fault .ensures) ∙ at-if1 .if1 .left) in
-    (W .few, (omega arith, omega arith))
+    let W : Weighed (s .args .first) (s .args .weights .now) = no-fault _ _ (sym (at-if1 .before .weights-fault .ensures) ∙ at-if1 .if1 .left) in
+    (W .few, W .accepted)
 
 returns-2 : tie.Need-returns-2
 returns-2 c =
-    let at-index = c .before .before in
-    let at-if1 = at-index .before .before in
+    let at-size = c .before .before in
+    let at-if1 = at-size .before in
     let s = at-if1 .before .before .before .before .before in
-    let W : Weighed (s .args .p) (s .args .weights .now) = no-fault _ _ (sym (at-if1 .before .weights-fault .ensures) ∙ at-if1 .if1 .left) in
-    refused-16 (s .args .p) (s .args .weights .now) (s .args .bytes .now) (s .args .out .now) W _ (at-index .index .ensures .0 ∙ at-index .before .size .ensures .0) (c .before .record-ok .ensures) (not-true _ (c .if2 .taken))
+    let W : Weighed (s .args .first) (s .args .weights .now) = no-fault _ _ (sym (at-if1 .before .weights-fault .ensures) ∙ at-if1 .if1 .left) in
+    refused-16 (s .args .first) (s .args .weights .now) (s .args .bytes .now) (s .args .out .now) W _ (at-size .size .ensures .0) (c .before .record-ok .ensures) (not-true _ (c .if2 .taken))
 
 mul-n : tie.Need-mul-n
 mul-n c =
-    let at-index = c .before .before in
-    let at-if1 = at-index .before .before in
+    let at-size = c .before .before in
+    let at-if1 = at-size .before in
     let s = at-if1 .before .before .before .before .before in
-    let W : Weighed (s .args .p) (s .args .weights .now) = no-fault _ _ (sym (at-if1 .before .weights-fault .ensures) ∙ at-if1 .if1 .left) in
-    omega (arith, mul-small (length (s .args .weights .now)) (at-index .index .result) (W .few) (omega arith))
+    let W : Weighed (s .args .first) (s .args .weights .now) = no-fault _ _ (sym (at-if1 .before .weights-fault .ensures) ∙ at-if1 .if1 .left) in
+    omega (arith, mul-small (length (s .args .weights .now)) (at-size .size .result) (W .few) (omega (arith, at-size .size .ensures .0, size-64 _ (W .high))))
 
 returns-3 : tie.Need-returns-3
 returns-3 c =
-    let at-index = c .before .before .before in
-    let at-if1 = at-index .before .before in
+    let at-size = c .before .before .before in
+    let at-if1 = at-size .before in
     let s = at-if1 .before .before .before .before .before in
-    let W : Weighed (s .args .p) (s .args .weights .now) = no-fault _ _ (sym (at-if1 .before .weights-fault .ensures) ∙ at-if1 .if1 .left) in
-    refused-2 (s .args .p) (s .args .weights .now) (s .args .bytes .now) (s .args .out .now) W _ (at-index .index .ensures .0 ∙ at-index .before .size .ensures .0) (c .before .before .record-ok .ensures) (not-false _ (c .before .if2 .left)) (c .if3 .taken)
+    let W : Weighed (s .args .first) (s .args .weights .now) = no-fault _ _ (sym (at-if1 .before .weights-fault .ensures) ∙ at-if1 .if1 .left) in
+    refused-2 (s .args .first) (s .args .weights .now) (s .args .bytes .now) (s .args .out .now) W _ (at-size .size .ensures .0) (c .before .before .record-ok .ensures) (not-false _ (c .before .if2 .left)) (c .if3 .taken)
 
 slice-relend-prefix-expand-in : tie.Need-slice-relend-prefix-expand-in
 slice-relend-prefix-expand-in c = search needs
@@ -66,13 +60,13 @@ slice-aggregate-expand-in c = simp length-take (omega arith)
 
 expand-in-requires : tie.Need-expand-in-requires
 expand-in-requires c κs =
-    let at-index = c .before .before .before .before in
-    let at-if1 = at-index .before .before in
+    let at-size = c .before .before .before .before in
+    let at-if1 = at-size .before in
     let s = at-if1 .before .before .before .before .before in
-    let W : Weighed (s .args .p) (s .args .weights .now) = no-fault _ _ (sym (at-if1 .before .weights-fault .ensures) ∙ at-if1 .if1 .left) in
-    let e = at-index .index .ensures .0 ∙ at-index .before .size .ensures .0 in
-    let X = accepts (s .args .p) (s .args .weights .now) (s .args .bytes .now) (s .args .out .now) W _ e (c .before .before .before .record-ok .ensures) (not-false _ (c .before .before .if2 .left)) in
-    (X, (omega (arith, e, size-64 (s .args .p) (W .high)), (e, rw (← e) (simp length-take (omega arith)))))
+    let W : Weighed (s .args .first) (s .args .weights .now) = no-fault _ _ (sym (at-if1 .before .weights-fault .ensures) ∙ at-if1 .if1 .left) in
+    let e = at-size .size .ensures .0 in
+    let X = accepts (s .args .first) (s .args .weights .now) (s .args .bytes .now) (s .args .out .now) W _ e (c .before .before .before .record-ok .ensures) (not-false _ (c .before .before .if2 .left)) in
+    (X, (omega (arith, e, size-64 _ (W .high)), (e, rw (← e) (simp length-take (omega arith)))))
 
 same-length : tie.Need-same-length
 same-length c = search needs
@@ -80,11 +74,11 @@ same-length c = search needs
 returns-4 : tie.Need-returns-4
 returns-4 c =
     let at-if3 = c .before .before .before .before in
-    let at-index = at-if3 .before .before .before in
-    let at-if1 = at-index .before .before in
+    let at-size = at-if3 .before .before .before in
+    let at-if1 = at-size .before in
     let s = at-if1 .before .before .before .before .before in
-    let W : Weighed (s .args .p) (s .args .weights .now) = no-fault _ _ (sym (at-if1 .before .weights-fault .ensures) ∙ at-if1 .if1 .left) in
-    written (s .args .p) (s .args .weights .now) (s .args .bytes .now) (s .args .out .now) W _ (at-index .index .ensures .0 ∙ at-index .before .size .ensures .0) (at-if3 .before .before .record-ok .ensures) (not-false _ (at-if3 .before .if2 .left)) (at-if3 .if3 .left) (c .before .before .expand-in .ensures)
+    let W : Weighed (s .args .first) (s .args .weights .now) = no-fault _ _ (sym (at-if1 .before .weights-fault .ensures) ∙ at-if1 .if1 .left) in
+    written (s .args .first) (s .args .weights .now) (s .args .bytes .now) (s .args .out .now) W _ (at-size .size .ensures .0) (at-if3 .before .before .record-ok .ensures) (not-false _ (at-if3 .before .if2 .left)) (at-if3 .if3 .left) (c .before .before .expand-in .ensures)
 
 pub expand-spec : {M : Type 1} → statement M
 expand-spec =
@@ -93,7 +87,6 @@ expand-spec =
     weights-fault-requires
     returns
     size-requires
-    index-requires
     record-ok-requires
     returns-2
     mul-n

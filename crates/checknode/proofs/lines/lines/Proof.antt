@@ -7,6 +7,7 @@ use native.Mathlib.Omega.{arith}
 use borrow.Author.Needs.{needs}
 use lib.ListN.{length, drop, length-take, length-drop}
 use Rattle.trellis.specs.Lists.{tab, blocks}
+use Rattle.trellis.specs.Rules.{powerOf, sizeOf}
 use Rattle.engine.specs.Terms.{termOf, sumTo}
 use Rattle.checknode.specs.Lines.{rowOf, restsOf}
 use Rattle.trellis.proofs.Loops.{tab-whole, block-end}
@@ -17,49 +18,49 @@ use Rattle.checknode.proofs.lines.lines.Statement.{statement}
 use Rattle.checknode.proofs.lines.lines.Tie as tie
 
 abbrev Inv-loop : tie.InvT-loop
-Inv-loop p l weights costs table rows₀ lines₀ out₀ w sum₀ n₀ rows lines out sum n = (n ≤ length weights) × (((length rows ≡ length rows₀) × ((length lines ≡ length lines₀) × (length out ≡ length out₀))) × ((rows ≡ blocks (rowOf p weights) n ++ drop (n * 2 ^ p) rows₀) × ((lines ≡ blocks (restsOf p weights costs l) n ++ drop (n * l) lines₀) × ((out ≡ tab (termOf p weights costs) n ++ drop n out₀) × (sum ≡ sumTo (termOf p weights costs) n)))))
+Inv-loop first l weights costs table rows₀ lines₀ out₀ p w sum₀ n₀ rows lines out sum n = (n ≤ length weights) × (((length rows ≡ length rows₀) × ((length lines ≡ length lines₀) × (length out ≡ length out₀))) × ((rows ≡ blocks (rowOf (powerOf first) weights) n ++ drop (n * sizeOf first) rows₀) × ((lines ≡ blocks (restsOf (powerOf first) weights costs l) n ++ drop (n * l) lines₀) × ((out ≡ tab (termOf (powerOf first) weights costs) n ++ drop n out₀) × (sum ≡ sumTo (termOf (powerOf first) weights costs) n)))))
 
 abbrev μ-loop : tie.MeasureT-loop
-μ-loop p l weights costs table rows₀ lines₀ out₀ w sum₀ n₀ rows lines out sum n = length weights - n
+μ-loop first l weights costs table rows₀ lines₀ out₀ p w sum₀ n₀ rows lines out sum n = length weights - n
+
+power-requires : tie.Need-power-requires Inv-loop μ-loop
+power-requires c κs = search needs
 
 size-requires : tie.Need-size-requires Inv-loop μ-loop
 size-requires c κs = search needs
 
-index-requires : tie.Need-index-requires Inv-loop μ-loop
-index-requires c κs = search needs
-
 loop-holds : tie.Need-loop-holds Inv-loop μ-loop
 loop-holds c =
     let start = c .before .before .before .before .before .before .before .before in
-    let w = 2 ^ start .args .p in
+    let w = sizeOf (start .args .first) in
     (omega arith, ((refl, (refl, refl)), (rw (zero-mul w) refl, (rw (zero-mul (start .args .l)) refl, (refl, refl)))))
 
 mul-a : tie.Need-mul-a Inv-loop μ-loop
 mul-a c =
     let at-loop = c .before in
     let start = at-loop .before .before .before .before .before .before .before .before .before in
-    let b = lines-room (start .args .p) (start .args .l) (start .args .weights .now) (start .args .costs .now) (start .args .rows .now) (start .args .lines .now) (start .args .out .now) (start .pre .0) (start .pre .1 .1) (at-loop .loop .n) (omega arith) (at-loop .before .index .result) (at-loop .before .index .ensures .0 ∙ at-loop .before .before .size .ensures .0) in
+    let b = lines-room (start .args .first) (start .args .l) (start .args .weights .now) (start .args .costs .now) (start .args .rows .now) (start .args .lines .now) (start .args .out .now) (start .pre .0) (start .pre .1 .1) (at-loop .loop .n) (omega arith) (at-loop .before .size .result) (at-loop .before .size .ensures .0) in
     omega (arith, b .0, b .2)
 
 add-e : tie.Need-add-e Inv-loop μ-loop
 add-e c =
     let at-loop = c .before in
     let start = at-loop .before .before .before .before .before .before .before .before .before in
-    let b = lines-room (start .args .p) (start .args .l) (start .args .weights .now) (start .args .costs .now) (start .args .rows .now) (start .args .lines .now) (start .args .out .now) (start .pre .0) (start .pre .1 .1) (at-loop .loop .n) (omega arith) (at-loop .before .index .result) (at-loop .before .index .ensures .0 ∙ at-loop .before .before .size .ensures .0) in
+    let b = lines-room (start .args .first) (start .args .l) (start .args .weights .now) (start .args .costs .now) (start .args .rows .now) (start .args .lines .now) (start .args .out .now) (start .pre .0) (start .pre .1 .1) (at-loop .loop .n) (omega arith) (at-loop .before .size .result) (at-loop .before .size .ensures .0) in
     omega (arith, b .0, b .2)
 
 mul-b : tie.Need-mul-b Inv-loop μ-loop
 mul-b c =
     let at-loop = c .before in
     let start = at-loop .before .before .before .before .before .before .before .before .before in
-    let b = lines-room (start .args .p) (start .args .l) (start .args .weights .now) (start .args .costs .now) (start .args .rows .now) (start .args .lines .now) (start .args .out .now) (start .pre .0) (start .pre .1 .1) (at-loop .loop .n) (omega arith) (at-loop .before .index .result) (at-loop .before .index .ensures .0 ∙ at-loop .before .before .size .ensures .0) in
+    let b = lines-room (start .args .first) (start .args .l) (start .args .weights .now) (start .args .costs .now) (start .args .rows .now) (start .args .lines .now) (start .args .out .now) (start .pre .0) (start .pre .1 .1) (at-loop .loop .n) (omega arith) (at-loop .before .size .result) (at-loop .before .size .ensures .0) in
     omega (arith, b .0, b .2)
 
 add-f : tie.Need-add-f Inv-loop μ-loop
 add-f c =
     let at-loop = c .before in
     let start = at-loop .before .before .before .before .before .before .before .before .before in
-    let b = lines-room (start .args .p) (start .args .l) (start .args .weights .now) (start .args .costs .now) (start .args .rows .now) (start .args .lines .now) (start .args .out .now) (start .pre .0) (start .pre .1 .1) (at-loop .loop .n) (omega arith) (at-loop .before .index .result) (at-loop .before .index .ensures .0 ∙ at-loop .before .before .size .ensures .0) in
+    let b = lines-room (start .args .first) (start .args .l) (start .args .weights .now) (start .args .costs .now) (start .args .rows .now) (start .args .lines .now) (start .args .out .now) (start .pre .0) (start .pre .1 .1) (at-loop .loop .n) (omega arith) (at-loop .before .size .result) (at-loop .before .size .ensures .0) in
     omega (arith, b .0, b .2)
 
 shared-slice-read-column : tie.Need-shared-slice-read-column Inv-loop μ-loop
@@ -69,75 +70,76 @@ sub-column : tie.Need-sub-column Inv-loop μ-loop
 sub-column c =
     let at-loop = c .before .before in
     let start = at-loop .before .before .before .before .before .before .before .before .before in
-    let b = lines-room (start .args .p) (start .args .l) (start .args .weights .now) (start .args .costs .now) (start .args .rows .now) (start .args .lines .now) (start .args .out .now) (start .pre .0) (start .pre .1 .1) (at-loop .loop .n) (omega arith) (at-loop .before .index .result) (at-loop .before .index .ensures .0 ∙ at-loop .before .before .size .ensures .0) in
+    let b = lines-room (start .args .first) (start .args .l) (start .args .weights .now) (start .args .costs .now) (start .args .rows .now) (start .args .lines .now) (start .args .out .now) (start .pre .0) (start .pre .1 .1) (at-loop .loop .n) (omega arith) (at-loop .before .size .result) (at-loop .before .size .ensures .0) in
     omega (arith, b .0, b .1, b .2, at-loop .loop .inv .1 .0)
 
 part-column-start : tie.Need-part-column-start Inv-loop μ-loop
 part-column-start c =
     let at-loop = c .before .before in
     let start = at-loop .before .before .before .before .before .before .before .before .before in
-    let b = lines-room (start .args .p) (start .args .l) (start .args .weights .now) (start .args .costs .now) (start .args .rows .now) (start .args .lines .now) (start .args .out .now) (start .pre .0) (start .pre .1 .1) (at-loop .loop .n) (omega arith) (at-loop .before .index .result) (at-loop .before .index .ensures .0 ∙ at-loop .before .before .size .ensures .0) in
+    let b = lines-room (start .args .first) (start .args .l) (start .args .weights .now) (start .args .costs .now) (start .args .rows .now) (start .args .lines .now) (start .args .out .now) (start .pre .0) (start .pre .1 .1) (at-loop .loop .n) (omega arith) (at-loop .before .size .result) (at-loop .before .size .ensures .0) in
     omega (arith, b .0, b .1, b .2, at-loop .loop .inv .1 .0)
 
 part-column-end : tie.Need-part-column-end Inv-loop μ-loop
 part-column-end c =
     let at-loop = c .before .before in
     let start = at-loop .before .before .before .before .before .before .before .before .before in
-    let b = lines-room (start .args .p) (start .args .l) (start .args .weights .now) (start .args .costs .now) (start .args .rows .now) (start .args .lines .now) (start .args .out .now) (start .pre .0) (start .pre .1 .1) (at-loop .loop .n) (omega arith) (at-loop .before .index .result) (at-loop .before .index .ensures .0 ∙ at-loop .before .before .size .ensures .0) in
+    let b = lines-room (start .args .first) (start .args .l) (start .args .weights .now) (start .args .costs .now) (start .args .rows .now) (start .args .lines .now) (start .args .out .now) (start .pre .0) (start .pre .1 .1) (at-loop .loop .n) (omega arith) (at-loop .before .size .result) (at-loop .before .size .ensures .0) in
     omega (arith, b .0, b .1, b .2, at-loop .loop .inv .1 .0)
 
 sub-column-2 : tie.Need-sub-column-2 Inv-loop μ-loop
 sub-column-2 c =
     let at-loop = c .before .before .before in
     let start = at-loop .before .before .before .before .before .before .before .before .before in
-    let b = lines-room (start .args .p) (start .args .l) (start .args .weights .now) (start .args .costs .now) (start .args .rows .now) (start .args .lines .now) (start .args .out .now) (start .pre .0) (start .pre .1 .1) (at-loop .loop .n) (omega arith) (at-loop .before .index .result) (at-loop .before .index .ensures .0 ∙ at-loop .before .before .size .ensures .0) in
+    let b = lines-room (start .args .first) (start .args .l) (start .args .weights .now) (start .args .costs .now) (start .args .rows .now) (start .args .lines .now) (start .args .out .now) (start .pre .0) (start .pre .1 .1) (at-loop .loop .n) (omega arith) (at-loop .before .size .result) (at-loop .before .size .ensures .0) in
     omega (arith, b .0, b .1, b .2, at-loop .loop .inv .1 .0)
 
 part-column-start-2 : tie.Need-part-column-start-2 Inv-loop μ-loop
 part-column-start-2 c =
     let at-loop = c .before .before .before in
     let start = at-loop .before .before .before .before .before .before .before .before .before in
-    let b = lines-room (start .args .p) (start .args .l) (start .args .weights .now) (start .args .costs .now) (start .args .rows .now) (start .args .lines .now) (start .args .out .now) (start .pre .0) (start .pre .1 .1) (at-loop .loop .n) (omega arith) (at-loop .before .index .result) (at-loop .before .index .ensures .0 ∙ at-loop .before .before .size .ensures .0) in
+    let b = lines-room (start .args .first) (start .args .l) (start .args .weights .now) (start .args .costs .now) (start .args .rows .now) (start .args .lines .now) (start .args .out .now) (start .pre .0) (start .pre .1 .1) (at-loop .loop .n) (omega arith) (at-loop .before .size .result) (at-loop .before .size .ensures .0) in
     omega (arith, b .0, b .1, b .2, at-loop .loop .inv .1 .0)
 
 part-column-end-2 : tie.Need-part-column-end-2 Inv-loop μ-loop
 part-column-end-2 c =
     let at-loop = c .before .before .before in
     let start = at-loop .before .before .before .before .before .before .before .before .before in
-    let b = lines-room (start .args .p) (start .args .l) (start .args .weights .now) (start .args .costs .now) (start .args .rows .now) (start .args .lines .now) (start .args .out .now) (start .pre .0) (start .pre .1 .1) (at-loop .loop .n) (omega arith) (at-loop .before .index .result) (at-loop .before .index .ensures .0 ∙ at-loop .before .before .size .ensures .0) in
+    let b = lines-room (start .args .first) (start .args .l) (start .args .weights .now) (start .args .costs .now) (start .args .rows .now) (start .args .lines .now) (start .args .out .now) (start .pre .0) (start .pre .1 .1) (at-loop .loop .n) (omega arith) (at-loop .before .size .result) (at-loop .before .size .ensures .0) in
     omega (arith, b .0, b .1, b .2, at-loop .loop .inv .1 .0)
 
 sub-column-3 : tie.Need-sub-column-3 Inv-loop μ-loop
 sub-column-3 c =
     let at-loop = c .before .before .before .before in
     let start = at-loop .before .before .before .before .before .before .before .before .before in
-    let b = lines-room (start .args .p) (start .args .l) (start .args .weights .now) (start .args .costs .now) (start .args .rows .now) (start .args .lines .now) (start .args .out .now) (start .pre .0) (start .pre .1 .1) (at-loop .loop .n) (omega arith) (at-loop .before .index .result) (at-loop .before .index .ensures .0 ∙ at-loop .before .before .size .ensures .0) in
+    let b = lines-room (start .args .first) (start .args .l) (start .args .weights .now) (start .args .costs .now) (start .args .rows .now) (start .args .lines .now) (start .args .out .now) (start .pre .0) (start .pre .1 .1) (at-loop .loop .n) (omega arith) (at-loop .before .size .result) (at-loop .before .size .ensures .0) in
     omega (arith, b .0, b .1, b .2, at-loop .loop .inv .1 .0)
 
 part-column-start-3 : tie.Need-part-column-start-3 Inv-loop μ-loop
 part-column-start-3 c =
     let at-loop = c .before .before .before .before in
     let start = at-loop .before .before .before .before .before .before .before .before .before in
-    let b = lines-room (start .args .p) (start .args .l) (start .args .weights .now) (start .args .costs .now) (start .args .rows .now) (start .args .lines .now) (start .args .out .now) (start .pre .0) (start .pre .1 .1) (at-loop .loop .n) (omega arith) (at-loop .before .index .result) (at-loop .before .index .ensures .0 ∙ at-loop .before .before .size .ensures .0) in
+    let b = lines-room (start .args .first) (start .args .l) (start .args .weights .now) (start .args .costs .now) (start .args .rows .now) (start .args .lines .now) (start .args .out .now) (start .pre .0) (start .pre .1 .1) (at-loop .loop .n) (omega arith) (at-loop .before .size .result) (at-loop .before .size .ensures .0) in
     omega (arith, b .0, b .1, b .2, at-loop .loop .inv .1 .0)
 
 part-column-end-3 : tie.Need-part-column-end-3 Inv-loop μ-loop
 part-column-end-3 c =
     let at-loop = c .before .before .before .before in
     let start = at-loop .before .before .before .before .before .before .before .before .before in
-    let b = lines-room (start .args .p) (start .args .l) (start .args .weights .now) (start .args .costs .now) (start .args .rows .now) (start .args .lines .now) (start .args .out .now) (start .pre .0) (start .pre .1 .1) (at-loop .loop .n) (omega arith) (at-loop .before .index .result) (at-loop .before .index .ensures .0 ∙ at-loop .before .before .size .ensures .0) in
+    let b = lines-room (start .args .first) (start .args .l) (start .args .weights .now) (start .args .costs .now) (start .args .rows .now) (start .args .lines .now) (start .args .out .now) (start .pre .0) (start .pre .1 .1) (at-loop .loop .n) (omega arith) (at-loop .before .size .result) (at-loop .before .size .ensures .0) in
     omega (arith, b .0, b .1, b .2, at-loop .loop .inv .1 .0)
 
 column-requires : tie.Need-column-requires Inv-loop μ-loop
 column-requires c κs =
     let at-loop = c .before .before .before .before .before in
     let start = at-loop .before .before .before .before .before .before .before .before .before in
-    let b = lines-room (start .args .p) (start .args .l) (start .args .weights .now) (start .args .costs .now) (start .args .rows .now) (start .args .lines .now) (start .args .out .now) (start .pre .0) (start .pre .1 .1) (at-loop .loop .n) (omega arith) (at-loop .before .index .result) (at-loop .before .index .ensures .0 ∙ at-loop .before .before .size .ensures .0) in
-    let e : at-loop .before .index .result ≡ 2 ^ start .args .p = at-loop .before .index .ensures .0 ∙ at-loop .before .before .size .ensures .0 in
+    let b = lines-room (start .args .first) (start .args .l) (start .args .weights .now) (start .args .costs .now) (start .args .rows .now) (start .args .lines .now) (start .args .out .now) (start .pre .0) (start .pre .1 .1) (at-loop .loop .n) (omega arith) (at-loop .before .size .result) (at-loop .before .size .ensures .0) in
+    let e : at-loop .before .size .result ≡ sizeOf (start .args .first) = at-loop .before .size .ensures .0 in
     let a = start .args in
     let n = at-loop .loop .n in
-    let q = part-is (a .p) (a .weights .now) (a .costs .now) (start .pre .0) n (omega arith) _ e in (
-      ready-times (start .args .p) (start .args .weights .now) (start .args .costs .now) (start .pre .0) (at-loop .loop .n) (omega arith),
+    let q = part-is (a .first) (a .weights .now) (a .costs .now) (start .pre .0) n (omega arith) _ e in
+    rw (at-loop .before .before .power .ensures) (
+      ready-times (start .args .first) (start .args .weights .now) (start .args .costs .now) (start .pre .0) (at-loop .loop .n) (omega arith),
       (
         start .pre .1 .0,
         (
@@ -146,12 +148,12 @@ column-requires c κs =
             (
               simp (length-take, length-drop) (omega (arith, b .2, at-loop .loop .inv .1 .0 .1 .0, start .pre .1 .1 .wide)),
               (
-                ap length q ∙ costs-length (a .p) (a .weights .now) (a .costs .now) (start .pre .0) n (omega arith),
+                ap length q ∙ costs-length (a .first) (a .weights .now) (a .costs .now) (start .pre .0) n (omega arith),
                 rw q (start .pre .0 .zeros n (omega arith)),
               ),
             ),
           ),
-          line-cleared (a .p) (a .weights .now) (a .costs .now) (a .l) n (a .lines .now) (at-loop .loop .lines) (start .pre .1 .1 .cleared)
+          line-cleared (powerOf (a .first)) (a .weights .now) (a .costs .now) (a .l) n (a .lines .now) (at-loop .loop .lines) (start .pre .1 .1 .cleared)
               (at-loop .loop .inv .1 .1 .1 .0),
         ),
       ),
@@ -171,23 +173,25 @@ loop-again c =
     let at-column = c .before .before .before .before in
     let at-loop = at-column .before .before .before .before .before .before in
     let start = at-loop .before .before .before .before .before .before .before .before .before in
-    let p = start .args .p in
+    let f = start .args .first in
+    let p = powerOf f in
     let ws = start .args .weights .now in
     let cs = start .args .costs .now in
     let n = at-loop .loop .n in
-    let e : at-loop .before .index .result ≡ 2 ^ p = at-loop .before .index .ensures .0 ∙ at-loop .before .before .size .ensures .0 in
+    let e : at-loop .before .size .result ≡ 2 ^ p = at-loop .before .size .ensures .0 in
     let h : n < length ws = omega arith in
-    let t = term-turn p ws cs (start .pre .0) n h _ e (at-column .column .ensures .0) in (
+    let o = rw (at-loop .before .before .power .ensures) at (at-column .column .ensures) in
+    let t = term-turn f ws cs (start .pre .0) n h _ e (o .0) in (
       omega arith,
       (
         (search needs, (search needs, search needs)),
         (
-          rows-turn p ws n _ (start .args .rows .now) (at-loop .loop .rows) e (at-loop .loop .inv .1 .1 .0) (at-column .column .ensures .1 .0),
+          rows-turn p ws n _ (start .args .rows .now) (at-loop .loop .rows) e (at-loop .loop .inv .1 .1 .0) (o .1 .0),
           (
-            lines-turn p ws cs (start .args .l) n (start .pre .0) h _ (start .args .lines .now) (at-loop .loop .lines) e (at-loop .loop .inv .1 .1 .1 .0) (start .pre .1 .1 .of-lines) (at-loop .loop .inv .1 .0 .1 .0) (at-column .column .ensures .1 .1),
+            lines-turn f ws cs (start .args .l) n (start .pre .0) h _ (start .args .lines .now) (at-loop .loop .lines) e (at-loop .loop .inv .1 .1 .1 .0) (start .pre .1 .1 .of-lines) (at-loop .loop .inv .1 .0 .1 .0) (o .1 .1),
             (
-              out-turn p ws cs (start .pre .0) n h (at-loop .loop .out) (start .args .out .now) (omega (arith, start .pre .1 .1 .of-out)) (at-loop .loop .inv .1 .1 .1 .1 .0) t,
-              sum-turn p ws cs (start .pre .0) n h (at-loop .loop .inv .1 .1 .1 .1 .1) t,
+              out-turn f ws cs (start .pre .0) n h (at-loop .loop .out) (start .args .out .now) (omega (arith, start .pre .1 .1 .of-out)) (at-loop .loop .inv .1 .1 .1 .1 .0) t,
+              sum-turn f ws cs (start .pre .0) n h (at-loop .loop .inv .1 .1 .1 .1 .1) t,
             ),
           ),
         ),
@@ -207,7 +211,7 @@ returns : tie.Need-returns Inv-loop μ-loop
 returns c =
     let at-loop = c .before in
     let start = at-loop .before .before .before .before .before .before .before .before .before in
-    let p = start .args .p in
+    let p = powerOf (start .args .first) in
     let ws = start .args .weights .now in
     let cs = start .args .costs .now in
     let l = start .args .l in
@@ -229,8 +233,8 @@ lines-spec =
     (tie.spec
     Inv-loop
     μ-loop
+    power-requires
     size-requires
-    index-requires
     loop-holds
     mul-a
     add-e

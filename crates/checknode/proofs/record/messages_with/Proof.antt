@@ -5,6 +5,7 @@ use native.Mathlib.Omega.{arith}
 use lib.Pow.{pow-mono}
 use lib.ListN.{length, take, drop, length-take, length-drop, length-append}
 use lib.Seq.{take-at}
+use Rattle.trellis.specs.Rules.{sizeOf}
 use Rattle.checknode.specs.Lines.{sideOf}
 use Rattle.checknode.proofs.Resting.{send-law, sends-room}
 use borrow.Author.Needs.{needs}
@@ -17,9 +18,6 @@ record-with-requires c κs = search needs
 size-requires : tie.Need-size-requires
 size-requires c κs = search needs
 
-index-requires : tie.Need-index-requires
-index-requires c κs = search needs
-
 side-requires : tie.Need-side-requires
 side-requires c κs = search needs
 
@@ -28,17 +26,17 @@ slice-reshare-prefix-columns c = search needs
 
 slice-aggregate-columns : tie.Need-slice-aggregate-columns
 slice-aggregate-columns c =
-    let at-record = c .before .before .before .before .before .before .before .before .before .before .before in
+    let at-record = c .before .before .before .before .before .before .before .before .before .before in
     let start = at-record .before .before .before .before .before .before .before .before .before .before in
     simp length-take (omega (arith, at-record .record-with .kept, start .pre .1 .1 .1 .0))
 
 columns-requires : tie.Need-columns-requires
 columns-requires c κs =
-    let at-record = c .before .before .before .before .before .before .before .before .before .before .before .before .before in
+    let at-record = c .before .before .before .before .before .before .before .before .before .before .before .before in
     let start = at-record .before .before .before .before .before .before .before .before .before .before in
     let at-side = c .before .before .before .before in
-    let e : at-side .before .index .result ≡ 2 ^ start .args .p = at-side .before .index .ensures .0 ∙ at-side .before .before .size .ensures .0 in
-    sends-room (start .args .p) (start .args .weights .now) (start .args .costs .now) (start .pre .0) _ _ _ _ _ _ (at-record .record-with .ensures .0) (omega (arith, at-record .record-with .kept, start .pre .1 .0)) (at-record .record-with .ensures .1 .0) (at-record .record-with .ensures .1 .1) (start .pre .1 .1 .1 .1) e (at-side .side .ensures ∙ ap (max 16) e)
+    let e : at-side .before .size .result ≡ sizeOf (start .args .first) = at-side .before .size .ensures .0 in
+    sends-room (start .args .first) (start .args .weights .now) (start .args .costs .now) (start .pre .0) _ _ _ _ _ _ (at-record .record-with .ensures .0) (omega (arith, at-record .record-with .kept, start .pre .1 .0)) (at-record .record-with .ensures .1 .0) (at-record .record-with .ensures .1 .1) (start .pre .1 .1 .1 .1) e (at-side .side .ensures ∙ ap (max 16) e)
 
 same-length : tie.Need-same-length
 same-length c = search needs
@@ -54,11 +52,11 @@ same-length-4 c = search needs
 
 returns : tie.Need-returns
 returns c =
-    let at-record = c .before .before .before .before .before .before .before .before .before .before .before .before .before .before .before .before in
+    let at-record = c .before .before .before .before .before .before .before .before .before .before .before .before .before .before .before in
     let start = at-record .before .before .before .before .before .before .before .before .before .before in
     let at-side = c .before .before .before .before .before .before .before in
-    let e : at-side .before .index .result ≡ 2 ^ start .args .p = at-side .before .index .ensures .0 ∙ at-side .before .before .size .ensures .0 in
-    (at-record .record-with .ensures .1 .1, send-law (start .args .p) (start .args .weights .now) (start .args .costs .now) (start .pre .0) (λ i. omega (arith, c .before .before .before .before .before .before .before .before .before .before .before .before .before .before .before .before .before .before .before .before .before .before .before .before .shared-slice-known2 .given i)) _ _ _ _ _ (at-record .record-with .ensures .0) (at-record .record-with .ensures .1 .0) (at-record .record-with .ensures .1 .1) e (at-side .side .ensures ∙ ap (max 16) e) (c .before .before .columns .ensures))
+    let e : at-side .before .size .result ≡ sizeOf (start .args .first) = at-side .before .size .ensures .0 in
+    (at-record .record-with .ensures .1 .1, send-law (start .args .first) (start .args .weights .now) (start .args .costs .now) (start .pre .0) (λ i. omega (arith, c .before .before .before .before .before .before .before .before .before .before .before .before .before .before .before .before .before .before .before .before .before .before .before .shared-slice-known2 .given i)) _ _ _ _ _ (at-record .record-with .ensures .0) (at-record .record-with .ensures .1 .0) (at-record .record-with .ensures .1 .1) e (at-side .side .ensures ∙ ap (max 16) e) (c .before .before .columns .ensures))
 
 pub messages-with-spec : {M : Type 1} → statement M
 messages-with-spec =
@@ -66,7 +64,6 @@ messages-with-spec =
     (tie.spec
     record-with-requires
     size-requires
-    index-requires
     side-requires
     slice-reshare-prefix-columns
     slice-aggregate-columns

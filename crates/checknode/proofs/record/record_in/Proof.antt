@@ -5,6 +5,8 @@ use native.Mathlib.Omega.{arith}
 use lib.Pow.{pow-mono}
 use lib.ListN.{length, take, drop, length-take, length-drop, length-append}
 use lib.Seq.{take-at}
+use Rattle.trellis.specs.Rules.{powerOf}
+use Rattle.trellis.proofs.Ready.{ready-high}
 use Rattle.checknode.proofs.Resting.{room-small, room-large, power-small}
 use borrow.Author.Needs.{needs}
 use Rattle.checknode.proofs.record.record_in.Statement.{statement}
@@ -20,7 +22,7 @@ record-room-requires : tie.Need-record-room-requires
 record-room-requires c κs =
     let start = c .before .before .before .before .before .before .before in
     let e = start .pre .1 .1 .0 in
-    let b = room-small (start .args .p) (length (start .args .weights .now)) (power-small (start .args .p) (omega (arith, start .pre .1 .1 .0))) (start .pre .0 .few) in
+    let b = room-small (powerOf (start .args .first)) (length (start .args .weights .now)) (power-small (powerOf (start .args .first)) (omega (arith, start .pre .1 .1 .0))) (start .pre .0 .few) in
     (start .pre .0, (e, (rw e (b .0), (rw e (b .1), start .pre .1 .1 .1))))
 
 same-length : tie.Need-same-length
@@ -39,7 +41,7 @@ record-room-requires-2 : tie.Need-record-room-requires-2
 record-room-requires-2 c κs =
     let start = c .before .before .before .before .before .before .before in
     let e = start .pre .1 .1 .0 in
-    let b = room-large (start .args .p) (length (start .args .weights .now)) (start .pre .0 .high) (start .pre .0 .few) in
+    let b = room-large (powerOf (start .args .first)) (length (start .args .weights .now)) (ready-high _ _ _ (start .pre .0)) (start .pre .0 .few) in
     (start .pre .0, (e, (rw e (b .0), (rw e (b .1), start .pre .1 .1 .1))))
 
 same-length-2 : tie.Need-same-length-2

@@ -5,6 +5,7 @@ use native.Mathlib.Omega.{arith}
 use lib.Pow.{pow-mono}
 use lib.ListN.{length, take, drop, length-take, length-drop, length-append}
 use lib.Seq.{take-at}
+use Rattle.rules.specs.declared.Rule.{Rule}
 use Rattle.checknode.proofs.Resting.{record-law, groups-same}
 use borrow.Author.Needs.{needs}
 use Rattle.checknode.proofs.record.record_with.Statement.{statement}
@@ -52,7 +53,7 @@ returns c =
     let at-rests = c .before .before .before .before .before .before .before .before .before .before .before .before in
     let start = at-rests .before .before .before .before .before .before .before .before .before in
     let r = c .before .before .before .before .before in
-    (at-rests .rests-in .ensures .0, (at-rests .rests-in .ensures .1 .0, record-law (start .args .p) (start .args .weights .now) (start .args .costs .now) (start .pre .0) (λ i. omega (arith, c .before .before .before .before .before .before .before .before .before .before .before .before .before .before .before .before .before .before .before .shared-slice-known2 .given i)) (start .args .out .now) _ (length (start .args .out .now)) refl (start .pre .1 .1 .1) (at-rests .rests-in .ensures .1 .0) (at-rests .rests-in .ensures .1 .1) (c .before .before .groups .ensures ∙ groups-same (length (start .args .weights .now)) _ _ (r .rule-of .ensures .0) (r .rule-of .ensures .1 .0))))
+    (at-rests .rests-in .ensures .0, (at-rests .rests-in .ensures .1 .0, record-law (start .args .first) (start .args .weights .now) (start .args .costs .now) (start .pre .0) (λ i. omega (arith, c .before .before .before .before .before .before .before .before .before .before .before .before .before .before .before .before .before .before .before .shared-slice-known2 .given i)) (start .args .out .now) _ (length (start .args .out .now)) refl (start .pre .1 .1 .1) (at-rests .rests-in .ensures .1 .0) (at-rests .rests-in .ensures .1 .1) (c .before .before .groups .ensures ∙ groups-same (length (start .args .weights .now)) _ _ (ap (λ (r : Rule). r .p) (r .rule-of .ensures)) (ap (λ (r : Rule). r .k) (r .rule-of .ensures)))))
 
 pub record-with-spec : {M : Type 1} → statement M
 record-with-spec =

@@ -1,18 +1,24 @@
 -- The room is enough for thirty-two columns, and fresh arrays are zeros.
+use mathlib.Core.Path.{sym, _∙_}
 use native.Mathlib.Omega.{arith}
 use lib.ListN.{length}
+use Rattle.trellis.specs.Rules.{powerOf}
+use Rattle.trellis.proofs.Ready.{ready-high}
 use Rattle.checknode.proofs.Lining.{cleared-room}
 use Rattle.checknode.proofs.Resting.{room-small, room-large}
 use borrow.Author.Needs.{needs}
 use Rattle.checknode.proofs.record.rests_in.Statement.{statement}
 use Rattle.checknode.proofs.record.rests_in.Tie as tie
 
+power-requires : tie.Need-power-requires
+power-requires c κs = search needs
+
 slice-aggregate-rests-with : tie.Need-slice-aggregate-rests-with
 slice-aggregate-rests-with c = search needs
 
 rests-with-requires : tie.Need-rests-with-requires
 rests-with-requires c κs =
-    let start = c .before .before .before .before .before .before .before .before .before .before in
+    let start = c .before .before .before .before .before .before .before .before .before .before .before in
     let a = start .args in (
       start .pre .0,
       (
@@ -20,7 +26,7 @@ rests-with-requires c κs =
         (
           (
             record { of-rows = start .pre .1 .of-rows; of-rests = start .pre .1 .of-rests; of-shifts = start .pre .1 .of-shifts },
-            room-small (a .p) (length (a .weights .now)) (omega arith) (start .pre .0 .few) .1,
+            room-small (powerOf (a .first)) (length (a .weights .now)) (omega arith) (start .pre .0 .few) .1,
           ),
           cleared-room 512,
         ),
@@ -53,17 +59,17 @@ slice-aggregate-rests-with-3 c = search needs
 
 rests-with-requires-2 : tie.Need-rests-with-requires-2
 rests-with-requires-2 c κs =
-    let start = c .before .before .before .before .before .before .before .before .before .before .before .before .before .before in
+    let start = c .before .before .before .before .before .before .before .before .before .before .before .before .before .before .before in
     let a = start .args in
     let at-products = c .before .before .before .before .before in
     let at-taken = at-products .before .before in (
       start .pre .0,
       (
-        λ h. (at-taken .taken .ensures (at-products .before .if2 .taken), at-products .products .ensures),
+        λ h. (sym (at-taken .before .before .power .ensures) ∙ at-taken .taken .ensures (at-products .before .if2 .taken), at-products .products .ensures),
         (
           (
             record { of-rows = start .pre .1 .of-rows; of-rests = start .pre .1 .of-rests; of-shifts = start .pre .1 .of-shifts },
-            room-large (a .p) (length (a .weights .now)) (start .pre .0 .high) (start .pre .0 .few) .1,
+            room-large (powerOf (a .first)) (length (a .weights .now)) (ready-high _ _ _ (start .pre .0)) (start .pre .0 .few) .1,
           ),
           cleared-room 2048,
         ),
@@ -87,7 +93,7 @@ slice-aggregate-rests-with-4 c = search needs
 
 rests-with-requires-3 : tie.Need-rests-with-requires-3
 rests-with-requires-3 c κs =
-    let start = c .before .before .before .before .before .before .before .before .before .before .before .before in
+    let start = c .before .before .before .before .before .before .before .before .before .before .before .before .before in
     let a = start .args in (
       start .pre .0,
       (
@@ -95,7 +101,7 @@ rests-with-requires-3 c κs =
         (
           (
             record { of-rows = start .pre .1 .of-rows; of-rests = start .pre .1 .of-rests; of-shifts = start .pre .1 .of-shifts },
-            room-large (a .p) (length (a .weights .now)) (start .pre .0 .high) (start .pre .0 .few) .1,
+            room-large (powerOf (a .first)) (length (a .weights .now)) (ready-high _ _ _ (start .pre .0)) (start .pre .0 .few) .1,
           ),
           cleared-room 2048,
         ),
@@ -118,6 +124,7 @@ pub rests-in-spec : {M : Type 1} → statement M
 rests-in-spec =
     tie.close
     (tie.spec
+    power-requires
     slice-aggregate-rests-with
     rests-with-requires
     same-length

@@ -5,6 +5,9 @@ use native.Mathlib.Omega.{arith}
 use lib.Pow.{pow-mono}
 use lib.ListN.{length, take, drop, length-take, length-append}
 use lib.Seq.{take-at}
+use Rattle.trellis.specs.Rules.{powerOf}
+use Rattle.trellis.proofs.Ready.{ready-high}
+use Rattle.rules.specs.declared.Rule.{Rule}
 use Rattle.checknode.specs.Lines.{restsOf, sideOf}
 use Rattle.trellis.specs.Lists.{blocks}
 use Rattle.checknode.proofs.Lining.{cleared-part}
@@ -16,17 +19,14 @@ use Rattle.checknode.proofs.record.rests_with.Tie as tie
 size-requires : tie.Need-size-requires
 size-requires c κs = search needs
 
-index-requires : tie.Need-index-requires
-index-requires c κs = search needs
-
 side-requires : tie.Need-side-requires
 side-requires c κs = search needs
 
 mul-n : tie.Need-mul-n
 mul-n c =
     let at-side = c in
-    let start = at-side .before .before .before .before .before .before .before .before .before .before in
-    let e : at-side .side .result ≡ sideOf (start .args .p) = at-side .side .ensures ∙ ap (max 16) (at-side .before .index .ensures .0 ∙ at-side .before .before .size .ensures .0) in
+    let start = at-side .before .before .before .before .before .before .before .before .before in
+    let e : at-side .side .result ≡ sideOf (powerOf (start .args .first)) = at-side .side .ensures ∙ ap (max 16) (at-side .before .size .ensures .0) in
     let m : length (start .args .weights .now) * at-side .side .result ≤ length (start .args .lines .now) =
     rw e (start .pre .1 .1 .0 .1) in
     omega (arith, m)
@@ -34,8 +34,8 @@ mul-n c =
 slice-relend-prefix-lines : tie.Need-slice-relend-prefix-lines
 slice-relend-prefix-lines c =
     let at-side = c .before in
-    let start = at-side .before .before .before .before .before .before .before .before .before .before in
-    let e : at-side .side .result ≡ sideOf (start .args .p) = at-side .side .ensures ∙ ap (max 16) (at-side .before .index .ensures .0 ∙ at-side .before .before .size .ensures .0) in
+    let start = at-side .before .before .before .before .before .before .before .before .before in
+    let e : at-side .side .result ≡ sideOf (powerOf (start .args .first)) = at-side .side .ensures ∙ ap (max 16) (at-side .before .size .ensures .0) in
     let m : length (start .args .weights .now) * at-side .side .result ≤ length (start .args .lines .now) =
     rw e (start .pre .1 .1 .0 .1) in
     m
@@ -43,8 +43,8 @@ slice-relend-prefix-lines c =
 slice-aggregate-lines : tie.Need-slice-aggregate-lines
 slice-aggregate-lines c =
     let at-side = c .before .before in
-    let start = at-side .before .before .before .before .before .before .before .before .before .before in
-    let e : at-side .side .result ≡ sideOf (start .args .p) = at-side .side .ensures ∙ ap (max 16) (at-side .before .index .ensures .0 ∙ at-side .before .before .size .ensures .0) in
+    let start = at-side .before .before .before .before .before .before .before .before .before in
+    let e : at-side .side .result ≡ sideOf (powerOf (start .args .first)) = at-side .side .ensures ∙ ap (max 16) (at-side .before .size .ensures .0) in
     let m : length (start .args .weights .now) * at-side .side .result ≤ length (start .args .lines .now) =
     rw e (start .pre .1 .1 .0 .1) in
     simp length-take (omega (arith, m))
@@ -52,8 +52,8 @@ slice-aggregate-lines c =
 lines-requires : tie.Need-lines-requires
 lines-requires c κs =
     let at-side = c .before .before .before in
-    let start = at-side .before .before .before .before .before .before .before .before .before .before in
-    let e : at-side .side .result ≡ sideOf (start .args .p) = at-side .side .ensures ∙ ap (max 16) (at-side .before .index .ensures .0 ∙ at-side .before .before .size .ensures .0) in
+    let start = at-side .before .before .before .before .before .before .before .before .before in
+    let e : at-side .side .result ≡ sideOf (powerOf (start .args .first)) = at-side .side .ensures ∙ ap (max 16) (at-side .before .size .ensures .0) in
     let m : length (start .args .weights .now) * at-side .side .result ≤ length (start .args .lines .now) =
     rw e (start .pre .1 .1 .0 .1) in
     let a = start .args in (
@@ -62,7 +62,7 @@ lines-requires c κs =
         start .pre .1 .0,
         record {
           wide = omega (arith, e);
-          narrow = omega (arith, e, pow-mono {i = start .args .p} {j = 6} (start .pre .0 .high));
+          narrow = omega (arith, e, pow-mono {i = powerOf (start .args .first)} {j = 6} (ready-high _ _ _ (start .pre .0)));
           of-rows = start .pre .1 .1 .0 .0 .of-rows;
           of-lines = simp length-take (omega (arith, m));
           cleared = cleared-part (a .lines .now) 0 (length (a .weights .now) * at-side .side .result) (start .pre .1 .1 .1);
@@ -80,8 +80,8 @@ rule-of-requires c κs = search needs
 slice-reshare-prefix-sent : tie.Need-slice-reshare-prefix-sent
 slice-reshare-prefix-sent c =
     let at-side = c .before .before .before .before .before .before .before .before .before .before .before .before .before .before .before in
-    let start = at-side .before .before .before .before .before .before .before .before .before .before in
-    let e : at-side .side .result ≡ sideOf (start .args .p) = at-side .side .ensures ∙ ap (max 16) (at-side .before .index .ensures .0 ∙ at-side .before .before .size .ensures .0) in
+    let start = at-side .before .before .before .before .before .before .before .before .before in
+    let e : at-side .side .result ≡ sideOf (powerOf (start .args .first)) = at-side .side .ensures ∙ ap (max 16) (at-side .before .size .ensures .0) in
     let m : length (start .args .weights .now) * at-side .side .result ≤ length (start .args .lines .now) =
     rw e (start .pre .1 .1 .0 .1) in
     let k : length (take (length (start .args .weights .now) * at-side .side .result) (start .args .lines .now)) ≡ length (start .args .weights .now) * at-side .side .result = simp length-take (omega (arith, m)) in
@@ -90,8 +90,8 @@ slice-reshare-prefix-sent c =
 slice-aggregate-sent : tie.Need-slice-aggregate-sent
 slice-aggregate-sent c =
     let at-side = c .before .before .before .before .before .before .before .before .before .before .before .before .before .before .before .before in
-    let start = at-side .before .before .before .before .before .before .before .before .before .before in
-    let e : at-side .side .result ≡ sideOf (start .args .p) = at-side .side .ensures ∙ ap (max 16) (at-side .before .index .ensures .0 ∙ at-side .before .before .size .ensures .0) in
+    let start = at-side .before .before .before .before .before .before .before .before .before in
+    let e : at-side .side .result ≡ sideOf (powerOf (start .args .first)) = at-side .side .ensures ∙ ap (max 16) (at-side .before .size .ensures .0) in
     let m : length (start .args .weights .now) * at-side .side .result ≤ length (start .args .lines .now) =
     rw e (start .pre .1 .1 .0 .1) in
     let k : length (take (length (start .args .weights .now) * at-side .side .result) (start .args .lines .now)) ≡ length (start .args .weights .now) * at-side .side .result = simp length-take (omega (arith, m)) in
@@ -115,8 +115,8 @@ same-length-4 c = search needs
 returns : tie.Need-returns
 returns c =
     let at-side = c .before .before .before .before .before .before .before .before .before .before .before .before .before .before .before .before .before .before .before .before in
-    let start = at-side .before .before .before .before .before .before .before .before .before .before in
-    let e : at-side .side .result ≡ sideOf (start .args .p) = at-side .side .ensures ∙ ap (max 16) (at-side .before .index .ensures .0 ∙ at-side .before .before .size .ensures .0) in
+    let start = at-side .before .before .before .before .before .before .before .before .before in
+    let e : at-side .side .result ≡ sideOf (powerOf (start .args .first)) = at-side .side .ensures ∙ ap (max 16) (at-side .before .size .ensures .0) in
     let m : length (start .args .weights .now) * at-side .side .result ≤ length (start .args .lines .now) =
     rw e (start .pre .1 .1 .0 .1) in
     let at-lines = c .before .before .before .before .before .before .before .before .before .before .before .before .before .before .before .before in
@@ -125,16 +125,16 @@ returns c =
     let o = c .before .before .before .before .before .rule-of .ensures in
     let k : length (take (length (start .args .weights .now) * at-side .side .result) (start .args .lines .now)) ≡ length (start .args .weights .now) * at-side .side .result = simp length-take (omega (arith, m)) in
     let t = take-at (at-lines .lines .last .1 .1 .1 .1 .1 .1 .0) (drop n (start .args .lines .now)) n (omega (arith, k, at-lines .lines .kept)) in
-    let g : length (at-lines .lines .last .1 .1 .1 .1 .1 .1 .0) ≡ length (start .args .weights .now) * sideOf (start .args .p) = omega (arith, k, at-lines .lines .kept, ap (λ y. length (start .args .weights .now) * y) e) in (
+    let g : length (at-lines .lines .last .1 .1 .1 .1 .1 .1 .0) ≡ length (start .args .weights .now) * sideOf (powerOf (start .args .first)) = omega (arith, k, at-lines .lines .kept, ap (λ y. length (start .args .weights .now) * y) e) in (
       at-lines .lines .ensures .1 .0,
       (
-        rests-law (a .p) (a .weights .now) (a .costs .now) (start .pre .0) (at-lines .lines .last .1 .1 .1 .1 .1 .1 .0) (a .rests .now)
+        rests-law (a .first) (a .weights .now) (a .costs .now) (start .pre .0) (at-lines .lines .last .1 .1 .1 .1 .1 .1 .0) (a .rests .now)
             (at-lines .lines .ensures .1 .1 .0
-            ∙ ap (λ y. blocks (restsOf (a .p) (a .weights .now) (a .costs .now) y) (length (a .weights .now))) e)
+            ∙ ap (λ y. blocks (restsOf (powerOf (a .first)) (a .weights .now) (a .costs .now) y) (length (a .weights .now))) e)
             g (start .pre .1 .1 .0 .0 .of-rests) (omega (arith, c .before .before .sent .kept, start .pre .1 .1 .0 .0 .of-rests))
             (c .before .before .sent .ensures
-            ∙ sent-same (length (a .weights .now)) (a .rests .now) (o .0) (o .1 .0) (o .1 .1) t),
-        shifts-law (start .args .p) (start .args .weights .now) (start .args .costs .now) (start .pre .0) (at-lines .lines .ensures .0) (at-lines .lines .ensures .1 .1 .1) (c .before .before .before .before .before .before .before .before .shift-all .ensures),
+            ∙ sent-same (length (a .weights .now)) (a .rests .now) (ap (λ (r : Rule). r .p) o) (ap (λ (r : Rule). r .k) o) (ap (λ (r : Rule). r .greatest) o) t),
+        shifts-law (start .args .first) (start .args .weights .now) (start .args .costs .now) (start .pre .0) (at-lines .lines .ensures .0) (at-lines .lines .ensures .1 .1 .1) (c .before .before .before .before .before .before .before .before .shift-all .ensures),
       ),
     )
 
@@ -143,7 +143,6 @@ rests-with-spec =
     tie.close
     (tie.spec
     size-requires
-    index-requires
     side-requires
     mul-n
     slice-relend-prefix-lines
