@@ -13,8 +13,9 @@ use lib.Pow.{pow-pos}
 use lib.Seq.{drop-cons, getD-take, getD-drop}
 use Rattle.trellis.specs.Lists.{tab, allTo, blocks, part, pick}
 use Rattle.trellis.specs.Field.{xor, product}
-use Rattle.trellis.specs.Record.{beside, besideGroup, groupOk, recordOk, readAt, expandAt, expansion}
-use Rattle.trellis.specs.Rules.{ruleOf, ruleFor}
+use Rattle.trellis.specs.Record.{beside, besideGroup, groupOk, recordOk, readAt, expandAt, expansion, recordLength}
+use Rattle.trellis.specs.Rules.{ruleOf, ruleFor, powerOf, mostOf, sizeOf}
+use Rattle.trellis.proofs.Rules.{most-few}
 use Rattle.trellis.proofs.Tests.{of-true, all-at}
 use Rattle.trellis.proofs.Recurrence.{size-64}
 use Rattle.trellis.proofs.FieldLaws.{fields-at, has-inverse}

@@ -94,9 +94,9 @@ given f e g h = rw (e, g, h)
 -- reads.Post is the function's ensures
 module _ (κs κs′ : Lfts 3) (a : ArgsD check.signature κs) (b : ArgsD expand.signature κs′) (r : ResD check.signature κs) (r′ : ResD expand.signature κs′) (s : AtExit (endedOf 3 check-kinds.ps check-kinds.r) κs) (s′ : AtExit (endedOf 3 expand-kinds.ps expand-kinds.r) κs′) where
   pub check-then-expand : a .0 ≡ b .0 → now (a .1 .0) ≡ now (b .1 .0) → (n : ℕ) → r ≡ Bytes n → now (b .1 .1 .0) ≡ take n (now (s .1 .1 .1 .0))
-      → length (now (a .1 .0)) * 2 ^ a .0 ≤ length (now (b .1 .1 .1 .0))
+      → length (now (a .1 .0)) * sizeOf (a .0) ≤ length (now (b .1 .1 .1 .0))
       → check-reads.Post κs a r s → expand-reads.Post κs′ b r′ s′
-      → (r′ ≡ Bytes (length (now (a .1 .0)) * 2 ^ a .0))
+      → (r′ ≡ Bytes (length (now (a .1 .0)) * sizeOf (a .0)))
       × Sends (a .0) (now (a .1 .0)) (now (a .1 .1 .0)) n (now (a .1 .1 .1 .0)) (now (s .1 .1 .1 .0)) (writtenReply r′) (now (b .1 .1 .1 .0)) (now (s′ .1 .1 .1 .0))
   check-then-expand same-p same-weights n e same-bytes long c x =
       let S =

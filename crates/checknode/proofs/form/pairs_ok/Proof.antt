@@ -1,71 +1,92 @@
--- The definition takes the pairs one after the other, as the code does.
+-- After j pairs, those that are left decide; the next one may have no column below low.
+use mathlib.Core.Path.{_≡_, refl, sym, ap, _∙_}
+use Prim.Native.Nat.{ℕ, _+_, _-_, _*_, _≤_, _<_}
 use native.Mathlib.Omega.{arith}
 use borrow.Author.Needs.{needs}
 use lib.ListN.{getD}
-use Rattle.checknode.proofs.Forming.{pairs-fault, pairs-both}
+use Rattle.trellis.specs.Record.{pairsOk}
+use Rattle.checknode.proofs.Forming.{pairs-fault, pairs-more, pairs-none}
 use Rattle.checknode.proofs.form.pairs_ok.Statement.{statement}
 use Rattle.checknode.proofs.form.pairs_ok.Tie as tie
 
-shared-slice-read-e : tie.Need-shared-slice-read-e
+abbrev Inv-loop : tie.InvT-loop
+Inv-loop r at d k e low₀ next₀ j₀ low next j = (j ≤ k) × ((next ≡ at + 1 + 2 * j) × (pairsOk k r (at + 1) e d 0 ≡ pairsOk (k - j) r next e d low))
+
+abbrev μ-loop : tie.MeasureT-loop
+μ-loop r at d k e low₀ next₀ j₀ low next j = k - j
+
+shared-slice-read-e : tie.Need-shared-slice-read-e Inv-loop μ-loop
 shared-slice-read-e c = search needs
 
-add-pair-next : tie.Need-add-pair-next
-add-pair-next c = search needs
+add-next : tie.Need-add-next Inv-loop μ-loop
+add-next c = search needs
 
-shared-slice-read-pair-next : tie.Need-shared-slice-read-pair-next
+loop-holds : tie.Need-loop-holds Inv-loop μ-loop
+loop-holds c = let z : c .before .before .args .k - 0 ≡ c .before .before .args .k = omega arith in (omega arith, (omega arith, rw z refl))
+
+shared-slice-read-pair-next : tie.Need-shared-slice-read-pair-next Inv-loop μ-loop
 shared-slice-read-pair-next c = search needs
 
-add-pair-next-2 : tie.Need-add-pair-next-2
-add-pair-next-2 c = search needs
+add-pair-next : tie.Need-add-pair-next Inv-loop μ-loop
+add-pair-next c = search needs
 
-shared-slice-read-pair-next-2 : tie.Need-shared-slice-read-pair-next-2
+shared-slice-read-pair-next-2 : tie.Need-shared-slice-read-pair-next-2 Inv-loop μ-loop
 shared-slice-read-pair-next-2 c = search needs
 
-pair-next-requires : tie.Need-pair-next-requires
+pair-next-requires : tie.Need-pair-next-requires Inv-loop μ-loop
 pair-next-requires c κs = search needs
 
-returns : tie.Need-returns
+returns : tie.Need-returns Inv-loop μ-loop
 returns c =
-    let at-known = c .before .before .before .before .before in
-    let s = at-known .before in
-    pairs-fault (s .args .r .now) (s .args .at) (getD (s .args .r .now) (s .args .at) 0) (s .args .d) (λ i. omega (arith, at-known .shared-slice-known .given i)) (c .before .pair-next .ensures) (c .if1 .taken)
+    let l = c .before .before .before .before .before in
+    let known = l .before .before in
+    let a = known .before .args in
+    pairs-fault _ (a .r .now) (l .loop .next) (getD (a .r .now) (a .at) 0) (a .d) (l .loop .low) (omega (arith, known .shared-slice-known .given (l .loop .next))) (omega arith) (c .before .pair-next .ensures) (c .if1 .taken)
+    ∙ sym (l .loop .inv .1 .1)
 
-add-pair-next-3 : tie.Need-add-pair-next-3
-add-pair-next-3 c = search needs
+add-next-2 : tie.Need-add-next-2 Inv-loop μ-loop
+add-next-2 c = search needs
 
-shared-slice-read-pair-next-3 : tie.Need-shared-slice-read-pair-next-3
-shared-slice-read-pair-next-3 c = search needs
+add-j : tie.Need-add-j Inv-loop μ-loop
+add-j c = search needs
 
-add-pair-next-4 : tie.Need-add-pair-next-4
-add-pair-next-4 c = search needs
+loop-less : tie.Need-loop-less Inv-loop μ-loop
+loop-less c = search needs
 
-shared-slice-read-pair-next-4 : tie.Need-shared-slice-read-pair-next-4
-shared-slice-read-pair-next-4 c = search needs
+loop-again : tie.Need-loop-again Inv-loop μ-loop
+loop-again c =
+    let l = c .before .before .before .before .before in
+    let known = l .before .before in
+    let a = known .before .args in
+    let n : a .k - l .loop .j - 1 ≡ a .k - (l .loop .j + 1) = omega arith in (
+      omega arith,
+      (
+        omega arith,
+        l .loop .inv .1 .1
+        ∙ pairs-more _ (a .r .now) (l .loop .next) (getD (a .r .now) (a .at) 0) (a .d) (l .loop .low) (omega (arith, known .shared-slice-known .given (l .loop .next))) (omega arith) (c .before .pair-next .ensures) (c .if1 .left)
+        ∙ rw n refl,
+      ),
+    )
 
-pair-next-requires-2 : tie.Need-pair-next-requires-2
-pair-next-requires-2 c κs = search needs
-
-returns-2 : tie.Need-returns-2
-returns-2 c =
-    let at-if1 = c .before .before .before in
-    let at-known = at-if1 .before .before .before .before .before in
-    let s = at-known .before in
-    pairs-both (s .args .r .now) (s .args .at) (getD (s .args .r .now) (s .args .at) 0) (s .args .d) (λ i. omega (arith, at-known .shared-slice-known .given i)) (at-if1 .before .pair-next .ensures) (at-if1 .if1 .left) (c .pair-next2 .ensures)
+returns-2 : tie.Need-returns-2 Inv-loop μ-loop
+returns-2 c = let l = c .before in sym (l .loop .inv .1 .1 ∙ pairs-none _ _ _ _ _ _ (omega arith))
 
 pub pairs-ok-spec : {M : Type 1} → statement M
 pairs-ok-spec =
     tie.close
     (tie.spec
+    Inv-loop
+    μ-loop
     shared-slice-read-e
-    add-pair-next
+    add-next
+    loop-holds
     shared-slice-read-pair-next
-    add-pair-next-2
+    add-pair-next
     shared-slice-read-pair-next-2
     pair-next-requires
     returns
-    add-pair-next-3
-    shared-slice-read-pair-next-3
-    add-pair-next-4
-    shared-slice-read-pair-next-4
-    pair-next-requires-2
+    add-next-2
+    add-j
+    loop-less
+    loop-again
     returns-2)

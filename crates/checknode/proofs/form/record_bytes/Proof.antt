@@ -1,19 +1,17 @@
+-- At most seven bytes for each element but one.
+use native.Mathlib.Omega.{arith}
 use borrow.Author.Needs.{needs}
+use Rattle.trellis.proofs.Rules.{most-few}
+use Rattle.rules.proofs.Powers.{power-small, groups-small}
 use Rattle.checknode.proofs.form.record_bytes.Statement.{statement}
 use Rattle.checknode.proofs.form.record_bytes.Tie as tie
-use Rattle.checknode.proofs.form.record_bytes.Reads as reads
-use Rattle.checknode.proofs.form.record_bytes.Lts as lts
-use Rattle.rules.proofs.groups.Reads as groups-reads
 
--- src/form.rt:18:9
 groups-requires : tie.Need-groups-requires
 groups-requires c κs = search needs
 
--- src/form.rt:18:5
 add-result : tie.Need-add-result
-add-result c = ?
+add-result c = let f = c .before .args .first in omega (arith, c .groups .ensures, groups-small _ _ (most-few f) (power-small f .1))
 
--- src/form.rt:14:1
 returns : tie.Need-returns
 returns c = search needs
 
