@@ -1,20 +1,23 @@
--- Document 01's bench table, the cases marked #, and two checks of degree 2: what is asked and what is expected.
+-- Document 01's bench table, the cases marked #, two checks of degree 2, and checks with three deviations: what is asked and what is expected.
 use mathlib.Core.List.{List, [], _∷_, map, _++_}
 use Prim.Native.Nat.{ℕ}
 use lib.ListN.{replicate}
 use Rattle.trellis.specs.Lists.{each, countFrom, upTo}
 use Rattle.trellis.specs.Field.{product}
 use Rattle.trellis.specs.Check.{Column, extra, extraOfAll}
-use Rattle.trellis.specs.Record.{shifts, recordOf}
+use Rattle.trellis.specs.Record.{shifts, group, recordOf}
 use Rattle.trellis.specs.Rules.{ruleFor}
 
--- a product, a check's record, its shifts, its E for each a from 1 on, the least cost over choices for all columns
+-- a product, a check's record, its shifts, its E for each a from 1 on, the least cost over choices for all columns; a record, and the bytes of
+-- one a, under a first code byte
 pub data Case : Type 0 where
   productOf : (p a b : ℕ) → Case
   recordAt : List Column → Case
   shiftsAt : List Column → Case
   extrasAt : List Column → Case
   ofAllAt : List Column → Case
+  recordUnder : ℕ → List Column → Case
+  groupUnder : ℕ → List Column → ℕ → Case
 
 -- what a case means, as a list of numbers. "p = 2, weights 1, unless said."
 abbrev pub meaning : Case → List ℕ
@@ -23,6 +26,8 @@ meaning (recordAt cs) = recordOf (ruleFor 2) cs
 meaning (shiftsAt cs) = shifts (ruleFor 2) cs
 meaning (extrasAt cs) = map (extra (ruleFor 2) cs) (countFrom 1 3)
 meaning (ofAllAt cs) = map (extraOfAll (ruleFor 2) cs) (countFrom 1 3)
+meaning (recordUnder f cs) = recordOf (ruleFor f) cs
+meaning (groupUnder f cs a) = group (ruleFor f) cs a
 
 pub record Line : Type 0 where
   pub case : Case
@@ -40,6 +45,13 @@ weighted h l = record { weight = h; costs = l }
 -- d shifts of 0 and, for each a, E = 0 with two unused pairs
 abbrev nothingAbove : List ℕ
 nothingAbove = replicate 3 0 ++ each (λ a. 0 ∷ 0xFF ∷ 0 ∷ 0xFF ∷ 0 ∷ []) (upTo 3)
+
+-- p = 3: 7 is 1 + 2 + 4, and columns 1, 2, 3 are cheap at these
+abbrev threeCheap : List Column
+threeCheap =
+    columns
+    ((0 ∷ 9 ∷ 9 ∷ 9 ∷ 9 ∷ 9 ∷ 9 ∷ 9 ∷ []) ∷ (0 ∷ 1 ∷ 100 ∷ 100 ∷ 100 ∷ 100 ∷ 100 ∷ 100 ∷ [])
+    ∷ (0 ∷ 100 ∷ 1 ∷ 100 ∷ 100 ∷ 100 ∷ 100 ∷ 100 ∷ []) ∷ (0 ∷ 100 ∷ 100 ∷ 100 ∷ 1 ∷ 100 ∷ 100 ∷ 100 ∷ []) ∷ [])
 
 unfoldable pub table : List Line
 table =
@@ -69,4 +81,11 @@ table =
     gives (recordAt (columns ((0 ∷ 9 ∷ 1 ∷ 9 ∷ []) ∷ (0 ∷ 9 ∷ 9 ∷ 1 ∷ []) ∷ [])))
     (0x00 ∷ 0x00 ∷ 0x09 ∷ 0xFF ∷ 0x00 ∷ 0xFF ∷ 0x00 ∷ 0x01 ∷ 0x00 ∷ 0x09 ∷ 0xFF ∷ 0x00 ∷ 0x01 ∷ 0x01 ∷ 0x09 ∷ 0xFF ∷ 0x00 ∷ []) ∷
     gives (ofAllAt (columns ((0 ∷ 9 ∷ 1 ∷ 9 ∷ []) ∷ (0 ∷ 9 ∷ 9 ∷ 1 ∷ []) ∷ []))) (2 ∷ 1 ∷ 1 ∷ []) ∷
+    -- Three deviations, first byte 22: the record above, with a pair more for each a
+    gives (recordUnder 0x22 (columns ((0 ∷ 5 ∷ 7 ∷ 9 ∷ []) ∷ (0 ∷ 4 ∷ 8 ∷ 3 ∷ []) ∷ (0 ∷ 6 ∷ 2 ∷ 10 ∷ []) ∷ [])))
+    (0x00 ∷ 0x00 ∷ 0x00 ∷ 0x04 ∷ 0x01 ∷ 0x05 ∷ 0xFF ∷ 0x00 ∷ 0xFF ∷ 0x00 ∷ 0x02 ∷ 0x02 ∷ 0x07 ∷ 0xFF ∷ 0x00 ∷ 0xFF ∷ 0x00 ∷ 0x03 ∷ 0x01 ∷ 0x07 ∷ 0xFF ∷ 0x00 ∷ 0xFF ∷ 0x00 ∷ []) ∷
+    -- at a = 7 column 0 is sent 1 + 1 + 1, and each other column the 9 of column 0
+    gives (groupUnder 0x23 threeCheap 7) (0x03 ∷ 0x01 ∷ 0x09 ∷ 0x02 ∷ 0x09 ∷ 0x03 ∷ 0x09 ∷ []) ∷
+    -- with two deviations column 0 is sent 100
+    gives (groupUnder 0x03 threeCheap 7) (0x09 ∷ 0x00 ∷ 0x64 ∷ 0xFF ∷ 0x00 ∷ []) ∷
     []
