@@ -2,7 +2,7 @@
 use mathlib.Core.Path.{_≡_, refl, sym, ap, ap₂, _∙_}
 use mathlib.Core.Bool.{Bool, true, false}
 use mathlib.Core.List.{List, _++_}
-use Prim.Native.Nat.{ℕ, _+_, _-_, _*_, _^_, _≤_, _<_}
+use Prim.Native.Nat.{ℕ, _+_, _-_, _*_, _≤_, _<_}
 use native.Mathlib.Nat.{add-sub-cancel-left}
 use native.Mathlib.Numerals.{add-one}
 use native.Mathlib.Omega.{arith}
@@ -12,6 +12,7 @@ use lib.ListN.{length, getD, take, drop, length-map, length-replicate, getD-repl
 use lib.Seq.{ext-getD, take-at, drop-at}
 use Rattle.trellis.specs.Lists.{tab, part, allTo, pick}
 use Rattle.trellis.specs.Check.{firstZero}
+use Rattle.trellis.specs.Rules.{firstOk, sizeOf}
 use Rattle.trellis.proofs.Loops.{tab-whole, length-tab, getD-tab}
 use Rattle.trellis.specs.Reply.{Reply, refusal}
 use Rattle.machine.specs.CodeLine.{good, Code, numbersOf, parse, size, columnOf, zeroIn, frameFault}
@@ -61,32 +62,32 @@ module _ (q n c z : ℕ) (f : List ℕ) (room : c * q + q ≤ length f) (e : z �
   zeros-not h l = all-not (zeroIn q f) c n l (rw (← whole, ← e) (le-ltb z q (omega arith)))
 
 -- the frame's tests
-module _ (p n q : ℕ) (f : List ℕ) (e : q ≡ 2 ^ p) where
-  pub fault-count : (length f ≡ n * q → ⊥) → 12 ≡ frameFaultOf p n f
+module _ (first n q : ℕ) (f : List ℕ) (e : q ≡ sizeOf first) where
+  pub fault-count : (length f ≡ n * q → ⊥) → 12 ≡ frameFaultOf first n f
   unfolding frameFaultOf
-  fault-count h = rw (ne-eqb (length f) (n * 2 ^ p) (λ k. h (k ∙ ap (λ y. n * y) (sym e))))
+  fault-count h = rw (ne-eqb (length f) (n * sizeOf first) (λ k. h (k ∙ ap (λ y. n * y) (sym e))))
 
-  pub fault-zeros : (b : Bool) → length f ≡ n * q → b ≡ allTo (zeroIn q f) n → pick b 0 13 ≡ frameFaultOf p n f
+  pub fault-zeros : (b : Bool) → length f ≡ n * q → b ≡ allTo (zeroIn q f) n → pick b 0 13 ≡ frameFaultOf first n f
   unfolding frameFaultOf
-  fault-zeros b h o = rw (eq-eqb (length f) (n * 2 ^ p) (h ∙ ap (λ y. n * y) e), ← e, ← o)
+  fault-zeros b h o = rw (eq-eqb (length f) (n * sizeOf first) (h ∙ ap (λ y. n * y) e), ← e, ← o)
 
-frame-counted : (p n : ℕ) (f : List ℕ) → frameFaultOf p n f ≡ 0 → length f ≡ n * 2 ^ p
+frame-counted : (first n : ℕ) (f : List ℕ) → frameFaultOf first n f ≡ 0 → length f ≡ n * sizeOf first
 unfolding frameFaultOf
-frame-counted p n f h = go (eqb (length f) (n * 2 ^ p)) refl (allTo (zeroIn (2 ^ p) f) n) h
+frame-counted first n f h = go (eqb (length f) (n * sizeOf first)) refl (allTo (zeroIn (sizeOf first) f) n) h
   where
-    go : (a : Bool) → eqb (length f) (n * 2 ^ p) ≡ a → (b : Bool) → _≡_ {A = ℕ} (pick a (pick b 0 13) 12) 0 → length f ≡ n * 2 ^ p
+    go : (a : Bool) → eqb (length f) (n * sizeOf first) ≡ a → (b : Bool) → _≡_ {A = ℕ} (pick a (pick b 0 13) 12) 0 → length f ≡ n * sizeOf first
     go true e b h = eqb-true _ _ e
     go false e b h = absurd (omega arith)
 
 -- all tests after the code
-module _ (p n : ℕ) (ds f : List ℕ) (y c s k : ℕ) (e : k ≡ frameFaultOf p n f) where
-  pub fault-frame : (k ≡ 0 → ⊥) → k ≡ faultOf p n ds f y c s
+module _ (first n : ℕ) (ds f : List ℕ) (y c s k : ℕ) (e : k ≡ frameFaultOf first n f) where
+  pub fault-frame : (k ≡ 0 → ⊥) → k ≡ faultOf first n ds f y c s
   unfolding faultOf
-  fault-frame h = e ∙ rw (ne-eqb (frameFaultOf p n f) 0 (λ z. h (e ∙ z)))
+  fault-frame h = e ∙ rw (ne-eqb (frameFaultOf first n f) 0 (λ z. h (e ∙ z)))
 
-  pub fault-room : k ≡ 0 → (w u r : ℕ) → w ≡ length f → u ≡ placeAt p ds (length ds) → r ≡ roomFault n w u y c s → r ≡ faultOf p n ds f y c s
+  pub fault-room : k ≡ 0 → (w u r : ℕ) → w ≡ length f → u ≡ placeAt first ds (length ds) → r ≡ roomFault n w u y c s → r ≡ faultOf first n ds f y c s
   unfolding faultOf
-  fault-room h w u r i j o = o ∙ rw (i, j, frame-counted p n f (sym e ∙ h), eq-eqb (frameFaultOf p n f) 0 (sym e ∙ h))
+  fault-room h w u r i j o = o ∙ rw (i, j, frame-counted first n f (sym e ∙ h), eq-eqb (frameFaultOf first n f) 0 (sym e ∙ h))
 
 -- decoding by the number of its refusal, 0 for none
 module _ (C : Code) (f y c s : List ℕ) where
@@ -135,11 +136,11 @@ reply-is : (o : Outcome) (l : Lent) (st : Status) (t : ℕ) (l′ : Lent) → en
 reply-is (Found u) l st t l′ e = (ap₂ outcome (ap (λ (x : Ended). x .status) e) (ap (λ (x : Ended). x .t) e), ap (λ (x : Ended). x .lent) e)
 reply-is (NotFound u) l st t l′ e = (ap₂ outcome (ap (λ (x : Ended). x .status) e) (ap (λ (x : Ended). x .t) e), ap (λ (x : Ended). x .lent) e)
 
-module _ (C : Code) (p n m g limit : ℕ) (ds cs ws : List ℕ) (H : Coded C p n m g limit ds cs ws) where
-  pub coded-tables : Tables C (graph p g (take m ds) cs ws)
+module _ (C : Code) (first n m g limit : ℕ) (ds cs ws : List ℕ) (H : Coded C first n m g limit ds cs ws) where
+  pub coded-tables : Tables C (graph first g (take m ds) cs ws)
   coded-tables =
       record {
-        p-is = H .p-is;
+        first-is = H .first-is;
         scale-is = H .scale-is;
         degrees-is = ap (λ k. take k ds) (H .checks-is ∙ sym (length-map (C .checks) (λ es. length es))) ∙ H .tabled .degrees;
         columns = H .tabled .columns;
@@ -152,16 +153,16 @@ module _ (C : Code) (p n m g limit : ℕ) (ds cs ws : List ℕ) (H : Coded C p n
   pub degree-slice : m ≡ length (take m ds)
   degree-slice = H .checks-is ∙ sym degree-count
 
-  pub few : (p ≤ 6) × ((n ≤ 256) × (length (take m ds) ≤ 128))
-  few = rw (degree-count, H .p-is, H .columns-is) (H .good .p-high, (H .good .columns-high, H .good .checks-high))
+  pub few : (firstOk first ≡ true) × ((n ≤ 256) × (length (take m ds) ≤ 128))
+  few = rw (degree-count, H .first-is, H .columns-is) (H .good .first, (H .good .columns-high, H .good .checks-high))
 
-  used-is : placeAt p (take m ds) (length (take m ds)) ≡ used C
-  used-is = rw (degree-count, H .p-is, coded-tables .degrees-is) (place-is C cs ws (H .tabled .columns) (H .tabled .weights) (length (C .checks)))
+  used-is : placeAt first (take m ds) (length (take m ds)) ≡ used C
+  used-is = rw (degree-count, H .first-is, coded-tables .degrees-is) (place-is C cs ws (H .tabled .columns) (H .tabled .weights) (length (C .checks)))
 
-  module _ (f y c s : List ℕ) (k : ℕ) (e : k ≡ faultOf p n (take m ds) f (length y) (length c) (length s)) where
+  module _ (f y c s : List ℕ) (k : ℕ) (e : k ≡ faultOf first n (take m ds) f (length y) (length c) (length s)) where
     fault-is : k ≡ faultIn C f y c s
     unfolding faultOf frameFaultOf frameFault
-    fault-is = e ∙ rw (used-is, H .p-is, H .columns-is)
+    fault-is = e ∙ rw (used-is, H .first-is, H .columns-is)
 
     -- a refusal
     pub refused-leaves : (k ≡ 0 → ⊥) → Leaves (underCode (good C) f y c s) (refusal k) y c s
@@ -177,16 +178,16 @@ module _ (C : Code) (p n m g limit : ℕ) (ds cs ws : List ℕ) (H : Coded C p n
       rooms : (C .columns ≤ length y) × ((C .columns * size C ≤ length c) × (used C ≤ length s))
       rooms = room-none _ _ _ _ _ _ (none .1)
 
-      pub frame-length : length f ≡ n * 2 ^ p
+      pub frame-length : length f ≡ n * sizeOf first
       unfolding frameFaultOf frameFault
-      frame-length = rw (H .p-is, H .columns-is) (frame-counted (C .p) (C .columns) f (none .0))
+      frame-length = rw (H .first-is, H .columns-is) (frame-counted (C .first) (C .columns) f (none .0))
 
       -- the buffers have room
       pub fits : (n ≤ length y) × (length f ≤ length c)
-      fits = rw (frame-length, H .p-is, H .columns-is) (rooms .0, rooms .1 .0)
+      fits = rw (frame-length, H .first-is, H .columns-is) (rooms .0, rooms .1 .0)
 
       -- the run starts on the frame with no record
-      pub start-room : Below 255 f → (P x : List ℕ) → P ≡ f → length x ≡ n → RunRoom (graph p g (take m ds) cs ws) true P s x
+      pub start-room : Below 255 f → (P x : List ℕ) → P ≡ f → length x ≡ n → RunRoom (graph first g (take m ds) cs ws) true P s x
       start-room b P x i l =
           let no-record : (j : ℕ) → j < length (C .checks) → lastOf (start C f) j ≡ none′ = λ j h. getD-replicate (length (C .checks)) j none′ none′ h in
           record {
@@ -206,16 +207,16 @@ module _ (C : Code) (p n m g limit : ℕ) (ds cs ws : List ℕ) (H : Coded C p n
           }
 
       -- and leaves what the machine's run leaves
-      pub run-leaves : (o : Outcome) (P x u : List ℕ) → endedIn o (lent P u) ≡ goOn (graph p g (take m ds) cs ws) n limit 0 (lent f s) → x ≡ decisionsOf (2 ^ p) P n
+      pub run-leaves : (o : Outcome) (P x u : List ℕ) → endedIn o (lent P u) ≡ goOn (graph first g (take m ds) cs ws) n limit 0 (lent f s) → x ≡ decisionsOf (sizeOf first) P n
           → Leaves (underCode (good C) f y c s) (answerReply (Decoded o)) (x ++ drop n y) (P ++ drop (length f) c) u
       run-leaves o P x u i j =
           let a : endedIn o (lent P u) ≡ goLent C (C .limit) 0 (lent f s) =
-          i ∙ ap₂ (λ a b. goOn (graph p g (take m ds) cs ws) a b 0 (lent f s)) (H .columns-is) (H .limit-is) ∙ tables-go C p g (take m ds) cs ws coded-tables (C .limit) 0 (lent f s) in
+          i ∙ ap₂ (λ a b. goOn (graph first g (take m ds) cs ws) a b 0 (lent f s)) (H .columns-is) (H .limit-is) ∙ tables-go C first g (take m ds) cs ws coded-tables (C .limit) 0 (lent f s) in
           let b = reply-is o (lent P u) _ _ _ (a ∙ run-stands C (H .good) s (rooms .1 .1) f) in
           let d : P ≡ run C f .end .costs = ap (λ (l : Lent). l .costs) (b .1) in
           let q : x ≡ symbols C (run C f .end .costs) =
-          j ∙ ap₂ (λ a b. decisionsOf (2 ^ a) P b) (H .p-is) (H .columns-is) ∙ ap (λ l. decisionsOf (size C) l (C .columns)) d ∙ symbols-are C cs ws (H .tabled .columns) (H .tabled .weights) (run C f .end .costs) in
-          let w : length f ≡ C .columns * size C = frame-length ∙ ap₂ (λ a b. a * 2 ^ b) (H .columns-is) (H .p-is) in
+          j ∙ ap₂ (λ a b. decisionsOf (sizeOf a) P b) (H .first-is) (H .columns-is) ∙ ap (λ l. decisionsOf (size C) l (C .columns)) d ∙ symbols-are C cs ws (H .tabled .columns) (H .tabled .weights) (run C f .end .costs) in
+          let w : length f ≡ C .columns * size C = frame-length ∙ ap₂ (λ a b. a * sizeOf b) (H .columns-is) (H .first-is) in
           let v : underCode (good C) f y c s ≡ filled C (run C f) y c s = by-fault C f y c s ∙ rw (← fault-is, eq-eqb k 0 z) in
           rw v
           record {
@@ -230,16 +231,16 @@ module _ (C : Code) (p n m g limit : ℕ) (ds cs ws : List ℕ) (H : Coded C p n
         copied-front : take (length f) (v ++ drop (length f) c) ≡ f
         copied-front = ap (λ a. take (length f) (a ++ drop (length f) c)) i ∙ take-at f (drop (length f) c) (length f) refl
 
-        pub copied-room : Below 255 f → (x : List ℕ) → length x ≡ n → RunRoom (graph p g (take m ds) cs ws) true (take (length f) (v ++ drop (length f) c)) s x
+        pub copied-room : Below 255 f → (x : List ℕ) → length x ≡ n → RunRoom (graph first g (take m ds) cs ws) true (take (length f) (v ++ drop (length f) c)) s x
         copied-room b x l = start-room b _ x copied-front l
 
         pub copied-leaves : (o : Outcome) (P x u w : List ℕ) → length w ≡ n
-            → endedIn o (lent P u) ≡ goOn (graph p g (take m ds) cs ws) (length w) limit 0 (lent (take (length f) (v ++ drop (length f) c)) s)
-            → x ≡ decisionsOf (2 ^ p) P (length w)
+            → endedIn o (lent P u) ≡ goOn (graph first g (take m ds) cs ws) (length w) limit 0 (lent (take (length f) (v ++ drop (length f) c)) s)
+            → x ≡ decisionsOf (sizeOf first) P (length w)
             → Leaves (underCode (good C) f y c s) (answerReply (Decoded o)) (x ++ drop n y) (P ++ drop (length f) (v ++ drop (length f) c)) u
         copied-leaves o P x u w l a b =
             let d : drop (length f) (v ++ drop (length f) c) ≡ drop (length f) c = ap (λ a. drop (length f) (a ++ drop (length f) c)) i ∙ drop-at f (drop (length f) c) (length f) refl in
-            rw d (run-leaves o P x u (a ∙ ap₂ (λ k q. goOn (graph p g (take m ds) cs ws) k limit 0 (lent q s)) l copied-front) (b ∙ ap (decisionsOf (2 ^ p) P) l))
+            rw d (run-leaves o P x u (a ∙ ap₂ (λ k q. goOn (graph first g (take m ds) cs ws) k limit 0 (lent q s)) l copied-front) (b ∙ ap (decisionsOf (sizeOf first) P) l))
 
 -- what the reader's answer says of the line
 module _ (s₀ : List ℕ) (h : Header) (e : headerNumbers h ≡ numbersOf (parse s₀)) where
@@ -254,17 +255,17 @@ module _ (s₀ : List ℕ) (h : Header) (e : headerNumbers h ≡ numbersOf (pars
         store-then = sym (ap (λ (a : After). a .store) x);
       }
 
-  module _ (p n m g limit : ℕ) (i : h ≡ HeaderRead p n m g limit) where
-    read : Accepted s₀ p n m g limit
-    read = header-read s₀ h e p n m g limit i
+  module _ (first n m g limit : ℕ) (i : h ≡ HeaderRead first n m g limit) where
+    read : Accepted s₀ first n m g limit
+    read = header-read s₀ h e first n m g limit i
 
     -- with the numbers as wider ones
     module _ (N M G : ℕ) (j : N ≡ n) (k : M ≡ m) (l : G ≡ g) (ds cs ws : List ℕ) (T : (C : Code) → parse s₀ ≡ good C → Tabled C ds cs ws) where
-      coded : Coded (read .code) p N M G limit ds cs ws
+      coded : Coded (read .code) first N M G limit ds cs ws
       coded =
           record {
             good = parse-good s₀ (read .code) (read .parsed);
-            p-is = read .p-is;
+            first-is = read .first-is;
             columns-is = j ∙ read .columns-is;
             checks-is = k ∙ read .checks-is;
             scale-is = l ∙ read .scale-is;
@@ -272,11 +273,11 @@ module _ (s₀ : List ℕ) (h : Header) (e : headerNumbers h ≡ numbersOf (pars
             tabled = T (read .code) (read .parsed);
           }
 
-      pub coded-room : (A S : List ℕ) → length A ≡ 2048 → length S ≡ 2048 → CodeRoom p N M G limit ds cs ws A S
+      pub coded-room : (A S : List ℕ) → length A ≡ 2048 → length S ≡ 2048 → CodeRoom first N M G limit ds cs ws A S
       coded-room A S a b = record { code = read .code; coded = coded; arrived = omega arith; sent = omega arith }
 
       pub coded-decodes : (f y c s : List ℕ) (r : Reply) (y′ c′ s′ : List ℕ)
-          → ((C : Code) → Coded C p N M G limit ds cs ws → Leaves (underCode (good C) f y c s) r y′ c′ s′)
+          → ((C : Code) → Coded C first N M G limit ds cs ws → Leaves (underCode (good C) f y c s) r y′ c′ s′)
           → Decodes s₀ f y c s r y′ c′ s′
       unfolding decoding
       coded-decodes f y c s r y′ c′ s′ L =

@@ -3,14 +3,18 @@ use mathlib.Core.Path.{_≡_, refl, sym, ap, ap₂, _∙_}
 use mathlib.Core.Bool.{Bool, true, false, _&&_}
 use mathlib.Core.List.{List}
 use Prim.Native.Nat.{ℕ, zero, suc, _+_, _-_, _*_, _^_, _≤_, _<_}
+use native.Mathlib.Nat.{mul-le-mul}
 use native.Mathlib.Numerals.{add-one}
 use native.Mathlib.Omega.{arith}
 use lib.Dec.{eqb}
 use lib.ListN.{length, take, getD}
 use Rattle.trellis.specs.Lists.{upto, allTo}
 use Rattle.trellis.specs.Check.{firstZero}
-use Rattle.trellis.specs.Record.{recordLength}
-use Rattle.machine.specs.CodeLine.{Code, size, rule, check, columnOf}
+use Rattle.trellis.specs.Record.{groupLength, recordLength}
+use Rattle.trellis.specs.Rules.{powerOf, sizeOf, firstOk, ruleFor}
+use Rattle.trellis.proofs.Recurrence.{size-64}
+use Rattle.trellis.proofs.Rules.{first-power, most-few}
+use Rattle.machine.specs.CodeLine.{Code, power, size, rule, check, columnOf}
 use Rattle.machine.specs.Machine.{found, notFound, symbols, paritySum, settled, place}
 use Rattle.machine.specs.Tables.{tablesOf, before, sumFrom}
 use Rattle.machine.specs.Lent.{Lent, turn, pass, ended, goLent}
@@ -29,20 +33,27 @@ all-ext : (n : ℕ) (f g : ℕ → Bool) → ((k : ℕ) → k < n → f k ≡ g 
 all-ext zero f g h = refl
 all-ext (suc n) f g h = ap₂ (λ a b. a && b) (all-ext n f g (λ k i. h k (omega arith))) (h n (omega arith))
 
+-- a record has at most 441 bytes behind its shifts
+pub groups-few : (first : ℕ) → firstOk first ≡ true → groupLength (ruleFor first) * (sizeOf first - 1) ≤ 441
+groups-few first h =
+    let k : groupLength (ruleFor first) ≤ 7 = omega (arith, most-few first) in
+    let n : sizeOf first - 1 ≤ 63 = omega (arith, size-64 (powerOf first) (first-power first h .1)) in
+    mul-le-mul k n
+
 -- the next record's place
-pub place-more : (p : ℕ) (ds : List ℕ) (m at d q : ℕ) → at ≡ placeAt p ds m → d ≡ getD ds m 0 → q ≡ 2 ^ p → at + (d + 5 * (q - 1)) ≡ placeAt p ds (m + 1)
+pub place-more : (first : ℕ) (ds : List ℕ) (m at d groups : ℕ) → at ≡ placeAt first ds m → d ≡ getD ds m 0 → groups ≡ groupLength (ruleFor first) * (sizeOf first - 1) → at + (d + groups) ≡ placeAt first ds (m + 1)
 unfolding placeAt
-place-more p ds m at d q e i j = rw (add-one m, e, i, j)
+place-more first ds m at d groups e i j = rw (add-one m, e, i, j)
 
 module _ (C : Code) (cs ws : List ℕ) (hc : take (length (tablesOf (C .checks) .edges .columns)) cs ≡ tablesOf (C .checks) .edges .columns)
     (hw : take (length (tablesOf (C .checks) .edges .weights)) ws ≡ tablesOf (C .checks) .edges .weights) where
   abbrev T : Graph
-  T = graph (C .p) (C .scale) (tablesOf (C .checks) .degrees) cs ws
+  T = graph (C .first) (C .scale) (tablesOf (C .checks) .degrees) cs ws
 
   abbrev ds : List ℕ
   ds = tablesOf (C .checks) .degrees
 
-  pub place-is : (m : ℕ) → placeAt (C .p) ds m ≡ place C m
+  pub place-is : (m : ℕ) → placeAt (C .first) ds m ≡ place C m
   unfolding placeAt place
   place-is m = upto-ext m _ _ 0 (λ k i a. ap (λ d. a + recordLength (rule C) d) (degree-at C cs ws hc hw k))
 
@@ -62,8 +73,8 @@ module _ (C : Code) (cs ws : List ℕ) (hc : take (length (tablesOf (C .checks) 
   unfolding decisionsOf symbols
   symbols-are P = sym (upTo-tab (λ c. firstZero (columnOf (size C) P c)) (C .columns))
 
-  sum-is : (z : List ℕ) (m : ℕ) → m < length (C .checks) → sumFrom (C .p) cs ws z (before ds m) (getD ds m 0) ≡ paritySum (C .p) (check C m) z (length (check C m))
-  sum-is z m h = sum-flat C cs ws hc hw m h z (getD ds m 0) (omega arith) ∙ ap (paritySum (C .p) (check C m) z) (degree-at C cs ws hc hw m)
+  sum-is : (z : List ℕ) (m : ℕ) → m < length (C .checks) → sumFrom (power C) cs ws z (before ds m) (getD ds m 0) ≡ paritySum (power C) (check C m) z (length (check C m))
+  sum-is z m h = sum-flat C cs ws hc hw m h z (getD ds m 0) (omega arith) ∙ ap (paritySum (power C) (check C m) z) (degree-at C cs ws hc hw m)
 
   pub settled-is : (P : List ℕ) → settledOn T (C .columns) P ≡ settled C P
   unfolding allHold settled
@@ -81,6 +92,14 @@ module _ (C : Code) (cs ws : List ℕ) (hc : take (length (tablesOf (C .checks) 
 pub pass-done : (D : Graph) (start : Bool) (l now : Lent) (m : ℕ) → m ≡ length (D .degrees) → now ≡ upto (turnAt D start) m l → now ≡ passOver D start l
 unfolding passOver
 pass-done D start l now m e o = o ∙ ap (λ k. upto (turnAt D start) k l) e
+
+-- the test and the decisions, where p is read off the first byte
+module _ (first g : ℕ) (ds cs ws P : List ℕ) (p n : ℕ) (e : p ≡ powerOf first) where
+  pub test-by : (r : Bool) → r ≡ allHold p ds cs ws (decisionsOf (2 ^ p) P n) (length ds) → r ≡ settledOn (graph first g ds cs ws) n P
+  test-by r h = h ∙ rw e
+
+  pub decided-by : (y : List ℕ) → y ≡ decisionsOf (2 ^ p) P n → (n₀ : ℕ) → n ≡ n₀ → y ≡ decisionsOf (sizeOf first) P n₀
+  decided-by y h n₀ k = h ∙ rw (e, k)
 
 -- decisions that satisfy every check end the run
 go-found : (D : Graph) (n : ℕ) (l : Lent) (k t : ℕ) → settledOn D n (l .costs) ≡ true → goOn D n k t l ≡ ended found t l
@@ -105,9 +124,9 @@ module _ (D : Graph) (n n₀ limit t : ℕ) (l l₀ : Lent) (r : Bool) (same : n
   run-more e h l′ o = let z : limit - t ≡ suc (limit - (t + 1)) = omega arith in ap (goOn D n₀ (limit - (t + 1)) (t + 1)) o ∙ sym (rw (z, tested false e)) ∙ left
 
 -- the same over the tables as they are lent
-module _ (C : Code) (p g : ℕ) (ds cs ws : List ℕ) (H : Tables C (graph p g ds cs ws)) where
-  pub tables-pass : (start : Bool) (l : Lent) → passOver (graph p g ds cs ws) start l ≡ pass C start l
-  tables-pass start l = rw (H .p-is, H .scale-is, H .degrees-is) (pass-is C cs ws (H .columns) (H .weights) start l)
+module _ (C : Code) (first g : ℕ) (ds cs ws : List ℕ) (H : Tables C (graph first g ds cs ws)) where
+  pub tables-pass : (start : Bool) (l : Lent) → passOver (graph first g ds cs ws) start l ≡ pass C start l
+  tables-pass start l = rw (H .first-is, H .scale-is, H .degrees-is) (pass-is C cs ws (H .columns) (H .weights) start l)
 
-  pub tables-go : (n t : ℕ) (l : Lent) → goOn (graph p g ds cs ws) (C .columns) n t l ≡ goLent C n t l
-  tables-go n t l = rw (H .p-is, H .scale-is, H .degrees-is) (go-is C cs ws (H .columns) (H .weights) n t l)
+  pub tables-go : (n t : ℕ) (l : Lent) → goOn (graph first g ds cs ws) (C .columns) n t l ≡ goLent C n t l
+  tables-go n t l = rw (H .first-is, H .scale-is, H .degrees-is) (go-is C cs ws (H .columns) (H .weights) n t l)

@@ -3,7 +3,7 @@
 use mathlib.Core.Path.{_≡_, sym, ap, ap₂, _∙_}
 use mathlib.Core.Bool.{Bool, true, false}
 use mathlib.Core.List.{List}
-use Prim.Native.Nat.{ℕ, suc, _+_, _-_, _*_, _^_, _≤_, _<_}
+use Prim.Native.Nat.{ℕ, suc, _+_, _-_, _*_, _≤_, _<_}
 use native.Mathlib.Nat.{mul-le-mul, add-sub-cancel-left}
 use native.Mathlib.Numerals.{add-one}
 use native.Mathlib.Omega.{arith}
@@ -11,11 +11,12 @@ use lib.Dec.{eqb}
 use lib.ListN.{length, take, getD}
 use borrow.Author.Tests.{ne-eqb}
 use Rattle.trellis.specs.Lists.{upto, part, patch}
-use Rattle.trellis.specs.Record.{recordLength, recordOk, recordOf}
+use Rattle.trellis.specs.Record.{groupLength, recordLength, recordOk, recordOf}
+use Rattle.trellis.specs.Rules.{powerOf, sizeOf, ruleFor}
 use Rattle.trellis.proofs.Form.{record-ok}
 use Rattle.trellis.proofs.Instances.{first-zero}
 use Rattle.trellis.proofs.Recurrence.{size-64}
-use Rattle.machine.specs.CodeLine.{Code, size, rule, check, edgeAt, columnOf}
+use Rattle.machine.specs.CodeLine.{Code, power, size, rule, check, edgeAt, columnOf}
 use Rattle.machine.specs.Machine.{Last, none, made, State, lastOf, update, iteration, place, used}
 use Rattle.machine.specs.Tables.{tablesOf, before}
 use Rattle.machine.specs.Lent.{Lent, pass}
@@ -34,7 +35,7 @@ module _ (C : Code) (G : GoodCode C) (cs ws : List ℕ) (hc : take (length (tabl
     (hw : take (length (tablesOf (C .checks) .edges .weights)) ws ≡ tablesOf (C .checks) .edges .weights) (s₀ : List ℕ) (room : used C ≤ length s₀)
     (st : State) (K : Kept C st) (start : Bool) (W : (m : ℕ) → m < length (C .checks) → When C start (lastOf st m)) (Rg : Ranged C (st .costs)) where
   abbrev T : Graph
-  T = graph (C .p) (C .scale) (tablesOf (C .checks) .degrees) cs ws
+  T = graph (C .first) (C .scale) (tablesOf (C .checks) .degrees) cs ws
 
   abbrev after : ℕ → State
   after m = upto (update C) m st
@@ -51,17 +52,17 @@ module _ (C : Code) (G : GoodCode C) (cs ws : List ℕ) (hc : take (length (tabl
         go none f w = absurd w
         go (made c) f w = ap (λ d. recordOk (rule C) d (recordOf (rule C) c)) (sym (f .count)) ∙ record-ok (rule C) c (made-proper C G (check C m) (G .each-check m h) c f)
 
-    held-at : part (held C s₀ (after m)) (placeAt (C .p) (T .degrees) m) (lengthAt (C .p) (T .degrees) m) ≡ pieceOf C s₀ m (lastOf st m)
+    held-at : part (held C s₀ (after m)) (placeAt (C .first) (T .degrees) m) (lengthAt (C .first) (T .degrees) m) ≡ pieceOf C s₀ m (lastOf st m)
     held-at =
         rw (place-is C cs ws hc hw m, degree-at C cs ws hc hw m)
         (held-part C G s₀ room (after m) (updates-kept C G st K m (omega arith) .0) m h ∙ ap (pieceOf C s₀ m) (untouched C G s₀ room st K m (omega arith) m (omega arith)))
 
-    pub in-store : placeAt (C .p) (T .degrees) m + lengthAt (C .p) (T .degrees) m ≤ length s₀
+    pub in-store : placeAt (C .first) (T .degrees) m + lengthAt (C .first) (T .degrees) m ≤ length s₀
     in-store =
         rw (place-is C cs ws hc hw m, degree-at C cs ws hc hw m) (omega (arith, place-suc C m, place-mono C (suc m) (length (C .checks)) h))
 
     update-room : (Q S : List ℕ) → length Q ≡ getD (T .degrees) m 0 * size C → length S ≡ getD (T .degrees) m 0 * size C
-        → UpdateRoom (C .p) (C .scale) start (tableAt (T .degrees) cs m) (tableAt (T .degrees) ws m) (after m .costs) (part (held C s₀ (after m)) (placeAt (C .p) (T .degrees) m) (lengthAt (C .p) (T .degrees) m)) Q S
+        → UpdateRoom (C .first) (C .scale) start (tableAt (T .degrees) cs m) (tableAt (T .degrees) ws m) (after m .costs) (part (held C s₀ (after m)) (placeAt (C .first) (T .degrees) m) (lengthAt (C .first) (T .degrees) m)) Q S
     update-room Q S i j =
         let H = G .each-check m h in
         let d : length (tableAt (T .degrees) ws m) ≡ length (check C m) = weights-length C cs ws hc hw m h in
@@ -72,8 +73,7 @@ module _ (C : Code) (G : GoodCode C) (cs ws : List ℕ) (hc : take (length (tabl
         record {
           recall = record {
             weighed = record {
-              low = G .p-low;
-              high = G .p-high;
+              accepted = G .first;
               two = omega (arith, H .low);
               few = omega (arith, H .high);
               some = λ k u. rw (weight-table C cs ws hc hw m h k) (H .each-edge k (omega arith) .weight-some);
@@ -86,22 +86,22 @@ module _ (C : Code) (G : GoodCode C) (cs ws : List ℕ) (hc : take (length (tabl
           columns = λ k u. rw (column-table C cs ws hc hw m h k) (omega (arith, R .full, column-room (edgeAt (check C m) k .column) (C .columns) (size C) (H .each-edge k (omega arith) .column-small)));
           small = R .small;
           scale = G .scale-high;
-          for-record = length-part (held C s₀ (after m)) (placeAt (C .p) (T .degrees) m) (lengthAt (C .p) (T .degrees) m) (omega (arith, in-store)) ∙ ap (recordLength (rule C)) n;
+          for-record = length-part (held C s₀ (after m)) (placeAt (C .first) (T .degrees) m) (lengthAt (C .first) (T .degrees) m) (omega (arith, in-store)) ∙ ap (recordLength (rule C)) n;
           for-costs = i ∙ ap (λ x. x * size C) n;
         }
 
 -- the same over the tables as they are lent
-module _ (p g : ℕ) (ds cs ws P s : List ℕ) (start : Bool) (R : Running (graph p g ds cs ws) start P s) where
+module _ (first g : ℕ) (ds cs ws P s : List ℕ) (start : Bool) (R : Running (graph first g ds cs ws) start P s) where
   abbrev C : Code
   C = R .code
 
   -- what an update of check m asks
-  pub turn-room : (m : ℕ) → m < length ds → (l : Lent) → l ≡ upto (turnAt (graph p g ds cs ws) start) m (lent P s)
-      → (Q S : List ℕ) → length Q ≡ getD ds m 0 * 2 ^ p → length S ≡ getD ds m 0 * 2 ^ p
-      → UpdateRoom p g start (tableAt ds cs m) (tableAt ds ws m) (l .costs) (recordAt p ds m (l .store)) Q S
+  pub turn-room : (m : ℕ) → m < length ds → (l : Lent) → l ≡ upto (turnAt (graph first g ds cs ws) start) m (lent P s)
+      → (Q S : List ℕ) → length Q ≡ getD ds m 0 * sizeOf first → length S ≡ getD ds m 0 * sizeOf first
+      → UpdateRoom first g start (tableAt ds cs m) (tableAt ds ws m) (l .costs) (recordAt first ds m (l .store)) Q S
   turn-room m =
-      rw (R .tables .p-is, R .tables .scale-is, R .tables .degrees-is) (λ h l e Q S i j.
-      let D : Graph = graph (C .p) (C .scale) (tablesOf (C .checks) .degrees) cs ws in
+      rw (R .tables .first-is, R .tables .scale-is, R .tables .degrees-is) (λ h l e Q S i j.
+      let D : Graph = graph (C .first) (C .scale) (tablesOf (C .checks) .degrees) cs ws in
       let k : m < length (C .checks) = omega (arith, count C cs ws (R .tables .columns) (R .tables .weights)) in
       let x : l ≡ lentOf C (R .old) (upto (update C) m (R .state)) =
       e ∙ ap (upto (turnAt D start) m) (R .holds) ∙ turns-at C (R .good) cs ws (R .tables .columns) (R .tables .weights) (R .old) (R .room) (R .state) (R .kept) start (R .when) (R .ranged) m (omega arith) in
@@ -114,19 +114,19 @@ module _ (p g : ℕ) (ds cs ws P s : List ℕ) (start : Bool) (R : Running (grap
   pub turn-fits : (m : ℕ) → m < length ds
       → (before ds m + getD ds m 0 ≤ length cs)
       × (before ds m + getD ds m 0 ≤ length ws)
-      × (placeAt p ds m + lengthAt p ds m ≤ length s)
-      × (getD ds m 0 * 2 ^ p ≤ 2048)
+      × (placeAt first ds m + lengthAt first ds m ≤ length s)
+      × (getD ds m 0 * sizeOf first ≤ 2048)
   turn-fits m =
-      rw (store-length, R .tables .p-is, R .tables .degrees-is) (λ h.
+      rw (store-length, R .tables .first-is, R .tables .degrees-is) (λ h.
       let k : m < length (C .checks) = omega (arith, count C cs ws (R .tables .columns) (R .tables .weights)) in (
         in-columns C cs ws (R .tables .columns) (R .tables .weights) m k,
         in-weights C cs ws (R .tables .columns) (R .tables .weights) m k,
         in-store C (R .good) cs ws (R .tables .columns) (R .tables .weights) (R .old) (R .room) (R .state) (R .kept) start (R .when) (R .ranged) m k,
-        mul-le-mul {n₁ = getD (tablesOf (C .checks) .degrees) m 0} {n₂ = 32} (rw (degree-at C cs ws (R .tables .columns) (R .tables .weights) m) (R .good .each-check m k .high)) (size-64 (C .p) (R .good .p-high)),
+        mul-le-mul {n₁ = getD (tablesOf (C .checks) .degrees) m 0} {n₂ = 32} (rw (degree-at C cs ws (R .tables .columns) (R .tables .weights) m) (R .good .each-check m k .high)) (size-64 (power C) (R .good .p-high)),
       ))
 
   -- after an iteration
-  pub pass-running : (P′ s′ : List ℕ) → lent P′ s′ ≡ passOver (graph p g ds cs ws) start (lent P s) → Running (graph p g ds cs ws) false P′ s′
+  pub pass-running : (P′ s′ : List ℕ) → lent P′ s′ ≡ passOver (graph first g ds cs ws) start (lent P s) → Running (graph first g ds cs ws) false P′ s′
   pass-running P′ s′ e =
       let k = iteration-kept C (R .good) (R .state) (R .kept) in
       record {
@@ -139,14 +139,14 @@ module _ (p g : ℕ) (ds cs ws P s : List ℕ) (start : Bool) (R : Running (grap
         kept = k .0;
         when = k .1;
         ranged = iteration-ranged C (R .good) (R .state) (R .ranged);
-        holds = e ∙ tables-pass C p g ds cs ws (R .tables) start (lent P s) ∙ ap (pass C start) (R .holds) ∙ pass-stands C (R .good) (R .old) (R .room) start (R .state) (R .kept) (R .when);
+        holds = e ∙ tables-pass C first g ds cs ws (R .tables) start (lent P s) ∙ ap (pass C start) (R .holds) ∙ pass-stands C (R .good) (R .old) (R .room) start (R .state) (R .kept) (R .when);
       }
 
   -- what the test asks
-  pub test-room : (z : List ℕ) → length z ≡ C .columns → SettledRoom p ds cs ws P z
-  test-room z e = rw (R .tables .p-is, R .tables .degrees-is, ap (λ (l : Lent). l .costs) (R .holds)) (at-code z e)
+  pub test-room : (p : ℕ) → p ≡ powerOf first → (z : List ℕ) → length z ≡ C .columns → SettledRoom p ds cs ws P z
+  test-room p o z e = rw (o, R .tables .first-is, R .tables .degrees-is, ap (λ (l : Lent). l .costs) (R .holds)) (at-code z e)
     where
-      at-code : (z : List ℕ) → length z ≡ C .columns → SettledRoom (C .p) (tablesOf (C .checks) .degrees) cs ws (R .state .costs) z
+      at-code : (z : List ℕ) → length z ≡ C .columns → SettledRoom (power C) (tablesOf (C .checks) .degrees) cs ws (R .state .costs) z
       at-code z e =
           record {
             low = R .good .p-low;
@@ -169,39 +169,39 @@ module _ (p g : ℕ) (ds cs ws P s : List ℕ) (start : Bool) (R : Running (grap
           edge-at m n h i = R .good .each-check m (some-check m h) .each-edge n (omega (arith, degree-at C cs ws (R .tables .columns) (R .tables .weights) m))
 
   -- after iteration t + 1 each check has a record
-  pub run-next : (z z′ P′ s′ : List ℕ) (t : ℕ) → length z ≡ C .columns → length z′ ≡ length z → lent P′ s′ ≡ passOver (graph p g ds cs ws) start (lent P s) → RunRoom (graph p g ds cs ws) (eqb (t + 1) 0) P′ s′ z′
+  pub run-next : (z z′ P′ s′ : List ℕ) (t : ℕ) → length z ≡ C .columns → length z′ ≡ length z → lent P′ s′ ≡ passOver (graph first g ds cs ws) start (lent P s) → RunRoom (graph first g ds cs ws) (eqb (t + 1) 0) P′ s′ z′
   unfolding pass-running
   run-next z z′ P′ s′ t e k o =
       let f : eqb (t + 1) 0 ≡ false = ne-eqb (t + 1) 0 (λ (y : t + 1 ≡ 0). omega arith) in
       rw f record { running = pass-running P′ s′ o; symbols = k ∙ e }
 
   -- a turn of the loop over the checks, at the places that it carries
-  module _ (m at place d q groups : ℕ) (h : m < length ds) (a : at ≡ before ds m) (b : place ≡ placeAt p ds m) (i : d ≡ getD ds m 0) (e : q ≡ 2 ^ p) (j : groups ≡ 5 * (q - 1)) where
-    record-end : d + groups ≡ lengthAt p ds m
-    record-end = rw (j, e, i)
+  module _ (m at place d q groups : ℕ) (h : m < length ds) (a : at ≡ before ds m) (b : place ≡ placeAt first ds m) (i : d ≡ getD ds m 0) (e : q ≡ sizeOf first) (j : groups ≡ groupLength (ruleFor first) * (sizeOf first - 1)) where
+    record-end : d + groups ≡ lengthAt first ds m
+    record-end = rw (j, i)
 
     pub turn-places : (at + d ≤ length cs) × ((at + d ≤ length ws) × ((place + (d + groups) ≤ length s) × (d * q ≤ 2048)))
     turn-places =
         let t = turn-fits m h in
         (rw (a, i) (t .0), (rw (a, i) (t .1), (rw (b, record-end) (t .2), rw (i, e) (t .3))))
 
-    pub next-place : place + (d + groups) ≡ placeAt p ds (m + 1)
+    pub next-place : place + (d + groups) ≡ placeAt first ds (m + 1)
     unfolding placeAt
     next-place = rw (add-one m, b, record-end)
 
-    module _ (P′ s′ : List ℕ) (l : lent P′ s′ ≡ upto (turnAt (graph p g ds cs ws) start) m (lent P s)) where
+    module _ (P′ s′ : List ℕ) (l : lent P′ s′ ≡ upto (turnAt (graph first g ds cs ws) start) m (lent P s)) where
       pub turn-asks : (Q S : List ℕ) → length Q ≡ d * q → length S ≡ d * q
-          → UpdateRoom p g start (part cs at (at + d - at)) (part ws at (at + d - at)) P′ (part s′ place (place + (d + groups) - place)) Q S
+          → UpdateRoom first g start (part cs at (at + d - at)) (part ws at (at + d - at)) P′ (part s′ place (place + (d + groups) - place)) Q S
       turn-asks Q S x y =
           let u : at + d - at ≡ d = add-sub-cancel-left at d in
           let v : place + (d + groups) - place ≡ d + groups = add-sub-cancel-left place (d + groups) in
-          let w : d * q ≡ getD ds m 0 * 2 ^ p = ap₂ (λ a b. a * b) i e in
+          let w : d * q ≡ getD ds m 0 * sizeOf first = ap₂ (λ a b. a * b) i e in
           rw (u, v, record-end, a, b, i) (turn-room m h (lent P′ s′) l Q S (x ∙ w) (y ∙ w))
 
       pub turn-done : (P″ r : List ℕ)
-          → P″ ≡ costsNow p g start (part cs at (at + d - at)) (part ws at (at + d - at)) (part s′ place (place + (d + groups) - place)) P′
-          → r ≡ recordNow p g start (part cs at (at + d - at)) (part ws at (at + d - at)) (part s′ place (place + (d + groups) - place)) P′
-          → lent P″ (patch s′ place (place + (d + groups) - place) r) ≡ upto (turnAt (graph p g ds cs ws) start) (m + 1) (lent P s)
+          → P″ ≡ costsNow first g start (part cs at (at + d - at)) (part ws at (at + d - at)) (part s′ place (place + (d + groups) - place)) P′
+          → r ≡ recordNow first g start (part cs at (at + d - at)) (part ws at (at + d - at)) (part s′ place (place + (d + groups) - place)) P′
+          → lent P″ (patch s′ place (place + (d + groups) - place) r) ≡ upto (turnAt (graph first g ds cs ws) start) (m + 1) (lent P s)
       unfolding turnAt
       turn-done P″ r x y =
           let u : at + d - at ≡ d = add-sub-cancel-left at d in

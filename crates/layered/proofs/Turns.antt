@@ -3,7 +3,7 @@
 use mathlib.Core.Path.{_≡_, refl, sym, ap, ap₂, _∙_}
 use mathlib.Core.Bool.{Bool, true, false}
 use mathlib.Core.List.{List, _++_, map, append-assoc, append-nil}
-use Prim.Native.Nat.{ℕ, zero, suc, _+_, _*_, _^_, _≤_, _<_}
+use Prim.Native.Nat.{ℕ, zero, suc, _+_, _*_, _≤_, _<_}
 use native.Mathlib.Nat.{mul-zero, mul-comm, not-suc-le-zero, suc-mul}
 use native.Mathlib.Decide.{ℕ-discrete}
 use native.Mathlib.Omega.{arith}
@@ -15,7 +15,7 @@ use borrow.Author.Tests.{eq-eqb, ne-eqb, le-ltb}
 use Rattle.trellis.specs.Lists.{upTo, each, upto, allTo, tab, part, patch, blocks}
 use Rattle.trellis.specs.Check.{Column, column, blank, allSent}
 use Rattle.trellis.specs.Record.{recordOf, recordLength, recordOk, expandAt, expansion}
-use Rattle.trellis.specs.Rules.{ruleFor, columnsOf, costsAt}
+use Rattle.trellis.specs.Rules.{powerOf, sizeOf, ruleFor, columnsOf, costsAt}
 use Rattle.trellis.specs.Ready.{Ready}
 use Rattle.trellis.proofs.Tests.{to-true, all-of}
 use Rattle.trellis.proofs.Lists.{of-upTo}
@@ -65,53 +65,53 @@ gathered-at : (P cs old : List ℕ) (g q : ℕ) (d : List ℕ) (n k : ℕ) → 0
 unfolding gatheredCosts
 gathered-at P cs old g q d n k some h = block-at (oneColumn P cs old g q) q (λ m. length-incoming q some _ _) k _ n h
 
-module _ (p : ℕ) (cs ws : List ℕ) (same : length cs ≡ length ws) where
+module _ (first : ℕ) (cs ws : List ℕ) (same : length cs ≡ length ws) where
   -- what gather leaves is the update's columns
   gathered-arriving : (P old d : List ℕ) (g : ℕ)
-      → columnsOf (2 ^ p) ws (gatheredCosts P cs old g (2 ^ p) (length cs) d) ≡ arriving p (edgesOf cs ws) (λ n. map (scaled g) (part old (n * 2 ^ p) (2 ^ p))) P
+      → columnsOf (sizeOf first) ws (gatheredCosts P cs old g (sizeOf first) (length cs) d) ≡ arriving (sizeOf first) (edgesOf cs ws) (λ n. map (scaled g) (part old (n * sizeOf first) (sizeOf first))) P
   unfolding arriving
   gathered-arriving P old d g =
-      columns-map (2 ^ p) ws (gatheredCosts P cs old g (2 ^ p) (length cs) d)
+      columns-map (sizeOf first) ws (gatheredCosts P cs old g (sizeOf first) (length cs) d)
       ∙ rw (length-edges cs ws same, same)
       (map-ext {l = upTo (length ws)} (λ n i.
       ap₂ (λ h (c : List ℕ). record { weight = h; costs = c }) (sym (weight-edge cs ws same n))
-      (gathered-at P cs old g (2 ^ p) d n (length ws) (pow-pos p) (of-upTo i)
-      ∙ ap (λ c. incoming (2 ^ p) (columnOf (2 ^ p) P c) (map (scaled g) (part old (n * 2 ^ p) (2 ^ p)))) (sym (column-edge cs ws same n)))))
+      (gathered-at P cs old g (sizeOf first) d n (length ws) (pow-pos (powerOf first)) (of-upTo i)
+      ∙ ap (λ c. incoming (sizeOf first) (columnOf (sizeOf first) P c) (map (scaled g) (part old (n * sizeOf first) (sizeOf first)))) (sym (column-edge cs ws same n)))))
 
   -- what scatter leaves is P after the update
   scattered-spread : (P Q new : List ℕ) (g : ℕ)
-      → scattered Q new cs g (2 ^ p) (length cs) P ≡ spread p (edgesOf cs ws) (columnsOf (2 ^ p) ws Q) (λ n. map (scaled g) (part new (n * 2 ^ p) (2 ^ p))) P
+      → scattered Q new cs g (sizeOf first) (length cs) P ≡ spread (sizeOf first) (edgesOf cs ws) (columnsOf (sizeOf first) ws Q) (λ n. map (scaled g) (part new (n * sizeOf first) (sizeOf first))) P
   unfolding scattered spread
   scattered-spread P Q new g = rw (length-edges cs ws same) (go (length cs) (omega arith))
     where
       go : (k : ℕ) → k ≤ length cs
-          → upto (λ k (P : List ℕ). patch P (getD cs k 0 * 2 ^ p) (2 ^ p) (outgoing (2 ^ p) (part Q (k * 2 ^ p) (2 ^ p)) (map (scaled g) (part new (k * 2 ^ p) (2 ^ p))))) k P
-          ≡ upto (λ n (P : List ℕ). patch P (edgeAt (edgesOf cs ws) n .column * 2 ^ p) (2 ^ p) (outgoing (2 ^ p) (column (columnsOf (2 ^ p) ws Q) n .costs) (map (scaled g) (part new (n * 2 ^ p) (2 ^ p))))) k P
+          → upto (λ k (P : List ℕ). patch P (getD cs k 0 * sizeOf first) (sizeOf first) (outgoing (sizeOf first) (part Q (k * sizeOf first) (sizeOf first)) (map (scaled g) (part new (k * sizeOf first) (sizeOf first))))) k P
+          ≡ upto (λ n (P : List ℕ). patch P (edgeAt (edgesOf cs ws) n .column * sizeOf first) (sizeOf first) (outgoing (sizeOf first) (column (columnsOf (sizeOf first) ws Q) n .costs) (map (scaled g) (part new (n * sizeOf first) (sizeOf first))))) k P
       go zero h = refl
-      go (suc k) h = rw (column-edge cs ws same k, column-at (2 ^ p) ws Q k (omega arith), go k (omega arith))
+      go (suc k) h = rw (column-edge cs ws same k, column-at (sizeOf first) ws Q k (omega arith), go k (omega arith))
 
 -- what an expansion has for column n, scaled
-heard-expansion : (p g : ℕ) (ws r : List ℕ) (n : ℕ) → n < length ws → map (scaled g) (part (expansion (ruleFor p) ws r) (n * 2 ^ p) (2 ^ p)) ≡ heard p g false ws r n
+heard-expansion : (first g : ℕ) (ws r : List ℕ) (n : ℕ) → n < length ws → map (scaled g) (part (expansion (ruleFor first) ws r) (n * sizeOf first) (sizeOf first)) ≡ heard (ruleFor first) g false ws r n
 unfolding heard expansion
-heard-expansion p g ws r n h =
-    let f : ℕ → List ℕ = λ n. map (expandAt (ruleFor p) ws r n) (upTo (2 ^ p)) in
-    let e : part (each f (upTo (length ws))) (n * 2 ^ p) (2 ^ p) ≡ f n =
-    ap (λ a. part (each f (upTo (length ws))) a (2 ^ p)) (mul-comm n (2 ^ p))
-    ∙ slice-each f (2 ^ p) 0 (length ws) n (λ m i j. length-map (upTo (2 ^ p)) (expandAt (ruleFor p) ws r m) ∙ length-count 0 (2 ^ p)) h
+heard-expansion first g ws r n h =
+    let f : ℕ → List ℕ = λ n. map (expandAt (ruleFor first) ws r n) (upTo (sizeOf first)) in
+    let e : part (each f (upTo (length ws))) (n * sizeOf first) (sizeOf first) ≡ f n =
+    ap (λ a. part (each f (upTo (length ws))) a (sizeOf first)) (mul-comm n (sizeOf first))
+    ∙ slice-each f (sizeOf first) 0 (length ws) n (λ m i j. length-map (upTo (sizeOf first)) (expandAt (ruleFor first) ws r m) ∙ length-count 0 (sizeOf first)) h
     ∙ ap f (omega arith) in
-    rw e (map-after (scaled g) (expandAt (ruleFor p) ws r n) (upTo (2 ^ p)))
+    rw e (map-after (scaled g) (expandAt (ruleFor first) ws r n) (upTo (sizeOf first)))
 
 -- and zeros
-heard-zeros : (p g : ℕ) (ws r : List ℕ) (n : ℕ) → n < length ws → map (scaled g) (part (tab (λ x. 0) (length ws * 2 ^ p)) (n * 2 ^ p) (2 ^ p)) ≡ heard p g true ws r n
+heard-zeros : (first g : ℕ) (ws r : List ℕ) (n : ℕ) → n < length ws → map (scaled g) (part (tab (λ x. 0) (length ws * sizeOf first)) (n * sizeOf first) (sizeOf first)) ≡ heard (ruleFor first) g true ws r n
 unfolding heard
-heard-zeros p g ws r n h =
+heard-zeros first g ws r n h =
     ext-getD 0 (map (scaled g) (part z (n * q) q)) (map (λ x. 0) (upTo q)) (a ∙ sym (length-map (upTo q) (λ x. 0) ∙ length-count 0 q)) (λ x i.
     let j : x < q = omega (arith, a) in
     let y : getD (part z (n * q) q) x 0 ≡ 0 = rw (getD-take, getD-drop) (getD-tab (λ x. 0) (length ws * q) (n * q + x) (omega (arith, column-room n (length ws) q h))) in
     scaled-at g (part z (n * q) q) x ∙ rw (y, mul-zero g) (sym (at-upTo (λ x. 0) q x 0 j)))
   where
     q : ℕ
-    q = 2 ^ p
+    q = sizeOf first
 
     z : List ℕ
     z = tab (λ x. 0) (length ws * q)
@@ -122,94 +122,92 @@ heard-zeros p g ws r n h =
     a : length (map (scaled g) (part z (n * q) q)) ≡ q
     a = length-map (part z (n * q) q) (scaled g) ∙ length-part z (n * q) q room
 
-pub heard-old : (p g : ℕ) (start : Bool) (ws r : List ℕ) (n : ℕ) → n < length ws → map (scaled g) (part (oldCosts p start ws r) (n * 2 ^ p) (2 ^ p)) ≡ heard p g start ws r n
+pub heard-old : (first g : ℕ) (start : Bool) (ws r : List ℕ) (n : ℕ) → n < length ws → map (scaled g) (part (oldCosts first start ws r) (n * sizeOf first) (sizeOf first)) ≡ heard (ruleFor first) g start ws r n
 unfolding oldCosts
-heard-old p g true ws r n h = heard-zeros p g ws r n h
-heard-old p g false ws r n h = heard-expansion p g ws r n h
+heard-old first g true ws r n h = heard-zeros first g ws r n h
+heard-old first g false ws r n h = heard-expansion first g ws r n h
 
 -- check and expand accept: none of 6, 9, 11
-weights-pass : (p : ℕ) (ws : List ℕ) → Weighed p ws → weightsOk (2 ^ p) ws ≡ true
+weights-pass : (first : ℕ) (ws : List ℕ) → Weighed first ws → weightsOk (sizeOf first) ws ≡ true
 unfolding weightOk
-weights-pass p ws W = to-true (all-of _ (length ws) (λ n h. rw (ne-eqb (getD ws n 0) 0 (W .some n h)) (lt→ltb _ _ (W .small n h))))
+weights-pass first ws W = to-true (all-of _ (length ws) (λ n h. rw (ne-eqb (getD ws n 0) 0 (W .some n h)) (lt→ltb _ _ (W .small n h))))
 
 -- nor 16 nor 2
-pub expand-accepts : (p : ℕ) (ws r out : List ℕ) → Weighed p ws → recordOk (ruleFor p) (length ws) r ≡ true → length out ≡ length ws * 2 ^ p → expandLeaves p ws r out ≡ expansion (ruleFor p) ws r
+pub expand-accepts : (first : ℕ) (ws r out : List ℕ) → Weighed first ws → recordOk (ruleFor first) (length ws) r ≡ true → length out ≡ length ws * sizeOf first → expandLeaves first ws r out ≡ expansion (ruleFor first) ws r
 unfolding expandLeaves
-expand-accepts p ws r out W f e =
-    rw (le-ltb p 2 (W .low), le-ltb 6 p (W .high), le-ltb (length ws) 2 (W .two), le-ltb 32 (length ws) (W .few), weights-pass p ws W, f, ← e, le-ltb (length out) (length out) (omega arith), drop-length out)
-    (append-nil (expansion (ruleFor p) ws r))
+expand-accepts first ws r out W f e =
+    rw (W .accepted, le-ltb (length ws) 2 (W .two), le-ltb 32 (length ws) (W .few), weights-pass first ws W, f, ← e, le-ltb (length out) (length out) (omega arith), drop-length out)
+    (append-nil (expansion (ruleFor first) ws r))
 
 -- what the old record sent
-pub recall-first : (p : ℕ) (start : Bool) (ws r out new : List ℕ) → RecallRoom p start ws r out → start ≡ true → new ≡ tab (λ x. 0) (length out) → new ≡ oldCosts p start ws r
+pub recall-first : (first : ℕ) (start : Bool) (ws r out new : List ℕ) → RecallRoom first start ws r out → start ≡ true → new ≡ tab (λ x. 0) (length out) → new ≡ oldCosts first start ws r
 unfolding oldCosts
-recall-first p start ws r out new R f e = e ∙ rw (f, R .full)
+recall-first first start ws r out new R f e = e ∙ rw (f, R .full)
 
-pub recall-later : (p : ℕ) (start : Bool) (ws r out new : List ℕ) → RecallRoom p start ws r out → start ≡ false → new ≡ expandLeaves p ws r out → new ≡ oldCosts p start ws r
+pub recall-later : (first : ℕ) (start : Bool) (ws r out new : List ℕ) → RecallRoom first start ws r out → start ≡ false → new ≡ expandLeaves first ws r out → new ≡ oldCosts first start ws r
 unfolding oldCosts
-recall-later p start ws r out new R f e = e ∙ expand-accepts p ws r out (R .weighed) (R .form f) (R .full) ∙ rw f
+recall-later first start ws r out new R f e = e ∙ expand-accepts first ws r out (R .weighed) (R .form f) (R .full) ∙ rw f
 
-module _ (p : ℕ) (ws Q : List ℕ) (D : Ready p ws Q) where
-  pub ready-weighed : Weighed p ws
-  ready-weighed = record { low = D .low; high = D .high; two = D .two; few = D .few; some = D .weight-some; small = D .weight-small }
+module _ (first : ℕ) (ws Q : List ℕ) (D : Ready first ws Q) where
+  pub ready-weighed : Weighed first ws
+  ready-weighed = record { accepted = D .first; two = D .two; few = D .few; some = D .weight-some; small = D .weight-small }
 
   -- nor 12, 13, 4 or 2
-  messages-pass : (r out : List ℕ) → length r ≡ recordLength (ruleFor p) (length ws) → length out ≡ length ws * 2 ^ p
-      → {A : Type 0} (bad : ℕ → A) (good : A) → messagesCases p ws Q (length r) (length out) bad good ≡ good
+  messages-pass : (r out : List ℕ) → length r ≡ recordLength (ruleFor first) (length ws) → length out ≡ length ws * sizeOf first
+      → {A : Type 0} (bad : ℕ → A) (good : A) → messagesCases first ws Q (length r) (length out) bad good ≡ good
   unfolding zeroOk
   messages-pass r out e f bad good =
-      let z : allTo (zeroOk (2 ^ p) Q) (length ws) ≡ true = to-true (all-of _ (length ws) (λ n h. lt→ltb _ _ (D .zeros n h))) in
+      let z : allTo (zeroOk (sizeOf first) Q) (length ws) ≡ true = to-true (all-of _ (length ws) (λ n h. lt→ltb _ _ (D .zeros n h))) in
       rw (
-        le-ltb p 2 (D .low),
-        le-ltb 6 p (D .high),
+        D .first,
         le-ltb (length ws) 2 (D .two),
         le-ltb 32 (length ws) (D .few),
-        weights-pass p ws ready-weighed,
-        eq-eqb (length Q) (length ws * 2 ^ p) (D .count),
+        weights-pass first ws ready-weighed,
+        eq-eqb (length Q) (length ws * sizeOf first) (D .count),
         z,
-        le-ltb (length r) (recordLength (ruleFor p) (length ws)) (omega arith),
-        le-ltb (length out) (length ws * 2 ^ p) (omega arith),
+        le-ltb (length r) (recordLength (ruleFor first) (length ws)) (omega arith),
+        le-ltb (length out) (length ws * sizeOf first) (omega arith),
       )
 
   -- the record and the sent costs fill their buffers
-  pub sent-is : (r out new last : List ℕ) → length r ≡ recordLength (ruleFor p) (length ws) → length out ≡ length ws * 2 ^ p → new ≡ messagesLeaves p ws Q r out → last ≡ messagesSent p ws Q r out
-      → (new ≡ recordOf (ruleFor p) (columnsOf (2 ^ p) ws Q)) × (last ≡ allSent (ruleFor p) (columnsOf (2 ^ p) ws Q))
+  pub sent-is : (r out new last : List ℕ) → length r ≡ recordLength (ruleFor first) (length ws) → length out ≡ length ws * sizeOf first → new ≡ messagesLeaves first ws Q r out → last ≡ messagesSent first ws Q r out
+      → (new ≡ recordOf (ruleFor first) (columnsOf (sizeOf first) ws Q)) × (last ≡ allSent (ruleFor first) (columnsOf (sizeOf first) ws Q))
   unfolding messagesLeaves messagesSent
   sent-is r out new last e f n o = (
-    n ∙ messages-pass r out e f (λ k. r) _ ∙ rw (← e, drop-length r) (append-nil (recordOf (ruleFor p) (columnsOf (2 ^ p) ws Q))),
-    o ∙ messages-pass r out e f (λ k. out) _ ∙ rw (← f, drop-length out) (append-nil (allSent (ruleFor p) (columnsOf (2 ^ p) ws Q))),
+    n ∙ messages-pass r out e f (λ k. r) _ ∙ rw (← e, drop-length r) (append-nil (recordOf (ruleFor first) (columnsOf (sizeOf first) ws Q))),
+    o ∙ messages-pass r out e f (λ k. out) _ ∙ rw (← f, drop-length out) (append-nil (allSent (ruleFor first) (columnsOf (sizeOf first) ws Q))),
   )
 
-module _ (p g : ℕ) (start : Bool) (cs ws P r Q S : List ℕ) (U : UpdateRoom p g start cs ws P r Q S) where
+module _ (first g : ℕ) (start : Bool) (cs ws P r Q S : List ℕ) (U : UpdateRoom first g start cs ws P r Q S) where
   abbrev pub arrived : List ℕ
-  arrived = gatheredCosts P cs (oldCosts p start ws r) g (2 ^ p) (length cs) Q
+  arrived = gatheredCosts P cs (oldCosts first start ws r) g (sizeOf first) (length cs) Q
 
-  pub arrived-columns : columnsOf (2 ^ p) ws arrived ≡ columnsNow p g start cs ws r P
+  pub arrived-columns : columnsOf (sizeOf first) ws arrived ≡ columnsNow first g start cs ws r P
   arrived-columns =
       let e : length (edgesOf cs ws) ≡ length cs = length-edges cs ws (U .same) in
-      gathered-arriving p cs ws (U .same) P (oldCosts p start ws r) Q g
-      ∙ arriving-ext p (edgesOf cs ws) _ _ P (λ n h. heard-old p g start ws r n (omega (arith, U .same)) ∙ ap (λ w. heard p g start w r n) (sym (weights-edges cs ws (U .same))))
+      gathered-arriving first cs ws (U .same) P (oldCosts first start ws r) Q g
+      ∙ arriving-ext (sizeOf first) (edgesOf cs ws) _ _ P (λ n h. heard-old first g start ws r n (omega (arith, U .same)) ∙ ap (λ w. heard (ruleFor first) g start w r n) (sym (weights-edges cs ws (U .same))))
 
-  pub arrived-ready : Ready p ws arrived
+  pub arrived-ready : Ready first ws arrived
   arrived-ready =
       let W = U .recall .weighed in
       record {
-        low = W .low;
-        high = W .high;
+        first = W .accepted;
         two = W .two;
         few = W .few;
         weight-some = W .some;
         weight-small = W .small;
-        count = length-gathered P cs (oldCosts p start ws r) g (2 ^ p) Q (length cs) (pow-pos p) (rw (U .same, U .for-costs) (omega arith)) ∙ U .for-costs;
+        count = length-gathered P cs (oldCosts first start ws r) g (sizeOf first) Q (length cs) (pow-pos (powerOf first)) (rw (U .same, U .for-costs) (omega arith)) ∙ U .for-costs;
         zeros = λ n h.
             let k : n < length cs = omega (arith, U .same) in
-            let e : costsAt (2 ^ p) arrived n ≡ oneColumn P cs (oldCosts p start ws r) g (2 ^ p) n = gathered-at P cs (oldCosts p start ws r) g (2 ^ p) Q n (length cs) (pow-pos p) k in
-            let l = length-incoming (2 ^ p) (pow-pos p) (columnOf (2 ^ p) P (getD cs n 0)) (map (scaled g) (part (oldCosts p start ws r) (n * 2 ^ p) (2 ^ p))) in
-            let z = zero-incoming (2 ^ p) (pow-pos p) (columnOf (2 ^ p) P (getD cs n 0)) (map (scaled g) (part (oldCosts p start ws r) (n * 2 ^ p) (2 ^ p))) in
+            let e : costsAt (sizeOf first) arrived n ≡ oneColumn P cs (oldCosts first start ws r) g (sizeOf first) n = gathered-at P cs (oldCosts first start ws r) g (sizeOf first) Q n (length cs) (pow-pos (powerOf first)) k in
+            let l = length-incoming (sizeOf first) (pow-pos (powerOf first)) (columnOf (sizeOf first) P (getD cs n 0)) (map (scaled g) (part (oldCosts first start ws r) (n * sizeOf first) (sizeOf first))) in
+            let z = zero-incoming (sizeOf first) (pow-pos (powerOf first)) (columnOf (sizeOf first) P (getD cs n 0)) (map (scaled g) (part (oldCosts first start ws r) (n * sizeOf first) (sizeOf first))) in
             rw e (omega (arith, first-zero z .0));
       }
 
   -- what each call of an update asks
-  pub gather-fits : (q : ℕ) (old : List ℕ) → q ≡ 2 ^ p → length old ≡ length S → GatherRoom P cs old g q Q
+  pub gather-fits : (q : ℕ) (old : List ℕ) → q ≡ sizeOf first → length old ≡ length S → GatherRoom P cs old g q Q
   gather-fits q old e l =
       rw e
       record {
@@ -218,33 +216,33 @@ module _ (p g : ℕ) (start : Bool) (cs ws P r Q S : List ℕ) (U : UpdateRoom p
         for-out = rw (U .same, U .for-costs) (omega arith);
         small = U .small;
         scale = U .scale;
-        some = pow-pos p;
+        some = pow-pos (powerOf first);
       }
 
-  pub send-fits : (q : ℕ) (old new out : List ℕ) → q ≡ 2 ^ p → old ≡ oldCosts p start ws r → new ≡ gatheredCosts P cs old g q (length cs) Q → length out ≡ length S → SendRoom p ws new r out
+  pub send-fits : (q : ℕ) (old new out : List ℕ) → q ≡ sizeOf first → old ≡ oldCosts first start ws r → new ≡ gatheredCosts P cs old g q (length cs) Q → length out ≡ length S → SendRoom first ws new r out
   send-fits q old new out e o n l = rw (n, o, e) record { ready = arrived-ready; for-record = U .for-record; full = l ∙ U .recall .full }
 
-  pub scatter-fits : (q : ℕ) (now new : List ℕ) → q ≡ 2 ^ p → length now ≡ length Q → length new ≡ length S → ScatterRoom now new cs g q P
+  pub scatter-fits : (q : ℕ) (now new : List ℕ) → q ≡ sizeOf first → length now ≡ length Q → length new ≡ length S → ScatterRoom now new cs g q P
   scatter-fits q now new e k l =
-      rw e record { columns = U .columns; for-q = rw (U .same, k, U .for-costs) (omega arith); for-new = rw (U .same, l, U .recall .full) (omega arith); scale = U .scale; some = pow-pos p }
+      rw e record { columns = U .columns; for-q = rw (U .same, k, U .for-costs) (omega arith); for-new = rw (U .same, l, U .recall .full) (omega arith); scale = U .scale; some = pow-pos (powerOf first) }
 
   -- and what they leave
-  costs-is : scattered arrived (expansion (ruleFor p) ws (recordOf (ruleFor p) (columnsOf (2 ^ p) ws arrived))) cs g (2 ^ p) (length cs) P ≡ costsNow p g start cs ws r P
+  costs-is : scattered arrived (expansion (ruleFor first) ws (recordOf (ruleFor first) (columnsOf (sizeOf first) ws arrived))) cs g (sizeOf first) (length cs) P ≡ costsNow first g start cs ws r P
   unfolding costsNow
   costs-is =
       let k : length (edgesOf cs ws) ≡ length cs = length-edges cs ws (U .same) in
-      let new : List ℕ = recordOf (ruleFor p) (columnsOf (2 ^ p) ws arrived) in
-      scattered-spread p cs ws (U .same) P arrived (expansion (ruleFor p) ws new) g
-      ∙ spread-ext p (edgesOf cs ws) (columnsOf (2 ^ p) ws arrived) _ (heard p g false (weightsOf (edgesOf cs ws)) new) P (λ n h.
-      heard-expansion p g ws new n (omega (arith, U .same)) ∙ ap (λ w. heard p g false w new n) (sym (weights-edges cs ws (U .same))))
-      ∙ ap (λ c. spread p (edgesOf cs ws) c (heard p g false (weightsOf (edgesOf cs ws)) (recordOf (ruleFor p) c)) P) arrived-columns
+      let new : List ℕ = recordOf (ruleFor first) (columnsOf (sizeOf first) ws arrived) in
+      scattered-spread first cs ws (U .same) P arrived (expansion (ruleFor first) ws new) g
+      ∙ spread-ext (sizeOf first) (edgesOf cs ws) (columnsOf (sizeOf first) ws arrived) _ (heard (ruleFor first) g false (weightsOf (edgesOf cs ws)) new) P (λ n h.
+      heard-expansion first g ws new n (omega (arith, U .same)) ∙ ap (λ w. heard (ruleFor first) g false w new n) (sym (weights-edges cs ws (U .same))))
+      ∙ ap (λ c. spread (sizeOf first) (edgesOf cs ws) c (heard (ruleFor first) g false (weightsOf (edgesOf cs ws)) (recordOf (ruleFor first) c)) P) arrived-columns
 
-  pub update-is : (q : ℕ) (old now bytes new last : List ℕ) → q ≡ 2 ^ p → old ≡ oldCosts p start ws r → now ≡ gatheredCosts P cs old g q (length cs) Q
-      → bytes ≡ recordOf (ruleFor p) (columnsOf (2 ^ p) ws now)
-      → new ≡ allSent (ruleFor p) (columnsOf (2 ^ p) ws now)
+  pub update-is : (q : ℕ) (old now bytes new last : List ℕ) → q ≡ sizeOf first → old ≡ oldCosts first start ws r → now ≡ gatheredCosts P cs old g q (length cs) Q
+      → bytes ≡ recordOf (ruleFor first) (columnsOf (sizeOf first) ws now)
+      → new ≡ allSent (ruleFor first) (columnsOf (sizeOf first) ws now)
       → last ≡ scattered now new cs g q (length cs) P
-      → (last ≡ costsNow p g start cs ws r P) × (bytes ≡ recordNow p g start cs ws r P)
+      → (last ≡ costsNow first g start cs ws r P) × (bytes ≡ recordNow first g start cs ws r P)
   unfolding recordNow
   update-is q old now bytes new last e o n b s l =
       let i : now ≡ arrived = n ∙ rw (o, e) in
-      (l ∙ rw (s, i, e, ← ready-messages p ws arrived arrived-ready) costs-is, b ∙ rw i (ap (recordOf (ruleFor p)) arrived-columns))
+      (l ∙ rw (s, i, e, ← ready-messages first ws arrived arrived-ready) costs-is, b ∙ rw i (ap (recordOf (ruleFor first)) arrived-columns))

@@ -1,7 +1,7 @@
 -- The refusals of a frame and of the buffers by numbers, 0 for none, and a decoding under a code that is read. proofs/Decoded.antt shows that these are decoding's.
 use mathlib.Core.Path.{_≡_}
 use mathlib.Core.List.{List}
-use Prim.Native.Nat.{ℕ, _*_, _^_, _≤_}
+use Prim.Native.Nat.{ℕ, _*_, _≤_}
 use lib.Dec.{eqb, ltb}
 use lib.ListN.{length}
 use Rattle.trellis.specs.Lists.{pick, allTo}

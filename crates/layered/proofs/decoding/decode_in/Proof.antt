@@ -15,8 +15,8 @@ code-tables-requires c κs = search needs
 enum-known-k : tie.Need-enum-known-k
 enum-known-k c = search needs
 
-enum-known-p : tie.Need-enum-known-p
-enum-known-p c = search needs
+enum-known-first : tie.Need-enum-known-first
+enum-known-first c = search needs
 
 long-requires : tie.Need-long-requires
 long-requires c κs = search needs
@@ -33,7 +33,7 @@ under-code-requires c κs =
     let v = w .before .before .before .before in
     let t = v .before .before in
     let a = t .before .before .before .before .before .before .before .before .before .args in
-    coded-room (a .code .now) (t .code-tables .result) (t .code-tables .ensures .0) (v .p .given .0 .0) (v .p .given .0 .1 .0) (v .p .given .0 .1 .1 .0) (v .p .given .0 .1 .1 .1 .0) (v .p .given .0 .1 .1 .1 .1 .0) (v .p .given .1) (w .before .before .long .result) (w .before .index .result) (w .wide .result) (w .before .before .long .ensures .0) (w .before .index .ensures .0) (w .wide .ensures .0) (t .code-tables .last .1 .0) (t .code-tables .last .1 .1 .0) (t .code-tables .last .1 .1 .1 .0) (tables-left (a .code .now) _ _ _ (t .code-tables .ensures .1 .0) (t .code-tables .ensures .1 .1 .0) (t .code-tables .ensures .1 .1 .1)) (a .arrived .now) (a .sent .now) (omega arith) (omega arith)
+    coded-room (a .code .now) (t .code-tables .result) (t .code-tables .ensures .0) (v .first .given .0 .0) (v .first .given .0 .1 .0) (v .first .given .0 .1 .1 .0) (v .first .given .0 .1 .1 .1 .0) (v .first .given .0 .1 .1 .1 .1 .0) (v .first .given .1) (w .before .before .long .result) (w .before .index .result) (w .wide .result) (w .before .before .long .ensures .0) (w .before .index .ensures .0) (w .wide .ensures .0) (t .code-tables .last .1 .0) (t .code-tables .last .1 .1 .0) (t .code-tables .last .1 .1 .1 .0) (tables-left (a .code .now) _ _ _ (t .code-tables .ensures .1 .0) (t .code-tables .ensures .1 .1 .0) (t .code-tables .ensures .1 .1 .1)) (a .arrived .now) (a .sent .now) (omega arith) (omega arith)
 
 returns : tie.Need-returns
 returns c =
@@ -57,8 +57,8 @@ returns-2 c =
     let v = w .before .before .before .before in
     let t = v .before .before in
     let a = t .before .before .before .before .before .before .before .before .before .args in
-    let e = rw (v .p .given .1) at (t .code-tables .ensures .0) in
-    (coded-decodes (a .code .now) (t .code-tables .result) (t .code-tables .ensures .0) (v .p .given .0 .0) (v .p .given .0 .1 .0) (v .p .given .0 .1 .1 .0) (v .p .given .0 .1 .1 .1 .0) (v .p .given .0 .1 .1 .1 .1 .0) (v .p .given .1) (w .before .before .long .result) (w .before .index .result) (w .wide .result) (w .before .before .long .ensures .0) (w .before .index .ensures .0) (w .wide .ensures .0) (t .code-tables .last .1 .0) (t .code-tables .last .1 .1 .0) (t .code-tables .last .1 .1 .1 .0) (tables-left (a .code .now) _ _ _ (t .code-tables .ensures .1 .0) (t .code-tables .ensures .1 .1 .0) (t .code-tables .ensures .1 .1 .1)) (a .frame .now) (a .symbols .now) (a .costs .now) (a .store .now) _ _ _ _ (u .under-code .ensures), (w .before .before .long .ensures .0 ∙ ap columnsRead e, rw (w .before .before .long .ensures .0) (columns-small (a .code .now) _ e)))
+    let e = rw (v .first .given .1) at (t .code-tables .ensures .0) in
+    (coded-decodes (a .code .now) (t .code-tables .result) (t .code-tables .ensures .0) (v .first .given .0 .0) (v .first .given .0 .1 .0) (v .first .given .0 .1 .1 .0) (v .first .given .0 .1 .1 .1 .0) (v .first .given .0 .1 .1 .1 .1 .0) (v .first .given .1) (w .before .before .long .result) (w .before .index .result) (w .wide .result) (w .before .before .long .ensures .0) (w .before .index .ensures .0) (w .wide .ensures .0) (t .code-tables .last .1 .0) (t .code-tables .last .1 .1 .0) (t .code-tables .last .1 .1 .1 .0) (tables-left (a .code .now) _ _ _ (t .code-tables .ensures .1 .0) (t .code-tables .ensures .1 .1 .0) (t .code-tables .ensures .1 .1 .1)) (a .frame .now) (a .symbols .now) (a .costs .now) (a .store .now) _ _ _ _ (u .under-code .ensures), (w .before .before .long .ensures .0 ∙ ap columnsRead e, rw (w .before .before .long .ensures .0) (columns-small (a .code .now) _ e)))
 
 pub decode-in-spec : {M : Type 1} → statement M
 decode-in-spec =
@@ -66,7 +66,7 @@ decode-in-spec =
     (tie.spec
     code-tables-requires
     enum-known-k
-    enum-known-p
+    enum-known-first
     long-requires
     index-requires
     wide-requires

@@ -14,13 +14,13 @@ slice-aggregate-fault : tie.Need-slice-aggregate-fault
 slice-aggregate-fault c =
     let s = c .before .before .before .before .before .before .before .before .before .before in
     let a = s .args in
-    degree-slice (s .pre .code) (a .p) (a .n) (a .m) (a .g) (a .limit) (a .degrees .now) (a .columns .now) (a .weights .now) (s .pre .coded)
+    degree-slice (s .pre .code) (a .first) (a .n) (a .m) (a .g) (a .limit) (a .degrees .now) (a .columns .now) (a .weights .now) (s .pre .coded)
 
 fault-requires : tie.Need-fault-requires
 fault-requires c κs =
     let s = c .before .before .before .before .before .before .before .before .before .before .before .before .before in
     let a = s .args in
-    few (s .pre .code) (a .p) (a .n) (a .m) (a .g) (a .limit) (a .degrees .now) (a .columns .now) (a .weights .now) (s .pre .coded)
+    few (s .pre .code) (a .first) (a .n) (a .m) (a .g) (a .limit) (a .degrees .now) (a .columns .now) (a .weights .now) (s .pre .coded)
 
 same-length : tie.Need-same-length
 same-length c = search needs
@@ -36,7 +36,7 @@ returns c =
     let k = c .before in
     let s = k .before .before .before .before .before .before .before .before .before .before .before .before .before .before in
     let a = s .args in
-    λ (C : Code) H. refused-leaves C (a .p) (a .n) (a .m) (a .g) (a .limit) (a .degrees .now) (a .columns .now) (a .weights .now) H (a .frame .now) (a .symbols .now) (a .costs .now) (a .store .now) (k .fault .result) (k .fault .ensures) (c .if1 .taken)
+    λ (C : Code) H. refused-leaves C (a .first) (a .n) (a .m) (a .g) (a .limit) (a .degrees .now) (a .columns .now) (a .weights .now) H (a .frame .now) (a .symbols .now) (a .costs .now) (a .store .now) (k .fault .result) (k .fault .ensures) (c .if1 .taken)
 
 slice-relend-prefix-copy : tie.Need-slice-relend-prefix-copy
 slice-relend-prefix-copy c =
@@ -44,7 +44,7 @@ slice-relend-prefix-copy c =
     let z = c .if1 .left in
     let s = k .before .before .before .before .before .before .before .before .before .before .before .before .before .before in
     let a = s .args in
-    omega (arith, (fits (s .pre .code) (a .p) (a .n) (a .m) (a .g) (a .limit) (a .degrees .now) (a .columns .now) (a .weights .now) (s .pre .coded) (a .frame .now) (a .symbols .now) (a .costs .now) (a .store .now) (k .fault .result) (k .fault .ensures) z))
+    omega (arith, (fits (s .pre .code) (a .first) (a .n) (a .m) (a .g) (a .limit) (a .degrees .now) (a .columns .now) (a .weights .now) (s .pre .coded) (a .frame .now) (a .symbols .now) (a .costs .now) (a .store .now) (k .fault .result) (k .fault .ensures) z))
 
 slice-aggregate-copy : tie.Need-slice-aggregate-copy
 slice-aggregate-copy c =
@@ -52,7 +52,7 @@ slice-aggregate-copy c =
     let z = c .before .if1 .left in
     let s = k .before .before .before .before .before .before .before .before .before .before .before .before .before .before in
     let a = s .args in
-    simp length-take (omega (arith, (fits (s .pre .code) (a .p) (a .n) (a .m) (a .g) (a .limit) (a .degrees .now) (a .columns .now) (a .weights .now) (s .pre .coded) (a .frame .now) (a .symbols .now) (a .costs .now) (a .store .now) (k .fault .result) (k .fault .ensures) z)))
+    simp length-take (omega (arith, (fits (s .pre .code) (a .first) (a .n) (a .m) (a .g) (a .limit) (a .degrees .now) (a .columns .now) (a .weights .now) (s .pre .coded) (a .frame .now) (a .symbols .now) (a .costs .now) (a .store .now) (k .fault .result) (k .fault .ensures) z)))
 
 copy-requires : tie.Need-copy-requires
 copy-requires c κs =
@@ -60,13 +60,13 @@ copy-requires c κs =
     let z = c .before .if1 .left in
     let s = k .before .before .before .before .before .before .before .before .before .before .before .before .before .before in
     let a = s .args in
-    sym (length-take-le (length (a .frame .now)) (a .costs .now) (omega (arith, (fits (s .pre .code) (a .p) (a .n) (a .m) (a .g) (a .limit) (a .degrees .now) (a .columns .now) (a .weights .now) (s .pre .coded) (a .frame .now) (a .symbols .now) (a .costs .now) (a .store .now) (k .fault .result) (k .fault .ensures) z))))
+    sym (length-take-le (length (a .frame .now)) (a .costs .now) (omega (arith, (fits (s .pre .code) (a .first) (a .n) (a .m) (a .g) (a .limit) (a .degrees .now) (a .columns .now) (a .weights .now) (s .pre .coded) (a .frame .now) (a .symbols .now) (a .costs .now) (a .store .now) (k .fault .result) (k .fault .ensures) z))))
 
 slice-aggregate-run : tie.Need-slice-aggregate-run
 slice-aggregate-run c =
     let s = c .before .before .before .before .before .before .before .before .before .before .before .before .before .before .before .before .before .before .before .before in
     let a = s .args in
-    degree-slice (s .pre .code) (a .p) (a .n) (a .m) (a .g) (a .limit) (a .degrees .now) (a .columns .now) (a .weights .now) (s .pre .coded)
+    degree-slice (s .pre .code) (a .first) (a .n) (a .m) (a .g) (a .limit) (a .degrees .now) (a .columns .now) (a .weights .now) (s .pre .coded)
 
 slice-relend-prefix-run : tie.Need-slice-relend-prefix-run
 slice-relend-prefix-run c =
@@ -75,7 +75,7 @@ slice-relend-prefix-run c =
     let z = at-if1 .if1 .left in
     let s = k .before .before .before .before .before .before .before .before .before .before .before .before .before .before in
     let a = s .args in
-    omega (arith, (fits (s .pre .code) (a .p) (a .n) (a .m) (a .g) (a .limit) (a .degrees .now) (a .columns .now) (a .weights .now) (s .pre .coded) (a .frame .now) (a .symbols .now) (a .costs .now) (a .store .now) (k .fault .result) (k .fault .ensures) z))
+    omega (arith, (fits (s .pre .code) (a .first) (a .n) (a .m) (a .g) (a .limit) (a .degrees .now) (a .columns .now) (a .weights .now) (s .pre .coded) (a .frame .now) (a .symbols .now) (a .costs .now) (a .store .now) (k .fault .result) (k .fault .ensures) z))
 
 slice-aggregate-run-2 : tie.Need-slice-aggregate-run-2
 slice-aggregate-run-2 c =
@@ -84,7 +84,7 @@ slice-aggregate-run-2 c =
     let z = at-if1 .if1 .left in
     let s = k .before .before .before .before .before .before .before .before .before .before .before .before .before .before in
     let a = s .args in
-    sym (length-take-le (a .n) (a .symbols .now) (omega (arith, (fits (s .pre .code) (a .p) (a .n) (a .m) (a .g) (a .limit) (a .degrees .now) (a .columns .now) (a .weights .now) (s .pre .coded) (a .frame .now) (a .symbols .now) (a .costs .now) (a .store .now) (k .fault .result) (k .fault .ensures) z))))
+    sym (length-take-le (a .n) (a .symbols .now) (omega (arith, (fits (s .pre .code) (a .first) (a .n) (a .m) (a .g) (a .limit) (a .degrees .now) (a .columns .now) (a .weights .now) (s .pre .coded) (a .frame .now) (a .symbols .now) (a .costs .now) (a .store .now) (k .fault .result) (k .fault .ensures) z))))
 
 slice-relend-prefix-run-2 : tie.Need-slice-relend-prefix-run-2
 slice-relend-prefix-run-2 c =
@@ -94,7 +94,7 @@ slice-relend-prefix-run-2 c =
     let z = at-if1 .if1 .left in
     let s = k .before .before .before .before .before .before .before .before .before .before .before .before .before .before in
     let a = s .args in
-    front-room (a .costs .now) (at-copy .copy .last .1 .0) (length (a .frame .now)) (omega (arith, (fits (s .pre .code) (a .p) (a .n) (a .m) (a .g) (a .limit) (a .degrees .now) (a .columns .now) (a .weights .now) (s .pre .coded) (a .frame .now) (a .symbols .now) (a .costs .now) (a .store .now) (k .fault .result) (k .fault .ensures) z))) (at-copy .copy .kept .1 .0)
+    front-room (a .costs .now) (at-copy .copy .last .1 .0) (length (a .frame .now)) (omega (arith, (fits (s .pre .code) (a .first) (a .n) (a .m) (a .g) (a .limit) (a .degrees .now) (a .columns .now) (a .weights .now) (s .pre .coded) (a .frame .now) (a .symbols .now) (a .costs .now) (a .store .now) (k .fault .result) (k .fault .ensures) z))) (at-copy .copy .kept .1 .0)
 
 slice-aggregate-run-3 : tie.Need-slice-aggregate-run-3
 slice-aggregate-run-3 c =
@@ -104,7 +104,7 @@ slice-aggregate-run-3 c =
     let z = at-if1 .if1 .left in
     let s = k .before .before .before .before .before .before .before .before .before .before .before .before .before .before in
     let a = s .args in
-    sym (length-take-le (length (a .frame .now)) _ (front-room (a .costs .now) (at-copy .copy .last .1 .0) (length (a .frame .now)) (omega (arith, (fits (s .pre .code) (a .p) (a .n) (a .m) (a .g) (a .limit) (a .degrees .now) (a .columns .now) (a .weights .now) (s .pre .coded) (a .frame .now) (a .symbols .now) (a .costs .now) (a .store .now) (k .fault .result) (k .fault .ensures) z))) (at-copy .copy .kept .1 .0)))
+    sym (length-take-le (length (a .frame .now)) _ (front-room (a .costs .now) (at-copy .copy .last .1 .0) (length (a .frame .now)) (omega (arith, (fits (s .pre .code) (a .first) (a .n) (a .m) (a .g) (a .limit) (a .degrees .now) (a .columns .now) (a .weights .now) (s .pre .coded) (a .frame .now) (a .symbols .now) (a .costs .now) (a .store .now) (k .fault .result) (k .fault .ensures) z))) (at-copy .copy .kept .1 .0)))
 
 run-requires : tie.Need-run-requires
 run-requires c κs =
@@ -114,7 +114,7 @@ run-requires c κs =
     let z = at-if1 .if1 .left in
     let s = k .before .before .before .before .before .before .before .before .before .before .before .before .before .before in
     let a = s .args in (
-      copied-room (s .pre .code) (a .p) (a .n) (a .m) (a .g) (a .limit) (a .degrees .now) (a .columns .now) (a .weights .now) (s .pre .coded) (a .frame .now) (a .symbols .now) (a .costs .now) (a .store .now) (k .fault .result) (k .fault .ensures) z (at-copy .copy .last .1 .0) (at-copy .copy .ensures) (λ x. omega (arith, k .before .before .before .before .before .before .before .before .before .before .shared-slice-known4 .given x)) (take (a .n) (a .symbols .now)) (length-take-le (a .n) (a .symbols .now) (omega (arith, (fits (s .pre .code) (a .p) (a .n) (a .m) (a .g) (a .limit) (a .degrees .now) (a .columns .now) (a .weights .now) (s .pre .coded) (a .frame .now) (a .symbols .now) (a .costs .now) (a .store .now) (k .fault .result) (k .fault .ensures) z)))),
+      copied-room (s .pre .code) (a .first) (a .n) (a .m) (a .g) (a .limit) (a .degrees .now) (a .columns .now) (a .weights .now) (s .pre .coded) (a .frame .now) (a .symbols .now) (a .costs .now) (a .store .now) (k .fault .result) (k .fault .ensures) z (at-copy .copy .last .1 .0) (at-copy .copy .ensures) (λ x. omega (arith, k .before .before .before .before .before .before .before .before .before .before .shared-slice-known4 .given x)) (take (a .n) (a .symbols .now)) (length-take-le (a .n) (a .symbols .now) (omega (arith, (fits (s .pre .code) (a .first) (a .n) (a .m) (a .g) (a .limit) (a .degrees .now) (a .columns .now) (a .weights .now) (s .pre .coded) (a .frame .now) (a .symbols .now) (a .costs .now) (a .store .now) (k .fault .result) (k .fault .ensures) z)))),
       (s .pre .arrived, s .pre .sent),
     )
 
@@ -141,7 +141,7 @@ returns-2 c =
     let z = o .before .before .if1 .left in
     let s = k .before .before .before .before .before .before .before .before .before .before .before .before .before .before in
     let a = s .args in
-    λ (C : Code) H. copied-leaves C (a .p) (a .n) (a .m) (a .g) (a .limit) (a .degrees .now) (a .columns .now) (a .weights .now) H (a .frame .now) (a .symbols .now) (a .costs .now) (a .store .now) (k .fault .result) (k .fault .ensures) z (o .copy .last .1 .0) (o .copy .ensures) (u .run .result) _ _ _ (take (a .n) (a .symbols .now)) (length-take-le (a .n) (a .symbols .now) (omega (arith, (fits (s .pre .code) (a .p) (a .n) (a .m) (a .g) (a .limit) (a .degrees .now) (a .columns .now) (a .weights .now) (s .pre .coded) (a .frame .now) (a .symbols .now) (a .costs .now) (a .store .now) (k .fault .result) (k .fault .ensures) z)))) (u .run .ensures .0) (u .run .ensures .1)
+    λ (C : Code) H. copied-leaves C (a .first) (a .n) (a .m) (a .g) (a .limit) (a .degrees .now) (a .columns .now) (a .weights .now) H (a .frame .now) (a .symbols .now) (a .costs .now) (a .store .now) (k .fault .result) (k .fault .ensures) z (o .copy .last .1 .0) (o .copy .ensures) (u .run .result) _ _ _ (take (a .n) (a .symbols .now)) (length-take-le (a .n) (a .symbols .now) (omega (arith, (fits (s .pre .code) (a .first) (a .n) (a .m) (a .g) (a .limit) (a .degrees .now) (a .columns .now) (a .weights .now) (s .pre .coded) (a .frame .now) (a .symbols .now) (a .costs .now) (a .store .now) (k .fault .result) (k .fault .ensures) z)))) (u .run .ensures .0) (u .run .ensures .1)
 
 pub under-code-spec : {M : Type 1} → statement M
 under-code-spec =

@@ -2,7 +2,6 @@
 use mathlib.Core.Path.{_≡_, refl, _∙_}
 use Prim.Native.Nat.{ℕ, _+_, _-_, _*_, _≤_}
 use native.Mathlib.Omega.{arith}
-use lib.Pow.{pow-pos}
 use borrow.Author.Needs.{needs}
 use lib.ListN.{length, take, length-take}
 use Rattle.trellis.specs.Lists.{upto}
@@ -16,38 +15,35 @@ use Rattle.layered.proofs.iterate.pass.Statement.{statement}
 use Rattle.layered.proofs.iterate.pass.Tie as tie
 
 abbrev Inv-loop : tie.InvT-loop
-Inv-loop p g start degrees columns weights costs₀ store₀ arrived₀ sent₀ q groups m₀ at₀ place₀ costs store arrived sent m at place =
-    (m ≤ length degrees) × ((at ≡ before degrees m) × ((place ≡ placeAt p degrees m) × ((lent costs store ≡ upto (turnAt (graph p g degrees columns weights) start) m (lent costs₀ store₀)) × ((length costs ≡ length costs₀) × ((length store ≡ length store₀) × ((length arrived ≡ length arrived₀) × (length sent ≡ length sent₀)))))))
+Inv-loop first g start degrees columns weights costs₀ store₀ arrived₀ sent₀ q groups m₀ at₀ place₀ costs store arrived sent m at place =
+    (m ≤ length degrees) × ((at ≡ before degrees m) × ((place ≡ placeAt first degrees m) × ((lent costs store ≡ upto (turnAt (graph first g degrees columns weights) start) m (lent costs₀ store₀)) × ((length costs ≡ length costs₀) × ((length store ≡ length store₀) × ((length arrived ≡ length arrived₀) × (length sent ≡ length sent₀)))))))
 
 abbrev μ-loop : tie.MeasureT-loop
-μ-loop p g start degrees columns weights costs₀ store₀ arrived₀ sent₀ q groups m₀ at₀ place₀ costs store arrived sent m at place =
+μ-loop first g start degrees columns weights costs₀ store₀ arrived₀ sent₀ q groups m₀ at₀ place₀ costs store arrived sent m at place =
     length degrees - m
 
 -- the check's parts of the tables, of the store and of the lists to work in are inside
 places : (c : tie.After-index Inv-loop μ-loop)
     → let l = c .before .before .before in
-    let z = l .before in
+    let o = l .before in
+    let z = o .before in
     let a = z .before .before .before .before .before .before .before .before .args in
     let at = l .loop .at in
     let d = c .index .result in
-    (at + d ≤ length (a .columns .now)) × ((at + d ≤ length (a .weights .now)) × ((l .loop .place + (d + 5 * (z .size .result - 1)) ≤ length (a .store .now)) × (d * z .size .result ≤ 2048)))
+    (at + d ≤ length (a .columns .now)) × ((at + d ≤ length (a .weights .now)) × ((l .loop .place + (d + o .groups .result) ≤ length (a .store .now)) × (d * z .size .result ≤ 2048)))
 places c =
     let l = c .before .before .before in
-    let z = l .before in
+    let o = l .before in
+    let z = o .before in
     let s = z .before .before .before .before .before .before .before .before in
     let a = s .args in
-    turn-places (a .p) (a .g) (a .degrees .now) (a .columns .now) (a .weights .now) (a .costs .now) (a .store .now) (a .start) (s .pre .running) (l .loop .m) (l .loop .at) (l .loop .place) (c .index .result) (z .size .result) (5 * (z .size .result - 1)) (omega arith) (l .loop .inv .1 .0) (l .loop .inv .1 .1 .0) (c .index .ensures .0) (z .size .ensures .0) refl
+    turn-places (a .first) (a .g) (a .degrees .now) (a .columns .now) (a .weights .now) (a .costs .now) (a .store .now) (a .start) (s .pre .running) (l .loop .m) (l .loop .at) (l .loop .place) (c .index .result) (z .size .result) (o .groups .result) (omega arith) (l .loop .inv .1 .0) (l .loop .inv .1 .1 .0) (c .index .ensures .0) (z .size .ensures .0) (o .groups .ensures)
 
 size-requires : tie.Need-size-requires Inv-loop μ-loop
 size-requires c κs = search needs
 
-sub-groups : tie.Need-sub-groups Inv-loop μ-loop
-sub-groups c =
-    let start = c .before .before .before .before .before .before .before .before in
-    omega (arith, pow-pos (start .args .p))
-
-mul-groups : tie.Need-mul-groups Inv-loop μ-loop
-mul-groups c = search needs
+groups-requires : tie.Need-groups-requires Inv-loop μ-loop
+groups-requires c κs = search needs
 
 loop-holds : tie.Need-loop-holds Inv-loop μ-loop
 unfolding placeAt
@@ -111,39 +107,40 @@ slice-relend-prefix-update : tie.Need-slice-relend-prefix-update Inv-loop μ-loo
 slice-relend-prefix-update c =
     let i = c .before .before .before .before in
     let l = i .before .before .before in
-    let s = l .before .before .before .before .before .before .before .before .before in
+    let s = l .before .before .before .before .before .before .before .before .before .before in
     omega (arith, places i, s .pre .arrived, l .loop .inv .1 .1 .1 .1 .1 .1 .0)
 
 slice-aggregate-update : tie.Need-slice-aggregate-update Inv-loop μ-loop
 slice-aggregate-update c =
     let i = c .before .before .before .before .before in
     let l = i .before .before .before in
-    let s = l .before .before .before .before .before .before .before .before .before in
+    let s = l .before .before .before .before .before .before .before .before .before .before in
     simp length-take (omega (arith, places i, s .pre .arrived, l .loop .inv .1 .1 .1 .1 .1 .1 .0))
 
 slice-relend-prefix-update-2 : tie.Need-slice-relend-prefix-update-2 Inv-loop μ-loop
 slice-relend-prefix-update-2 c =
     let i = c .before .before .before .before .before in
     let l = i .before .before .before in
-    let s = l .before .before .before .before .before .before .before .before .before in
+    let s = l .before .before .before .before .before .before .before .before .before .before in
     omega (arith, places i, s .pre .sent, l .loop .inv .1 .1 .1 .1 .1 .1 .1)
 
 slice-aggregate-update-2 : tie.Need-slice-aggregate-update-2 Inv-loop μ-loop
 slice-aggregate-update-2 c =
     let i = c .before .before .before .before .before .before in
     let l = i .before .before .before in
-    let s = l .before .before .before .before .before .before .before .before .before in
+    let s = l .before .before .before .before .before .before .before .before .before .before in
     simp length-take (omega (arith, places i, s .pre .sent, l .loop .inv .1 .1 .1 .1 .1 .1 .1))
 
 update-requires : tie.Need-update-requires Inv-loop μ-loop
 update-requires c κs =
     let i = c .before .before .before .before .before .before in
     let l = i .before .before .before in
-    let z = l .before in
+    let o = l .before in
+    let z = o .before in
     let s = z .before .before .before .before .before .before .before .before in
     let a = s .args in
     let n : ℕ = i .index .result * z .size .result in
-    turn-asks (a .p) (a .g) (a .degrees .now) (a .columns .now) (a .weights .now) (a .costs .now) (a .store .now) (a .start) (s .pre .running) (l .loop .m) (l .loop .at) (l .loop .place) (i .index .result) (z .size .result) (5 * (z .size .result - 1)) (omega arith) (l .loop .inv .1 .0) (l .loop .inv .1 .1 .0) (i .index .ensures .0) (z .size .ensures .0) refl (l .loop .costs) (l .loop .store) (l .loop .inv .1 .1 .1 .0) (take n (l .loop .arrived)) (take n (l .loop .sent))
+    turn-asks (a .first) (a .g) (a .degrees .now) (a .columns .now) (a .weights .now) (a .costs .now) (a .store .now) (a .start) (s .pre .running) (l .loop .m) (l .loop .at) (l .loop .place) (i .index .result) (z .size .result) (o .groups .result) (omega arith) (l .loop .inv .1 .0) (l .loop .inv .1 .1 .0) (i .index .ensures .0) (z .size .ensures .0) (o .groups .ensures) (l .loop .costs) (l .loop .store) (l .loop .inv .1 .1 .1 .0) (take n (l .loop .arrived)) (take n (l .loop .sent))
     (simp length-take (omega (arith, places i, s .pre .arrived, l .loop .inv .1 .1 .1 .1 .1 .1 .0)))
     (simp length-take (omega (arith, places i, s .pre .sent, l .loop .inv .1 .1 .1 .1 .1 .1 .1)))
 
@@ -151,7 +148,7 @@ add-m : tie.Need-add-m Inv-loop μ-loop
 add-m c =
     let at-loop-test = c .before .before .before .before .before .before .before .before .before .before .before .before .before .before .before .before .before in
     let at-loop = at-loop-test .before in
-    let at-good = at-loop .before .before .before .before .before .before .before .before .before in
+    let at-good = at-loop .before .before .before .before .before .before .before .before .before .before in
     omega (arith, at-loop .loop .inv .0, at-loop-test .loop-test, at-good .good)
 
 loop-less : tie.Need-loop-less Inv-loop μ-loop
@@ -162,18 +159,19 @@ loop-again c =
     let u = c .before .before .before .before .before .before .before .before in
     let i = u .before .before .before .before .before .before .before in
     let l = i .before .before .before in
-    let z = l .before in
+    let o = l .before in
+    let z = o .before in
     let s = z .before .before .before .before .before .before .before .before in
     let a = s .args in
     let n : ℕ = i .index .result * z .size .result in
-    let f : ℕ = l .loop .place + (i .index .result + 5 * (z .size .result - 1)) in (
+    let f : ℕ = l .loop .place + (i .index .result + o .groups .result) in (
       omega (arith, l .loop .inv .0, i .before .before .loop-test),
       (
         before-more (a .degrees .now) (l .loop .m) (l .loop .at) (i .index .result) (l .loop .inv .1 .0) (i .index .ensures .0),
         (
-          next-place (a .p) (a .g) (a .degrees .now) (a .columns .now) (a .weights .now) (a .costs .now) (a .store .now) (a .start) (s .pre .running) (l .loop .m) (l .loop .at) (l .loop .place) (i .index .result) (z .size .result) (5 * (z .size .result - 1)) (omega arith) (l .loop .inv .1 .0) (l .loop .inv .1 .1 .0) (i .index .ensures .0) (z .size .ensures .0) refl,
+          next-place (a .first) (a .g) (a .degrees .now) (a .columns .now) (a .weights .now) (a .costs .now) (a .store .now) (a .start) (s .pre .running) (l .loop .m) (l .loop .at) (l .loop .place) (i .index .result) (z .size .result) (o .groups .result) (omega arith) (l .loop .inv .1 .0) (l .loop .inv .1 .1 .0) (i .index .ensures .0) (z .size .ensures .0) (o .groups .ensures),
           (
-            turn-done (a .p) (a .g) (a .degrees .now) (a .columns .now) (a .weights .now) (a .costs .now) (a .store .now) (a .start) (s .pre .running) (l .loop .m) (l .loop .at) (l .loop .place) (i .index .result) (z .size .result) (5 * (z .size .result - 1)) (omega arith) (l .loop .inv .1 .0) (l .loop .inv .1 .1 .0) (i .index .ensures .0) (z .size .ensures .0) refl (l .loop .costs) (l .loop .store) (l .loop .inv .1 .1 .1 .0) _ _ (u .update .ensures .0) (u .update .ensures .1),
+            turn-done (a .first) (a .g) (a .degrees .now) (a .columns .now) (a .weights .now) (a .costs .now) (a .store .now) (a .start) (s .pre .running) (l .loop .m) (l .loop .at) (l .loop .place) (i .index .result) (z .size .result) (o .groups .result) (omega arith) (l .loop .inv .1 .0) (l .loop .inv .1 .1 .0) (i .index .ensures .0) (z .size .ensures .0) (o .groups .ensures) (l .loop .costs) (l .loop .store) (l .loop .inv .1 .1 .1 .0) _ _ (u .update .ensures .0) (u .update .ensures .1),
             (
               omega (arith, u .update .kept, l .loop .inv .1 .1 .1 .1 .0),
               (
@@ -204,8 +202,8 @@ same-length-4 c = search needs
 returns : tie.Need-returns Inv-loop μ-loop
 returns c =
     let l = c .before in
-    let a = l .before .before .before .before .before .before .before .before .before .args in
-    pass-done (graph (a .p) (a .g) (a .degrees .now) (a .columns .now) (a .weights .now)) (a .start) (lent (a .costs .now) (a .store .now)) _ (l .loop .m) (omega arith) (l .loop .inv .1 .1 .1 .0)
+    let a = l .before .before .before .before .before .before .before .before .before .before .args in
+    pass-done (graph (a .first) (a .g) (a .degrees .now) (a .columns .now) (a .weights .now)) (a .start) (lent (a .costs .now) (a .store .now)) _ (l .loop .m) (omega arith) (l .loop .inv .1 .1 .1 .0)
 
 pub pass-spec : {M : Type 1} → statement M
 pass-spec =
@@ -214,8 +212,7 @@ pass-spec =
     Inv-loop
     μ-loop
     size-requires
-    sub-groups
-    mul-groups
+    groups-requires
     loop-holds
     shared-slice-read-index
     index-requires

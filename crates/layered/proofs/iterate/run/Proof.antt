@@ -1,36 +1,39 @@
 -- What is left to run gives the same as the whole run; the buffers hold a state of the machine (run-next).
-use mathlib.Core.Path.{_≡_, refl, ap, _∙_}
-use Prim.Native.Nat.{_-_, _^_, _≤_, _<_}
+use mathlib.Core.Path.{_≡_, refl}
+use Prim.Native.Nat.{_-_, _≤_, _<_}
 use native.Mathlib.Omega.{arith}
 use borrow.Author.Needs.{needs}
 use lib.Dec.{eqb}
 use lib.ListN.{length}
-use Rattle.layered.specs.Parity.{decisionsOf}
 use Rattle.layered.specs.Passes.{graph, lent, goOn, RunRoom}
-use Rattle.layered.proofs.Passes.{run-found, run-end, run-more}
+use Rattle.layered.proofs.Passes.{test-by, decided-by, run-found, run-end, run-more}
 use Rattle.layered.proofs.Runs.{test-room, run-next}
 use Rattle.layered.proofs.iterate.run.Statement.{statement}
 use Rattle.layered.proofs.iterate.run.Tie as tie
 
 abbrev Inv-loop : tie.InvT-loop
-Inv-loop p g limit degrees columns weights symbols₀ costs₀ store₀ arrived₀ sent₀ t₀ symbols costs store arrived sent t =
-    (t ≤ limit) × (RunRoom (graph p g degrees columns weights) (eqb t 0) costs store symbols × ((goOn (graph p g degrees columns weights) (length symbols₀) (limit - t) t (lent costs store) ≡ goOn (graph p g degrees columns weights) (length symbols₀) limit 0 (lent costs₀ store₀)) × ((length symbols ≡ length symbols₀) × ((length costs ≡ length costs₀) × ((length store ≡ length store₀) × ((length arrived ≡ length arrived₀) × (length sent ≡ length sent₀)))))))
+Inv-loop first g limit degrees columns weights symbols₀ costs₀ store₀ arrived₀ sent₀ p t₀ symbols costs store arrived sent t =
+    (t ≤ limit) × (RunRoom (graph first g degrees columns weights) (eqb t 0) costs store symbols × ((goOn (graph first g degrees columns weights) (length symbols₀) (limit - t) t (lent costs store) ≡ goOn (graph first g degrees columns weights) (length symbols₀) limit 0 (lent costs₀ store₀)) × ((length symbols ≡ length symbols₀) × ((length costs ≡ length costs₀) × ((length store ≡ length store₀) × ((length arrived ≡ length arrived₀) × (length sent ≡ length sent₀)))))))
 
 abbrev μ-loop : tie.MeasureT-loop
-μ-loop p g limit degrees columns weights symbols₀ costs₀ store₀ arrived₀ sent₀ t₀ symbols costs store arrived sent t =
+μ-loop first g limit degrees columns weights symbols₀ costs₀ store₀ arrived₀ sent₀ p t₀ symbols costs store arrived sent t =
     limit - t
+
+power-requires : tie.Need-power-requires Inv-loop μ-loop
+power-requires c κs = search needs
 
 loop-holds : tie.Need-loop-holds Inv-loop μ-loop
 loop-holds c =
-    let s = c .before .before .before .before .before .before .before .before in
+    let s = c .before .before .before .before .before .before .before .before .before in
     let z : s .args .limit - 0 ≡ s .args .limit = omega arith in
     (omega arith, (s .pre .0, (rw z, (refl, (refl, (refl, (refl, refl)))))))
 
 settled-requires : tie.Need-settled-requires Inv-loop μ-loop
 settled-requires c κs =
     let l = c .before .before in
-    let a = l .before .before .before .before .before .before .before .before .before .args in
-    test-room (a .p) (a .g) (a .degrees .now) (a .columns .now) (a .weights .now) (l .loop .costs) (l .loop .store) (eqb (l .loop .t) 0) (l .loop .inv .1 .0 .running) (l .loop .symbols) (l .loop .inv .1 .0 .symbols)
+    let w = l .before in
+    let a = w .before .before .before .before .before .before .before .before .before .args in
+    test-room (a .first) (a .g) (a .degrees .now) (a .columns .now) (a .weights .now) (l .loop .costs) (l .loop .store) (eqb (l .loop .t) 0) (l .loop .inv .1 .0 .running) (w .power .result) (w .power .ensures) (l .loop .symbols) (l .loop .inv .1 .0 .symbols)
 
 same-length : tie.Need-same-length Inv-loop μ-loop
 same-length c = search needs
@@ -51,9 +54,10 @@ returns : tie.Need-returns Inv-loop μ-loop
 returns c =
     let d = c .before .before .before in
     let l = d .before .before .before in
-    let a = l .before .before .before .before .before .before .before .before .before .args in
+    let w = l .before in
+    let a = w .before .before .before .before .before .before .before .before .before .args in
     let e = l .loop .inv .1 .1 .1 .0 in
-    (run-found (graph (a .p) (a .g) (a .degrees .now) (a .columns .now) (a .weights .now)) (length (l .loop .symbols)) (length (a .symbols .now)) (a .limit) (l .loop .t) (lent (l .loop .costs) (l .loop .store)) (lent (a .costs .now) (a .store .now)) (d .settled .result) e (d .settled .ensures .0) (l .loop .inv .1 .1 .0) (c .if1 .taken), d .settled .ensures .1 ∙ ap (decisionsOf (2 ^ a .p) (l .loop .costs)) e)
+    (run-found (graph (a .first) (a .g) (a .degrees .now) (a .columns .now) (a .weights .now)) (length (l .loop .symbols)) (length (a .symbols .now)) (a .limit) (l .loop .t) (lent (l .loop .costs) (l .loop .store)) (lent (a .costs .now) (a .store .now)) (d .settled .result) e (test-by (a .first) (a .g) (a .degrees .now) (a .columns .now) (a .weights .now) (l .loop .costs) (w .power .result) (length (l .loop .symbols)) (w .power .ensures) _ (d .settled .ensures .0)) (l .loop .inv .1 .1 .0) (c .if1 .taken), decided-by (a .first) (a .g) (a .degrees .now) (a .columns .now) (a .weights .now) (l .loop .costs) (w .power .result) (length (l .loop .symbols)) (w .power .ensures) _ (d .settled .ensures .1) (length (a .symbols .now)) e)
 
 same-length-6 : tie.Need-same-length-6 Inv-loop μ-loop
 same-length-6 c = search needs
@@ -74,15 +78,16 @@ returns-2 : tie.Need-returns-2 Inv-loop μ-loop
 returns-2 c =
     let d = c .before .before .before .before in
     let l = d .before .before .before in
-    let a = l .before .before .before .before .before .before .before .before .before .args in
+    let w = l .before in
+    let a = w .before .before .before .before .before .before .before .before .before .args in
     let e = l .loop .inv .1 .1 .1 .0 in
-    (run-end (graph (a .p) (a .g) (a .degrees .now) (a .columns .now) (a .weights .now)) (length (l .loop .symbols)) (length (a .symbols .now)) (a .limit) (l .loop .t) (lent (l .loop .costs) (l .loop .store)) (lent (a .costs .now) (a .store .now)) (d .settled .result) e (d .settled .ensures .0) (l .loop .inv .1 .1 .0) (c .before .if1 .left) (c .if2 .taken), d .settled .ensures .1 ∙ ap (decisionsOf (2 ^ a .p) (l .loop .costs)) e)
+    (run-end (graph (a .first) (a .g) (a .degrees .now) (a .columns .now) (a .weights .now)) (length (l .loop .symbols)) (length (a .symbols .now)) (a .limit) (l .loop .t) (lent (l .loop .costs) (l .loop .store)) (lent (a .costs .now) (a .store .now)) (d .settled .result) e (test-by (a .first) (a .g) (a .degrees .now) (a .columns .now) (a .weights .now) (l .loop .costs) (w .power .result) (length (l .loop .symbols)) (w .power .ensures) _ (d .settled .ensures .0)) (l .loop .inv .1 .1 .0) (c .before .if1 .left) (c .if2 .taken), decided-by (a .first) (a .g) (a .degrees .now) (a .columns .now) (a .weights .now) (l .loop .costs) (w .power .result) (length (l .loop .symbols)) (w .power .ensures) _ (d .settled .ensures .1) (length (a .symbols .now)) e)
 
 pass-requires : tie.Need-pass-requires Inv-loop μ-loop
 pass-requires c κs =
     let d = c .before .before .before .before .before .before .before .before in
     let l = d .before .before .before in
-    let s = l .before .before .before .before .before .before .before .before .before in
+    let s = l .before .before .before .before .before .before .before .before .before .before in
     record {
       running = l .loop .inv .1 .0 .running;
       arrived = omega (arith, s .pre .1 .0, l .loop .inv .1 .1 .1 .1 .1 .1 .0);
@@ -93,7 +98,7 @@ add-t : tie.Need-add-t Inv-loop μ-loop
 add-t c =
     let at-if2 = c .before .before .before .before .before .before .before .before .before .before .before .before .before in
     let at-loop = at-if2 .before .before .before .before .before .before .before in
-    let at-fits = at-loop .before .before .before .before .before .before .before .before .before in
+    let at-fits = at-loop .before .before .before .before .before .before .before .before .before .before in
     omega (arith, at-loop .loop .inv .0, at-if2 .if2 .left, at-fits .fits)
 
 loop-less : tie.Need-loop-less Inv-loop μ-loop
@@ -106,14 +111,15 @@ loop-again c =
     let u = c .before .before .before .before .before .before .before .before in
     let d = u .before .before .before .before .before .before .before .before .before in
     let l = d .before .before .before in
-    let a = l .before .before .before .before .before .before .before .before .before .args in
+    let w = l .before in
+    let a = w .before .before .before .before .before .before .before .before .before .args in
     let e = l .loop .inv .1 .1 .1 .0 in
     let h : l .loop .t < a .limit = omega (arith, l .loop .inv .0, at-if2 .if2 .left) in (
       omega arith,
       (
-        run-next (a .p) (a .g) (a .degrees .now) (a .columns .now) (a .weights .now) (l .loop .costs) (l .loop .store) (eqb (l .loop .t) 0) (l .loop .inv .1 .0 .running) (l .loop .symbols) (d .settled .last .1 .1 .1 .1 .1 .0) (u .pass .last .1 .1 .1 .1 .1 .1 .0) (u .pass .last .1 .1 .1 .1 .1 .1 .1 .0) (l .loop .t) (l .loop .inv .1 .0 .symbols) (omega (arith, d .settled .kept)) (u .pass .ensures),
+        run-next (a .first) (a .g) (a .degrees .now) (a .columns .now) (a .weights .now) (l .loop .costs) (l .loop .store) (eqb (l .loop .t) 0) (l .loop .inv .1 .0 .running) (l .loop .symbols) (d .settled .last .1 .1 .1 .1 .1 .0) (u .pass .last .1 .1 .1 .1 .1 .1 .0) (u .pass .last .1 .1 .1 .1 .1 .1 .1 .0) (l .loop .t) (l .loop .inv .1 .0 .symbols) (omega (arith, d .settled .kept)) (u .pass .ensures),
         (
-          run-more (graph (a .p) (a .g) (a .degrees .now) (a .columns .now) (a .weights .now)) (length (l .loop .symbols)) (length (a .symbols .now)) (a .limit) (l .loop .t) (lent (l .loop .costs) (l .loop .store)) (lent (a .costs .now) (a .store .now)) (d .settled .result) e (d .settled .ensures .0) (l .loop .inv .1 .1 .0) (at-if1 .if1 .left) h _ (u .pass .ensures),
+          run-more (graph (a .first) (a .g) (a .degrees .now) (a .columns .now) (a .weights .now)) (length (l .loop .symbols)) (length (a .symbols .now)) (a .limit) (l .loop .t) (lent (l .loop .costs) (l .loop .store)) (lent (a .costs .now) (a .store .now)) (d .settled .result) e (test-by (a .first) (a .g) (a .degrees .now) (a .columns .now) (a .weights .now) (l .loop .costs) (w .power .result) (length (l .loop .symbols)) (w .power .ensures) _ (d .settled .ensures .0)) (l .loop .inv .1 .1 .0) (at-if1 .if1 .left) h _ (u .pass .ensures),
           (
             omega (arith, d .settled .kept, e),
             (
@@ -134,6 +140,7 @@ run-spec =
     (tie.spec
     Inv-loop
     μ-loop
+    power-requires
     loop-holds
     settled-requires
     same-length

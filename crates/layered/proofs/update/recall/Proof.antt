@@ -15,7 +15,7 @@ returns c =
     let at-if1 = c .before .before .before .before in
     let s = c .before .before .before .before .before .before .before .before in
     let a = s .args in
-    recall-first (a .p) (a .start) (a .weights .now) (a .bytes .now) (a .out .now) _ (s .pre) (at-if1 .if1 .taken) (c .before .before .clear .ensures)
+    recall-first (a .first) (a .start) (a .weights .now) (a .bytes .now) (a .out .now) _ (s .pre) (at-if1 .if1 .taken) (c .before .before .clear .ensures)
 
 expand-requires : tie.Need-expand-requires
 expand-requires c κs = search needs
@@ -28,7 +28,7 @@ returns-2 c =
     let at-if1 = c .before .before .before .before in
     let s = c .before .before .before .before .before .before .before .before in
     let a = s .args in
-    recall-later (a .p) (a .start) (a .weights .now) (a .bytes .now) (a .out .now) _ (s .pre) (at-if1 .if1 .left) (c .before .before .expand .ensures .1)
+    recall-later (a .first) (a .start) (a .weights .now) (a .bytes .now) (a .out .now) _ (s .pre) (at-if1 .if1 .left) (c .before .before .expand .ensures .1)
 
 pub recall-spec : {M : Type 1} → statement M
 recall-spec =

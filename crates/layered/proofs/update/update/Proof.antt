@@ -17,7 +17,7 @@ gather-requires c κs =
     let z = r .before .before .before in
     let s = z .before .before .before .before .before .before .before in
     let a = s .args in
-    gather-fits (a .p) (a .g) (a .start) (a .columns .now) (a .weights .now) (a .costs .now) (a .bytes .now) (a .arrived .now) (a .sent .now) (s .pre) (z .size .result) (r .recall .last .1 .1 .1 .1 .0) (z .size .ensures .0) (omega (arith, r .recall .kept))
+    gather-fits (a .first) (a .g) (a .start) (a .columns .now) (a .weights .now) (a .costs .now) (a .bytes .now) (a .arrived .now) (a .sent .now) (s .pre) (z .size .result) (r .recall .last .1 .1 .1 .1 .0) (z .size .ensures .0) (omega (arith, r .recall .kept))
 
 send-requires : tie.Need-send-requires
 send-requires c κs =
@@ -26,7 +26,7 @@ send-requires c κs =
     let z = r .before .before .before in
     let s = z .before .before .before .before .before .before .before in
     let a = s .args in
-    send-fits (a .p) (a .g) (a .start) (a .columns .now) (a .weights .now) (a .costs .now) (a .bytes .now) (a .arrived .now) (a .sent .now) (s .pre) (z .size .result) (r .recall .last .1 .1 .1 .1 .0) (g .gather .last .1 .1 .1 .1 .1 .0) (r .recall .last .1 .1 .1 .1 .0) (z .size .ensures .0) (r .recall .ensures) (g .gather .ensures) (omega (arith, r .recall .kept))
+    send-fits (a .first) (a .g) (a .start) (a .columns .now) (a .weights .now) (a .costs .now) (a .bytes .now) (a .arrived .now) (a .sent .now) (s .pre) (z .size .result) (r .recall .last .1 .1 .1 .1 .0) (g .gather .last .1 .1 .1 .1 .1 .0) (r .recall .last .1 .1 .1 .1 .0) (z .size .ensures .0) (r .recall .ensures) (g .gather .ensures) (omega (arith, r .recall .kept))
 
 scatter-requires : tie.Need-scatter-requires
 scatter-requires c κs =
@@ -36,7 +36,7 @@ scatter-requires c κs =
     let z = r .before .before .before in
     let s = z .before .before .before .before .before .before .before in
     let a = s .args in
-    scatter-fits (a .p) (a .g) (a .start) (a .columns .now) (a .weights .now) (a .costs .now) (a .bytes .now) (a .arrived .now) (a .sent .now) (s .pre) (z .size .result) (g .gather .last .1 .1 .1 .1 .1 .0) (d .send .last .1 .1 .1 .1 .0) (z .size .ensures .0) (omega (arith, g .gather .kept)) (omega (arith, d .send .kept, r .recall .kept))
+    scatter-fits (a .first) (a .g) (a .start) (a .columns .now) (a .weights .now) (a .costs .now) (a .bytes .now) (a .arrived .now) (a .sent .now) (s .pre) (z .size .result) (g .gather .last .1 .1 .1 .1 .1 .0) (d .send .last .1 .1 .1 .1 .0) (z .size .ensures .0) (omega (arith, g .gather .kept)) (omega (arith, d .send .kept, r .recall .kept))
 
 same-length : tie.Need-same-length
 same-length c = search needs
@@ -59,7 +59,7 @@ returns c =
     let z = r .before .before .before in
     let s = z .before .before .before .before .before .before .before in
     let a = s .args in
-    update-is (a .p) (a .g) (a .start) (a .columns .now) (a .weights .now) (a .costs .now) (a .bytes .now) (a .arrived .now) (a .sent .now) (s .pre) (z .size .result) (r .recall .last .1 .1 .1 .1 .0) (g .gather .last .1 .1 .1 .1 .1 .0) _ _ _ (z .size .ensures .0) (r .recall .ensures) (g .gather .ensures) (d .send .ensures .0) (d .send .ensures .1) (t .scatter .ensures)
+    update-is (a .first) (a .g) (a .start) (a .columns .now) (a .weights .now) (a .costs .now) (a .bytes .now) (a .arrived .now) (a .sent .now) (s .pre) (z .size .result) (r .recall .last .1 .1 .1 .1 .0) (g .gather .last .1 .1 .1 .1 .1 .0) _ _ _ (z .size .ensures .0) (r .recall .ensures) (g .gather .ensures) (d .send .ensures .0) (d .send .ensures .1) (t .scatter .ensures)
 
 pub update-spec : {M : Type 1} → statement M
 update-spec =
