@@ -52,7 +52,7 @@ line-end l o out h e =
     (set-at d (getD o (length l * 2) 0) (drop (suc (length l * 2)) o) 0x0A (length l * 2) (length-digits l) ∙ sym (append-snoc d 0x0A (drop (suc (length l * 2)) o)))
 
 -- a decoding in buffers that are long enough for every code line
-module _ (code f y c s z P u : List ℕ) (r : Reply) (i : length y ≡ 256) (j : length c ≡ 16384) (k : length s ≡ 41344) (D : Decodes code f y c s r z P u) where
+module _ (code f y c s z P u : List ℕ) (r : Reply) (i : length y ≡ 256) (j : length c ≡ 16384) (k : length s ≡ 57472) (D : Decodes code f y c s r z P u) where
   tells-of : (r ≡ ofFrame (parse code) f .reply) × (printed (said r (take (columnsRead (numbersOf (parse code))) z)) ≡ printed (ofFrame (parse code) f))
   unfolding printed decoding symbols
   tells-of = go (parse code) refl

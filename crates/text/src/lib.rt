@@ -47,7 +47,7 @@ pub fn frame_line(code: &[u8], text: &[u8], out: &mut [u8; 517]) -> usize
     let mut bytes = [0u8; 16384];
     let mut symbols = [0u8; 256];
     let mut costs = [0u16; 16384];
-    let mut store = [0u8; 41344];
+    let mut store = [0u8; 57472];
     print::text_in(
         code,
         text,

@@ -81,7 +81,7 @@ fn frame_in(
     store: &mut [u8],
     out: &mut [u8],
 ) -> usize
-    requires { ⌜ (length (now symbols) ≡ 256) × ((length (now costs) ≡ 16384) × ((length (now store) ≡ 41344) × (length (now out) ≡ 517))) ⌝ }
+    requires { ⌜ (length (now symbols) ≡ 256) × ((length (now costs) ≡ 16384) × ((length (now store) ≡ 57472) × (length (now out) ≡ 517))) ⌝ }
     ensures { λ r. ⌜ r ≡ length (printed (ofFrame (parse (now (code .entry))) (now (frame .entry)))) ⌝ }
     ensures { λ _. ⌜ now (out .exit) ≡ over (printed (ofFrame (parse (now (code .entry))) (now (frame .entry)))) (now (out .entry)) ⌝ }
 {
@@ -101,7 +101,7 @@ pub fn text_in(
     store: &mut [u8],
     out: &mut [u8],
 ) -> usize
-    requires { ⌜ (length (now bytes) ≡ 16384) × ((length (now symbols) ≡ 256) × ((length (now costs) ≡ 16384) × ((length (now store) ≡ 41344) × (length (now out) ≡ 517)))) ⌝ }
+    requires { ⌜ (length (now bytes) ≡ 16384) × ((length (now symbols) ≡ 256) × ((length (now costs) ≡ 16384) × ((length (now store) ≡ 57472) × (length (now out) ≡ 517)))) ⌝ }
     ensures { λ r. ⌜ r ≡ length (frameLine (now (code .entry)) (now (text .entry))) ⌝ }
     ensures { λ _. ⌜ now (out .exit) ≡ over (frameLine (now (code .entry)) (now (text .entry))) (now (out .entry)) ⌝ }
 {
