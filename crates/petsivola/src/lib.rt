@@ -57,19 +57,19 @@ pub extern "C" fn petsivola_product(p: u8, a: u8, b: u8) -> u32
 }
 
 #[no_mangle]
-pub extern "C" fn petsivola_check(p: u8, weights: &[u8], costs: &[u8], out: &mut [u8]) -> u32
-    ensures { λ r. ⌜ Packs r (checkReply p (now (weights .entry)) (now (costs .entry)) (now (out .entry))) ⌝ }
-    ensures { λ _. ⌜ now (out .exit) ≡ checkLeaves p (now (weights .entry)) (now (costs .entry)) (now (out .entry)) ⌝ }
+pub extern "C" fn petsivola_check(first: u8, weights: &[u8], costs: &[u8], out: &mut [u8]) -> u32
+    ensures { λ r. ⌜ Packs r (checkReply first (now (weights .entry)) (now (costs .entry)) (now (out .entry))) ⌝ }
+    ensures { λ _. ⌜ now (out .exit) ≡ checkLeaves first (now (weights .entry)) (now (costs .entry)) (now (out .entry)) ⌝ }
 {
-    of_written(checknode::check(p, weights, costs, out))
+    of_written(checknode::check(first, weights, costs, out))
 }
 
 #[no_mangle]
-pub extern "C" fn petsivola_expand(p: u8, weights: &[u8], bytes: &[u8], out: &mut [u8]) -> u32
-    ensures { λ r. ⌜ Packs r (expandReply p (now (weights .entry)) (now (bytes .entry)) (now (out .entry))) ⌝ }
-    ensures { λ _. ⌜ now (out .exit) ≡ expandLeaves p (now (weights .entry)) (now (bytes .entry)) (now (out .entry)) ⌝ }
+pub extern "C" fn petsivola_expand(first: u8, weights: &[u8], bytes: &[u8], out: &mut [u8]) -> u32
+    ensures { λ r. ⌜ Packs r (expandReply first (now (weights .entry)) (now (bytes .entry)) (now (out .entry))) ⌝ }
+    ensures { λ _. ⌜ now (out .exit) ≡ expandLeaves first (now (weights .entry)) (now (bytes .entry)) (now (out .entry)) ⌝ }
 {
-    of_written(checknode::expand(p, weights, bytes, out))
+    of_written(checknode::expand(first, weights, bytes, out))
 }
 
 #[no_mangle]
