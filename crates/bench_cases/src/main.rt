@@ -41,9 +41,12 @@ fn product_case(p: u8, a: u8, b: u8) {
 }
 
 // What a check writes, or its refusal.
-fn record_case(p: u8, weights: &[u8], costs: &[u8]) {
-    let mut record = [0u8; 347];
-    print_record(checknode::check(p, weights, costs, &mut record), &record);
+fn record_case(first: u8, weights: &[u8], costs: &[u8]) {
+    let mut record = [0u8; 473];
+    print_record(
+        checknode::check(first, weights, costs, &mut record),
+        &record,
+    );
 }
 
 fn print_record(answer: Written, record: &[u8]) {
@@ -65,7 +68,7 @@ fn print_record(answer: Written, record: &[u8]) {
 // A check of d columns of cost 0, weights 1, and the expansion of its record (of no record where the check is refused): how many bytes each
 // writes, or its refusal.
 fn degree_case(weights: &[u8], costs: &[u8]) {
-    let mut record = [0u8; 347];
+    let mut record = [0u8; 473];
     let answer = checknode::check(2, weights, costs, &mut record);
     print_count(answer);
     expand_case(answer, weights, &record);
