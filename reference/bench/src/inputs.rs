@@ -27,7 +27,7 @@ pub fn checks(p: u8, degree: usize, costs: Costs, round: usize, count: usize) ->
     let mut generator = Generator::new(round as u64 * 512 + size);
     let channel = Channel::new(2.5, 0.5);
     let mut check = |_| {
-        let mut check = sample::check(&mut generator, p..=p, degree..=degree, Style::Uniform);
+        let mut check = sample::check(&mut generator, p, degree..=degree, Style::Uniform);
         if costs == Costs::Channel {
             let symbols = (0..degree).map(|_| generator.below(1 << p) as u8);
             let symbols = symbols.collect();
@@ -105,10 +105,14 @@ pub struct Encodable {
 /// A random code "where N exceeds M and check m, counted from 0, contains column N - M + m and no higher
 /// one", at document 01's limits.
 pub fn encodable() -> Encodable {
-    let code = sample::encodable_code(&mut Generator::new(3), &Size::MOST_CHECKS);
+    let size = Size {
+        k: 2..=2,
+        ..Size::MOST_CHECKS
+    };
+    let code = sample::encodable_code(&mut Generator::new(3), &size);
     Encodable {
         name: "N = 256, p = 6, M = 128, degree 8",
-        p: code.p,
+        p: code.field().p(),
         columns: code.n,
         checks: code.m,
         line: code.line(),

@@ -8,7 +8,8 @@ use reference_decoder::sample::{self, CheckSample, Generator, Style};
 fn products(check: &CheckSample) -> Vec<Vec<u8>> {
     let symbols = 0..check.q() as u8;
     let row = |&weight| {
-        let products = symbols.clone().map(|x| product(check.p, weight, x));
+        let p = check.rule().field().p();
+        let products = symbols.clone().map(|x| product(p, weight, x));
         products.collect::<Result<_, _>>().expect("elements")
     };
     check.weights.iter().map(row).collect()
@@ -75,7 +76,7 @@ fn sent_costs_are_the_least() {
     for (p, most, rounds) in SIZES {
         for degree in 2..=most {
             for style in Style::ALL.repeat(rounds) {
-                let check = sample::check(&mut generator, p..=p, degree..=degree, style);
+                let check = sample::check(&mut generator, p, degree..=degree, style);
                 for (k, greatest) in [(2, false), (2, true), (3, false), (3, true)] {
                     compare(Rule::new(p, k, greatest).unwrap(), &check);
                 }

@@ -5,7 +5,7 @@ use std::collections::BTreeSet;
 
 use bench::same;
 use reference_decoder::sample::{self, Generator, Miss, Size, Style};
-use reference_decoder::{code_line, decode, encode, expand, Outcome, Refusal};
+use reference_decoder::{code_line, decode, encode, expand, Outcome, Refusal, Rule};
 
 /// A refusal by its number.
 fn numbered<T>(answer: Result<T, Refusal>) -> Result<T, u8> {
@@ -20,7 +20,8 @@ fn expansions() {
         let (p, degree) = (generator.byte(2..=6), generator.between(degree));
         let mut record = sample::record(&mut generator, p, degree);
         if round % 4 == 1 {
-            record = sample::damaged_record(&mut generator, degree, &record);
+            let rule = Rule::new(p).unwrap();
+            record = sample::damaged_record(&mut generator, rule, degree, &record);
         }
         let weights = sample::weights(&mut generator, p, degree);
         let room = (degree << p) + generator.below(3) - 1;

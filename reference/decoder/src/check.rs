@@ -1,35 +1,35 @@
 //! One check. Document 01, "One check": "a nonzero weight h_n for each column n, numbered from 0. It
 //! is satisfied when the sum of h_n times x_n is 0." Document 02, §1: "Degree becomes 2 to 32."
+//! Document 02, §3: "The number of deviations becomes k, 2 or 3".
 //!
-//! The sent costs are found by listing every choice with at most two deviations. The choices are
+//! The sent costs are found by listing every choice with at most k deviations. The choices are
 //! grouped by their set of deviating columns, so that each is listed once: a choice counts for the
-//! cost sent to column n when column n is not one of its deviations. The extra column is the least of
-//! what is sent.
+//! cost sent to column n when column n is not one of its deviations. Of the choices of one set that
+//! have the same weighted sum only the cheapest goes on to the sets with one column more. The extra
+//! column is the least of what is sent.
 
 use std::ops::RangeInclusive;
 
 use crate::field::{sum, Field};
 use crate::record;
 use crate::refusal::Refusal;
+use crate::rule::Rule;
 
 /// Document 02, §1: "Degree becomes 2 to 32."
 pub const DEGREES: RangeInclusive<usize> = 2..=32;
 
-/// Stands where no choice has been listed yet; every cost is smaller.
-const NO_CHOICE: i32 = i32::MAX;
-
 /// Works out one check's messages and writes their record. The degree is the number of weights.
 /// Order: "Check: 6, 9, 11, 12, 13, 4." "An accepted check or expansion returns how many bytes it
 /// wrote."
-pub fn check(p: u8, weights: &[u8], costs: &[u8], record: &mut [u8]) -> Result<usize, Refusal> {
-    let field = Field::new(p)?;
-    accept_weights(field, weights)?;
-    accept_costs(field, weights.len(), costs)?;
-    let length = record::length(field, weights.len());
+pub fn check(first: u8, weights: &[u8], costs: &[u8], record: &mut [u8]) -> Result<usize, Refusal> {
+    let rule = Rule::new(first)?;
+    accept_weights(rule.field(), weights)?;
+    accept_costs(rule.field(), weights.len(), costs)?;
+    let length = record::length(rule, weights.len());
     if record.len() < length {
         return Err(Refusal::ShortStore);
     }
-    let packed = record::pack(&Messages::new(field, weights, costs));
+    let packed = record::pack(rule, &Messages::new(rule, weights, costs));
     record[..length].copy_from_slice(&packed);
     Ok(length)
 }
@@ -87,30 +87,22 @@ pub struct Messages {
 impl Messages {
     /// The messages of an accepted check: weights and costs as [`accept_weights`] and
     /// [`accept_costs`] let them pass.
-    pub fn new(field: Field, weights: &[u8], costs: &[u8]) -> Messages {
-        let (q, degree) = (field.size(), weights.len());
+    pub fn new(rule: Rule, weights: &[u8], costs: &[u8]) -> Messages {
+        let (q, degree) = (rule.field().size(), weights.len());
         let columns: Vec<Column> = weights
             .iter()
             .zip(costs.chunks(q))
-            .map(|(&weight, costs)| Column::new(field, weight, costs))
+            .map(|(&weight, costs)| Column::new(rule.field(), weight, costs))
             .collect();
-        let shifts: Vec<u8> = (0..degree).map(|n| hard_sum(&columns, &[n])).collect();
+        let hard_sum = sum(columns.iter().map(|column| column.hard_term));
+        let shifts: Vec<u8> = columns
+            .iter()
+            .map(|column| hard_sum ^ column.hard_term)
+            .collect();
 
-        let mut sent = vec![vec![NO_CHOICE; q]; degree];
-        for set in sets_of_at_most_two(degree) {
-            let least = least_costs(&columns, &set, q);
-            // "choices for the other columns that have at most two deviations and whose weighted
-            // sum is h_n times x": such a choice, with column n at z_n for a cost of 0, is a listed
-            // one whose weighted sum over all columns is h_n times x plus h_n times z_n.
-            for n in (0..degree).filter(|n| !set.contains(n)) {
-                let column = &columns[n];
-                for (cost, &term) in sent[n].iter_mut().zip(&column.terms) {
-                    *cost = least[usize::from(term ^ column.hard_term)].min(*cost);
-                }
-            }
-        }
-
-        let sent: Vec<Vec<u8>> = sent.iter().map(|costs| bytes(costs)).collect();
+        let mut listing = Listing::new(rule, &columns);
+        listing.take(&Choices::of_decisions(hard_sum, q));
+        let sent: Vec<Vec<u8>> = listing.sent.iter().map(|costs| bytes(costs)).collect();
         let mut sent_at_sum = vec![vec![0; q]; degree];
         for n in 0..degree {
             for (&cost, &term) in sent[n].iter().zip(&columns[n].terms) {
@@ -135,7 +127,8 @@ struct Column {
     hard_term: u8,
     /// h_n times x for each symbol x.
     terms: Vec<u8>,
-    /// For each symbol x other than z_n: h_n times x, and Q_n(x).
+    /// For each symbol x other than z_n: h_n times x plus h_n times z_n, which is what it changes in
+    /// a weighted sum, and Q_n(x).
     deviations: Vec<(u8, i32)>,
 }
 
@@ -144,63 +137,97 @@ impl Column {
         let decision = hard_decision(costs);
         let symbols = (0u8..).take(field.size());
         let terms: Vec<u8> = symbols.clone().map(|x| field.product(weight, x)).collect();
+        let hard_term = terms[usize::from(decision)];
         // "A deviation is a column whose chosen symbol is not z_n."
         let deviations = symbols
             .filter(|&x| x != decision)
-            .map(|x| (terms[usize::from(x)], i32::from(costs[usize::from(x)])))
+            .map(usize::from)
+            .map(|x| (terms[x] ^ hard_term, i32::from(costs[x])))
             .collect();
         Column {
             decision,
-            hard_term: terms[usize::from(decision)],
+            hard_term,
             terms,
             deviations,
         }
     }
 }
 
-/// The sum of h_k times z_k over all columns k that are not in `left_out`.
-fn hard_sum(columns: &[Column], left_out: &[usize]) -> u8 {
-    let others = (0..columns.len()).filter(|k| !left_out.contains(k));
-    sum(others.map(|k| columns[k].hard_term))
+/// The choices for all columns whose deviations are exactly the columns of a set.
+struct Choices {
+    /// The set, rising.
+    set: Vec<usize>,
+    /// The least cost at each weighted sum; none where no choice has it.
+    least: Vec<Option<i32>>,
 }
 
-/// Every set of at most two of the columns 0 to d - 1.
-fn sets_of_at_most_two(degree: usize) -> Vec<Vec<usize>> {
-    let mut sets = vec![vec![]];
-    for i in 0..degree {
-        sets.push(vec![i]);
-        sets.extend((i + 1..degree).map(|j| vec![i, j]));
+impl Choices {
+    /// The one choice without a deviation. It costs 0, and so does every column that keeps z_n.
+    fn of_decisions(hard_sum: u8, q: usize) -> Choices {
+        let mut least = vec![None; q];
+        least[usize::from(hard_sum)] = Some(0);
+        Choices { set: vec![], least }
     }
-    sets
+
+    /// These choices with one deviation more, in column n. "A choice costs the sum of its columns' Q".
+    fn with_deviation(&self, n: usize, column: &Column) -> Choices {
+        let mut more = vec![i32::MAX; self.least.len()];
+        for (weighted_sum, cost) in self.least.iter().enumerate() {
+            let Some(cost) = cost else { continue };
+            for &(change, own) in &column.deviations {
+                let entry = &mut more[weighted_sum ^ usize::from(change)];
+                *entry = (cost + own).min(*entry);
+            }
+        }
+        let existing = |&cost: &i32| (cost < i32::MAX).then_some(cost);
+        Choices {
+            set: [&self.set[..], &[n]].concat(),
+            least: more.iter().map(existing).collect(),
+        }
+    }
 }
 
-/// The least cost at each weighted sum over the choices for all columns whose deviations are
-/// exactly the columns of `set`. "A choice costs the sum of its columns' Q"; a column that keeps
-/// z_n costs 0.
-fn least_costs(columns: &[Column], set: &[usize], q: usize) -> Vec<i32> {
-    let kept = hard_sum(columns, set);
-    let mut least = vec![NO_CHOICE; q];
-    let mut consider = |weighted_sum: u8, cost: i32| {
-        let entry = &mut least[usize::from(weighted_sum)];
-        *entry = cost.min(*entry);
-    };
-    match *set {
-        [] => consider(kept, 0),
-        [i] => {
-            for &(term, cost) in &columns[i].deviations {
-                consider(kept ^ term, cost);
-            }
+/// The least costs that each column is sent, over the choices listed so far.
+struct Listing<'a> {
+    rule: Rule,
+    columns: &'a [Column],
+    /// By column and symbol; every cost is below what stands where no choice has been listed.
+    sent: Vec<Vec<i32>>,
+}
+
+impl Listing<'_> {
+    fn new(rule: Rule, columns: &[Column]) -> Listing<'_> {
+        Listing {
+            rule,
+            columns,
+            sent: vec![vec![i32::MAX; rule.field().size()]; columns.len()],
         }
-        [i, j] => {
-            for &(term_i, cost_i) in &columns[i].deviations {
-                for &(term_j, cost_j) in &columns[j].deviations {
-                    consider(kept ^ term_i ^ term_j, cost_i + cost_j);
-                }
-            }
-        }
-        _ => unreachable!("a set has at most two columns"),
     }
-    least
+
+    /// Lists the choices of a set, and of every set that has higher columns too and at most k in all.
+    fn take(&mut self, choices: &Choices) {
+        self.send(choices);
+        if choices.set.len() == self.rule.deviations() {
+            return;
+        }
+        let higher = choices.set.last().map_or(0, |last| last + 1);
+        for n in higher..self.columns.len() {
+            self.take(&choices.with_deviation(n, &self.columns[n]));
+        }
+    }
+
+    /// "choices for the other columns that have at most two deviations and whose weighted sum is h_n
+    /// times x", where "at most two" reads "at most k": such a choice, with column n at z_n for a cost
+    /// of 0, is a listed one whose weighted sum over all columns is h_n times x plus h_n times z_n.
+    fn send(&mut self, choices: &Choices) {
+        let columns = self.columns.iter().zip(&mut self.sent).enumerate();
+        for (_, (column, sent)) in columns.filter(|(n, _)| !choices.set.contains(n)) {
+            for (sent, &term) in sent.iter_mut().zip(&column.terms) {
+                let cost = choices.least[usize::from(term ^ column.hard_term)];
+                *sent = cost.map_or(*sent, |cost| cost.min(*sent));
+            }
+        }
+    }
 }
 
 /// Document 02, §1: "E(a) is therefore the least of S_n(a) over the columns, at each degree."

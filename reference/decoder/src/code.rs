@@ -1,11 +1,13 @@
 //! The code line. Document 01, "Code line as bytes": "p; N as two bytes, high first (1 to 256);
 //! M (1 to 128); scale g (1 to 16); iteration limit I (1 to 255). Then M checks: degree byte, then
 //! for each edge the column (two bytes, high first, below N, rising within the check) and weight."
+//! The first byte is that of document 02, §3: p in its low digit, and k.
 
 use crate::check::DEGREES;
 use crate::field::Field;
 use crate::record;
 use crate::refusal::Refusal;
+use crate::rule::Rule;
 
 /// "N as two bytes, high first (1 to 256)"
 pub const MOST_COLUMNS: usize = 256;
@@ -16,7 +18,7 @@ pub const MOST_SCALE: u8 = 16;
 /// "All checks together have at most 1,024 edges."
 pub const MOST_EDGES: usize = 1_024;
 
-/// The bytes before the checks: p, N high, N low, M, g, I.
+/// The bytes before the checks: the first byte, N high, N low, M, g, I.
 pub const HEADER_LENGTH: usize = 6;
 /// The bytes of an edge: column high, column low, weight.
 pub const EDGE_LENGTH: usize = 3;
@@ -24,8 +26,8 @@ pub const EDGE_LENGTH: usize = 3;
 /// An accepted code line.
 #[derive(Clone, Debug, PartialEq, Eq)]
 pub struct Code {
-    /// p; the field has 2^p elements.
-    pub p: u8,
+    /// The first byte; it gives the rule.
+    pub first: u8,
     /// N, the number of columns.
     pub n: usize,
     /// M, the number of checks.
@@ -48,9 +50,14 @@ pub struct CheckNode {
 }
 
 impl Code {
+    /// The rule of the code's checks.
+    pub fn rule(&self) -> Rule {
+        Rule::new(self.first).expect("an accepted first byte")
+    }
+
     /// The field of the code's symbols.
     pub fn field(&self) -> Field {
-        Field::new(self.p).expect("an accepted p")
+        self.rule().field()
     }
 
     /// The bytes of the code line that [`code_line`] reads as this code.
@@ -59,7 +66,7 @@ impl Code {
             let number = u16::try_from(number).expect("N is at most 256");
             number.to_be_bytes()
         };
-        let mut line = vec![self.p];
+        let mut line = vec![self.first];
         line.extend(high_first(self.n));
         line.push(u8::try_from(self.m).expect("M is at most 128"));
         line.extend([self.g, self.limit]);
@@ -82,7 +89,7 @@ impl Code {
     pub fn store_length(&self) -> usize {
         self.checks
             .iter()
-            .map(|check| record::length(self.field(), check.weights.len()))
+            .map(|check| record::length(self.rule(), check.weights.len()))
             .sum()
     }
 }
@@ -95,8 +102,8 @@ pub fn code_line(bytes: &[u8]) -> Result<Code, Refusal> {
     let (header, mut rest) = bytes
         .split_first_chunk::<HEADER_LENGTH>()
         .ok_or(Refusal::CodeBytes)?;
-    let [p, n_high, n_low, m, g, limit] = *header;
-    let field = Field::new(p)?;
+    let [first, n_high, n_low, m, g, limit] = *header;
+    let field = Rule::new(first)?.field();
     let n = two_bytes(n_high, n_low);
     let m = usize::from(m);
     if !(1..=MOST_COLUMNS).contains(&n) || !(1..=MOST_CHECKS).contains(&m) {
@@ -124,7 +131,7 @@ pub fn code_line(bytes: &[u8]) -> Result<Code, Refusal> {
         return Err(Refusal::CodeBytes);
     }
     Ok(Code {
-        p,
+        first,
         n,
         m,
         g,

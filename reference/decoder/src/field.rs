@@ -31,6 +31,11 @@ impl Field {
         }
     }
 
+    /// p.
+    pub fn p(self) -> u8 {
+        self.p
+    }
+
     /// q, the number of elements.
     pub fn size(self) -> usize {
         1 << self.p

@@ -147,31 +147,32 @@ impl<'a> Machine<'a> {
     /// One update of the check with this place in code order: "Work out the new record." "The new P
     /// is Q plus the scaled cost, less its least over x."
     pub fn update(&mut self, check: usize) {
-        let field = self.code.field();
+        let rule = self.code.rule();
         let node = &self.code.checks[check];
         let brought = self.brought_costs(check);
-        let messages = Messages::new(field, &node.weights, &brought);
-        let columns = node.columns.iter().zip(brought.chunks(field.size()));
+        let messages = Messages::new(rule, &node.weights, &brought);
+        let columns = node.columns.iter().zip(brought.chunks(rule.field().size()));
         for ((&column, brought), sent) in columns.zip(&messages.sent) {
             let sums = brought.iter().zip(self.scaled(sent));
             let sums = sums.map(|(&cost, scaled)| i32::from(cost) + scaled);
             self.costs[column] = less_the_least(sums.collect());
         }
-        self.records[check] = Some(record::pack(&messages));
+        self.records[check] = Some(record::pack(rule, &messages));
         self.last_messages[check] = Some(messages);
     }
 
     /// Q, column by column: "For each column of the check, subtract the old record's scaled cost (0
     /// if none), subtract the least over x, and cap at 255; this is Q."
     fn brought_costs(&self, check: usize) -> Vec<u8> {
-        let field = self.code.field();
+        let rule = self.code.rule();
+        let q = rule.field().size();
         let node = &self.code.checks[check];
         let old = match &self.records[check] {
-            Some(record) => self.scaled(&record::expansion(field, &node.weights, record)),
-            None => vec![0; node.weights.len() * field.size()],
+            Some(record) => self.scaled(&record::expansion(rule, &node.weights, record)),
+            None => vec![0; node.weights.len() * q],
         };
         let mut brought = Vec::new();
-        for (&column, old) in node.columns.iter().zip(old.chunks(field.size())) {
+        for (&column, old) in node.columns.iter().zip(old.chunks(q)) {
             let differences = self.costs[column].iter().zip(old);
             let differences = differences.map(|(cost, old)| cost - old).collect();
             for cost in less_the_least(differences) {

@@ -15,6 +15,8 @@ pub const INPUT_LIMIT: u64 = 4_294_967_295;
 
 /// q at its greatest, for p = 6.
 const MOST_SYMBOLS: usize = 64;
+/// The bytes of a record for one a at their most, for k = 3.
+const MOST_ENTRY: usize = 7;
 
 /// The program's whole output for an input.
 pub fn program(input: &[u8]) -> Vec<u8> {
@@ -64,7 +66,7 @@ fn refused_line(refusal: Refusal) -> Vec<u8> {
 fn result_bytes(code: &[u8], frame: &[u8]) -> Result<Vec<u8>, Refusal> {
     let mut symbols = [0; MOST_COLUMNS];
     let mut costs = [0; MOST_COLUMNS * MOST_SYMBOLS];
-    let mut store = [0; MOST_EDGES + MOST_CHECKS * 5 * (MOST_SYMBOLS - 1)];
+    let mut store = [0; MOST_EDGES + MOST_CHECKS * MOST_ENTRY * (MOST_SYMBOLS - 1)];
     let outcome = decode(code, frame, &mut symbols, &mut costs, &mut store)?;
     let columns = code_line(code)?.n;
     let mut bytes = vec![outcome.status(), outcome.iterations()];

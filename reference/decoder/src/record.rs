@@ -1,88 +1,95 @@
 //! The packed record and its expansion. Document 01, "Record": "A record has d shift bytes, s_0
-//! first, then five bytes for each a from 1 to q - 1: E(a), column, its S, column, its S."
+//! first, then five bytes for each a from 1 to q - 1: E(a), column, its S, column, its S." Document
+//! 02, §3: "A record then has 1 + 2k bytes a symbol, with up to k pairs, and each reader of the store
+//! follows."
 
 use crate::check::{accept_weights, Messages};
-use crate::field::Field;
 use crate::refusal::Refusal;
+use crate::rule::Rule;
 
-/// "an unused pair is FF 00": the column byte of an unused pair.
-const UNUSED: u8 = 0xFF;
+/// "an unused pair is FF 00"
+const UNUSED: [u8; 2] = [0xFF, 0];
 
-/// "E(a), column, its S, column, its S"
-const ENTRY_LENGTH: usize = 5;
+/// "1 + 2k bytes a symbol"
+fn entry_length(rule: Rule) -> usize {
+    1 + 2 * rule.deviations()
+}
 
-/// "Length: d + 5(q - 1)."
-pub fn length(field: Field, degree: usize) -> usize {
-    degree + ENTRY_LENGTH * (field.size() - 1)
+/// "Length: d + 5(q - 1)", with 1 + 2k in the place of 5.
+pub fn length(rule: Rule, degree: usize) -> usize {
+    degree + entry_length(rule) * (rule.field().size() - 1)
 }
 
 /// The record of one check's messages. "The columns are those with S_n(a) greater than E(a),
-/// rising; an unused pair is FF 00. Never more than two are needed."
-pub fn pack(messages: &Messages) -> Vec<u8> {
+/// rising; an unused pair is FF 00." Never more than k are needed.
+pub fn pack(rule: Rule, messages: &Messages) -> Vec<u8> {
     let mut record = messages.shifts.clone();
     for (a, &extra) in messages.extra.iter().enumerate().skip(1) {
-        let mut entry = [extra, UNUSED, 0, UNUSED, 0];
         let greater = (0u8..)
             .zip(&messages.sent_at_sum)
-            .map(|(n, costs)| (n, costs[a]))
-            .filter(|&(_, cost)| cost > extra);
-        let mut pairs = entry[1..].chunks_exact_mut(2);
-        for (n, cost) in greater {
-            let pair = pairs.next().expect("never more than two are needed");
-            pair.copy_from_slice(&[n, cost]);
-        }
-        record.extend(entry);
+            .map(|(n, costs)| [n, costs[a]])
+            .filter(|&[_, cost]| cost > extra);
+        let mut pairs: Vec<[u8; 2]> = greater.collect();
+        assert!(pairs.len() <= rule.deviations(), "never more are needed");
+        pairs.resize(rule.deviations(), UNUSED);
+        record.push(extra);
+        record.extend(pairs.as_flattened());
     }
     record
 }
 
 /// Writes the sent costs that a record stands for. The degree is the number of weights.
 /// Order: "Expand: 6, 9, 11, 16, 2." "A record of accepted form expands even if no check wrote it."
-pub fn expand(p: u8, weights: &[u8], record: &[u8], out: &mut [u8]) -> Result<usize, Refusal> {
-    let field = Field::new(p)?;
-    accept_weights(field, weights)?;
-    if !has_accepted_form(field, weights.len(), record) {
+pub fn expand(first: u8, weights: &[u8], record: &[u8], out: &mut [u8]) -> Result<usize, Refusal> {
+    let rule = Rule::new(first)?;
+    accept_weights(rule.field(), weights)?;
+    if !has_accepted_form(rule, weights.len(), record) {
         return Err(Refusal::Record);
     }
-    let written = weights.len() * field.size();
+    let written = weights.len() * rule.field().size();
     if out.len() < written {
         return Err(Refusal::ShortBuffer);
     }
-    out[..written].copy_from_slice(&expansion(field, weights, record));
+    out[..written].copy_from_slice(&expansion(rule, weights, record));
     Ok(written)
 }
 
 /// Whether refusal 16 does not apply: "16, length wrong, shift not below q, an unused pair that is
 /// not FF 00 or stands before a used one, columns not rising or not below d, or S not above E."
-pub fn has_accepted_form(field: Field, degree: usize, record: &[u8]) -> bool {
-    if record.len() != length(field, degree) {
+pub fn has_accepted_form(rule: Rule, degree: usize, record: &[u8]) -> bool {
+    if record.len() != length(rule, degree) {
         return false;
     }
     let (shifts, entries) = record.split_at(degree);
-    shifts.iter().all(|&shift| field.contains(shift))
+    shifts.iter().all(|&shift| rule.field().contains(shift))
         && entries
-            .chunks_exact(ENTRY_LENGTH)
+            .chunks_exact(entry_length(rule))
             .all(|entry| entry_has_accepted_form(degree, entry))
 }
 
-/// [`has_accepted_form`] for the five bytes of one a.
+/// [`has_accepted_form`] for the bytes of one a: used pairs, then unused ones.
 fn entry_has_accepted_form(degree: usize, entry: &[u8]) -> bool {
-    let extra = entry[0];
-    let (first, second) = (&entry[1..3], &entry[3..5]);
-    let unused = |pair: &[u8]| *pair == [UNUSED, 0];
-    let used = |pair: &[u8]| usize::from(pair[0]) < degree && pair[1] > extra;
-    if unused(second) {
-        unused(first) || used(first)
-    } else {
-        used(first) && used(second) && first[0] < second[0]
-    }
+    let (extra, pairs) = (entry[0], pairs(entry));
+    let first_unused = pairs.iter().position(|&pair| pair == UNUSED);
+    let (used, unused) = pairs.split_at(first_unused.unwrap_or(pairs.len()));
+    let in_range = |&[n, cost]: &[u8; 2]| usize::from(n) < degree && cost > extra;
+    used.iter().all(in_range)
+        && used.windows(2).all(|pair| pair[0][0] < pair[1][0])
+        && unused.iter().all(|&pair| pair == UNUSED)
+}
+
+/// The pairs in the bytes of one a, each a column and its S.
+fn pairs(entry: &[u8]) -> &[[u8; 2]] {
+    let (pairs, _) = entry[1..].as_chunks();
+    pairs
 }
 
 /// "Expansion writes d times q unscaled bytes, column by column, each column by x." The record has
 /// accepted form.
-pub fn expansion(field: Field, weights: &[u8], record: &[u8]) -> Vec<u8> {
+pub fn expansion(rule: Rule, weights: &[u8], record: &[u8]) -> Vec<u8> {
+    let (field, entry_length) = (rule.field(), entry_length(rule));
     let (shifts, entries) = record.split_at(weights.len());
-    let entries: Vec<&[u8]> = entries.chunks_exact(ENTRY_LENGTH).collect();
+    let entries: Vec<&[u8]> = entries.chunks_exact(entry_length).collect();
     let mut sent = Vec::new();
     for ((n, &weight), &shift) in (0u8..).zip(weights).zip(shifts) {
         for x in (0u8..).take(field.size()) {
@@ -96,10 +103,8 @@ pub fn expansion(field: Field, weights: &[u8], record: &[u8]) -> Vec<u8> {
     sent
 }
 
-/// "the S beside n if a's pairs list n, else E(a)", for the five bytes of one a.
+/// "the S beside n if a's pairs list n, else E(a)", for the bytes of one a.
 fn sent_cost(entry: &[u8], n: u8) -> u8 {
-    entry[1..]
-        .chunks_exact(2)
-        .find(|pair| pair[0] == n)
-        .map_or(entry[0], |pair| pair[1])
+    let listed = pairs(entry).iter().find(|pair| pair[0] == n);
+    listed.map_or(entry[0], |&[_, cost]| cost)
 }

@@ -16,11 +16,11 @@ pub enum Refusal {
     ShortBuffer = 2,
     /// "3, cost buffer shorter than N times q"
     ShortCosts = 3,
-    /// "4, record buffer or store too short"
+    /// "4, record buffer or store too short"; document 02, §3: "4 and 16 use the new length"
     ShortStore = 4,
     /// "5, bytes missing or left over"
     CodeBytes = 5,
-    /// "6, p"
+    /// "6, p"; document 02, §3: "Refusal 6 covers the new first byte"
     FieldSize = 6,
     /// "7, N or M out of range"
     ColumnsOrChecks = 7,

@@ -7,7 +7,7 @@ use std::collections::BTreeSet;
 
 use reference_decoder::line::hexadecimal;
 use reference_decoder::sample::{self, Generator, Size, Style};
-use reference_decoder::{check, code_line, decode, encode, expand, line, Refusal};
+use reference_decoder::{check, code_line, decode, encode, expand, line, record, Refusal};
 
 /// Calls twice with buffers of different content and the same length, now and then too short, and
 /// gives the refusal's number or 0. Whatever the buffers held: the answers are equal, the bytes
@@ -42,24 +42,25 @@ fn check_expand_and_line() {
         (BTreeSet::new(), BTreeSet::new(), BTreeSet::new());
     for _ in 0..2_000 {
         let style = generator.one_of(&Style::ALL);
-        let accepted = sample::check(&mut generator, 2..=4, 2..=6, style);
-        let (q, degree) = (accepted.q(), accepted.degree());
-        let mut sample = accepted;
-        let mut record = sample::record(&mut generator, sample.p, degree);
+        let first = sample::first_byte(&mut generator, 2..=4, 2..=3);
+        let mut sample = sample::check(&mut generator, first, 2..=6, style);
+        let (rule, degree) = (sample.rule(), sample.degree());
+        let needed = [record::length(rule, degree), degree * sample.q()];
+        let mut record = sample::record(&mut generator, first, degree);
         let mut text = hexadecimal(&record);
         if generator.once_in(2) {
             sample = sample::damaged_check(&mut generator, &sample);
         }
         if generator.once_in(2) {
-            record = sample::damaged_record(&mut generator, degree, &record);
+            record = sample::damaged_record(&mut generator, rule, degree, &record);
             text = sample::damaged_text(&mut generator, &text);
         }
-        let (p, weights) = (sample.p, &sample.weights);
-        of_check.insert(call(&mut generator, degree + 5 * (q - 1), |buffer| {
-            check(p, weights, &sample.costs, buffer)
+        let (first, weights) = (sample.first, &sample.weights);
+        of_check.insert(call(&mut generator, needed[0], |buffer| {
+            check(first, weights, &sample.costs, buffer)
         }));
-        of_expand.insert(call(&mut generator, degree * q, |buffer| {
-            expand(p, weights, &record, buffer)
+        of_expand.insert(call(&mut generator, needed[1], |buffer| {
+            expand(first, weights, &record, buffer)
         }));
         of_line.insert(call(&mut generator, text.len() / 2, |buffer| {
             line(&text, buffer)

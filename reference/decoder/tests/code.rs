@@ -1,4 +1,4 @@
-//! Document 01, "Code line as bytes", with the degrees of document 02, §1.
+//! Document 01, "Code line as bytes", with the degrees of document 02, §1 and the first byte of §3.
 
 use reference_decoder::sample::{self, bytes, Generator, Size};
 use reference_decoder::{code_line, CheckNode, Code};
@@ -9,7 +9,7 @@ fn the_fields_of_a_code_line() {
     assert_eq!(code_line(&line).map_err(|refusal| refusal.number()), Err(7));
     let line = bytes("03 0100 02 07 FF 03 000001 000207 00FF03 04 000105 000206 00FE01 00FF04");
     let expected = Code {
-        p: 3,
+        first: 3,
         n: 256,
         m: 2,
         g: 7,
@@ -35,6 +35,12 @@ fn the_lengths_of_frame_and_store() {
     let code = code_line(&line).unwrap();
     assert_eq!(code.frame_length(), 2_048);
     assert_eq!(code.store_length(), 3 + 35 + 4 + 35);
+    let code = Code {
+        first: 0x23,
+        ..code
+    };
+    assert_eq!(code.frame_length(), 2_048);
+    assert_eq!(code.store_length(), 3 + 49 + 4 + 49);
 }
 
 /// A check has two columns or more, so that 1 is in the range of N and no line has it.
@@ -46,7 +52,7 @@ fn the_least_number_of_columns_is_2() {
     assert_eq!(number("02 0000 01 10 01 02 000001 000101"), Err(7));
     assert_eq!(number("02 0002 01 10 01 03 000001 000101 000201"), Err(10));
     let expected = Code {
-        p: 2,
+        first: 2,
         n: 2,
         m: 2,
         g: 16,
@@ -86,6 +92,6 @@ fn exactly_1024_edges_are_accepted() {
     for size in [Size::MOST_CHECKS, Size::MOST_DEGREE] {
         let code = code_line(&sample::code(&mut generator, &size).line).unwrap();
         let edges: usize = code.checks.iter().map(|check| check.columns.len()).sum();
-        assert_eq!((edges, code.n, code.p), (1_024, 256, 6));
+        assert_eq!((edges, code.n, code.field().p()), (1_024, 256, 6));
     }
 }

@@ -1,11 +1,12 @@
 //! Demand 3: when the stores of two decodings are equal. Document 02, §1: "The equality of stores is to
-//! hold for degree 2 as well."
+//! hold for degree 2 as well." Document 02, §3: "Everything about costs, records and equal stores is shown
+//! a single time with k as a parameter".
 
 use std::collections::HashMap;
 
 use reference_decoder::machine::Machine;
 use reference_decoder::sample::{self, bytes, Generator, Size, Style};
-use reference_decoder::{code_line, decode};
+use reference_decoder::{code_line, decode, record, Code};
 
 /// One check on three columns, weights 1, scale 16, one iteration.
 const ONE_CHECK: &str = "020003011001 03 000001 000101 000201";
@@ -50,28 +51,48 @@ fn frames_with_equal_sent_costs_and_different_stores() {
     assert_ne!(decoded(&line, &frames[0]).1, decoded(&line, &frames[1]).1);
 }
 
-/// Frames with equal stores in [`compare_stores`].
-#[derive(Default)]
-struct EqualStores {
-    count: usize,
+/// What [`compare_stores`] met.
+#[derive(Debug, Default)]
+struct Met {
+    /// Frames with a store that an earlier frame had.
+    equal: usize,
+    /// Those of them with another number of iterations.
     with_different_iterations: usize,
+    /// Stores in which some a has three pairs.
+    with_three_pairs: usize,
+}
+
+/// Whether some a of a store's records has three pairs.
+fn has_three_pairs(code: &Code, store: &[u8]) -> bool {
+    let entry_length = 1 + 2 * code.rule().deviations();
+    let mut records = store;
+    code.checks.iter().any(|check| {
+        let degree = check.weights.len();
+        let (record, rest) = records.split_at(record::length(code.rule(), degree));
+        records = rest;
+        let mut entries = record[degree..].chunks_exact(entry_length);
+        entries.any(|entry| entry.get(5).is_some_and(|&column| column != 0xFF))
+    })
 }
 
 /// Demand 3: the used parts of two stores are equal "exactly when the two runs agree in this: at
 /// the last update of every check, each column was sent the same sum of the other columns' weighted
-/// hard decisions and, at each symbol, the same least cost before scaling". Tried on pairs of random
-/// frames under random codes of the size.
-fn compare_stores(generator: &mut Generator, size: &Size) -> EqualStores {
+/// hard decisions and, at each symbol, the same least cost before scaling". Tried on pairs of frames,
+/// drawn under random codes of the size.
+fn compare_stores(
+    generator: &mut Generator,
+    size: &Size,
+    draw: fn(&mut Generator, &Code) -> Vec<u8>,
+) -> Met {
     type Agreement = Vec<(Vec<u8>, Vec<Vec<u8>>)>;
-    let mut equal = EqualStores::default();
+    let mut met = Met::default();
     for _ in 0..40 {
         let line = sample::code(generator, size).line;
         let code = code_line(&line).unwrap();
         let mut by_store: HashMap<Vec<u8>, (Agreement, u8)> = HashMap::new();
         let mut by_agreement: HashMap<Agreement, Vec<u8>> = HashMap::new();
         for _ in 0..150 {
-            let mut frame = sample::frame(generator, &code, Style::NearZero);
-            frame.iter_mut().for_each(|cost| *cost = *cost % 2 * 16);
+            let frame = draw(generator, &code);
             let mut machine = Machine::start(&code, &frame);
             let t = machine.run().iterations();
             if t == 0 {
@@ -80,36 +101,78 @@ fn compare_stores(generator: &mut Generator, size: &Size) -> EqualStores {
             let messages = machine.last_messages.into_iter().flatten();
             let agreement: Agreement = messages.map(|m| (m.shifts, m.sent)).collect();
             let store = decoded(&line, &frame).1;
+            met.with_three_pairs += usize::from(has_three_pairs(&code, &store));
             let known = by_agreement
                 .entry(agreement.clone())
                 .or_insert(store.clone());
             assert_eq!(known, &store);
             if let Some((known, known_t)) = by_store.get(&store) {
                 assert_eq!(known, &agreement);
-                equal.count += 1;
-                equal.with_different_iterations += usize::from(*known_t != t);
+                met.equal += 1;
+                met.with_different_iterations += usize::from(*known_t != t);
             }
             by_store.insert(store, (agreement, t));
         }
     }
-    equal
+    met
+}
+
+/// A frame of costs 0 and 16.
+fn two_costs(generator: &mut Generator, code: &Code) -> Vec<u8> {
+    let frame = sample::frame(generator, code, Style::NearZero);
+    frame.into_iter().map(|cost| cost % 2 * 16).collect()
+}
+
+/// A frame in which a column decides for 0 or 1 and has at most one cheap symbol beside it: three
+/// deviations of cheap symbols cost less than one of another.
+fn few_cheap_symbols(generator: &mut Generator, code: &Code) -> Vec<u8> {
+    let mut frame = Vec::new();
+    for _ in 0..code.n {
+        let decision = generator.below(2);
+        let cheap = decision ^ generator.one_of(&[0, 2, 4, 6]);
+        frame.extend((0..code.field().size()).map(|x| match x {
+            _ if x == decision => 0,
+            _ if x == cheap => 16,
+            _ => 64,
+        }));
+    }
+    frame
 }
 
 #[test]
 fn stores_are_equal_exactly_when_the_last_updates_agree() {
     let mut generator = Generator::new(42);
-    let mut with_different_iterations = 0;
-    for (columns, degree) in [(3..=4, 3..=3), (2..=4, 2..=3), (2..=4, 2..=2)] {
-        let size = Size {
-            p: 2..=2,
-            columns,
-            checks: 1..=3,
-            degree,
-            limit: 1..=3,
-        };
-        let equal = compare_stores(&mut generator, &size);
-        assert!(equal.count > 100);
-        with_different_iterations += equal.with_different_iterations;
+    for k in 2..=3 {
+        let mut with_different_iterations = 0;
+        for (columns, degree) in [(3..=4, 3..=3), (2..=4, 2..=3), (2..=4, 2..=2)] {
+            let size = Size {
+                p: 2..=2,
+                k: k..=k,
+                columns,
+                checks: 1..=3,
+                degree,
+                limit: 1..=3,
+            };
+            let met = compare_stores(&mut generator, &size, two_costs);
+            assert!(met.equal > 100);
+            with_different_iterations += met.with_different_iterations;
+        }
+        assert!(with_different_iterations > 0);
     }
-    assert!(with_different_iterations > 0);
+}
+
+/// The same where a third deviation counts.
+#[test]
+fn stores_of_three_deviations_are_equal_exactly_when_the_last_updates_agree() {
+    let mut generator = Generator::new(43);
+    let size = Size {
+        p: 3..=3,
+        k: 3..=3,
+        columns: 4..=4,
+        checks: 1..=2,
+        degree: 4..=4,
+        limit: 1..=3,
+    };
+    let met = compare_stores(&mut generator, &size, few_cheap_symbols);
+    assert!(met.equal > 100 && met.with_three_pairs > 1_000, "{met:?}");
 }

@@ -1,4 +1,4 @@
-//! Document 01, "Layered machine", with the checks of document 02, §1.
+//! Document 01, "Layered machine", with the checks of document 02, §1 and the deviations of §3.
 
 use reference_decoder::machine::Machine;
 use reference_decoder::record::has_accepted_form;
@@ -129,6 +129,47 @@ fn runs_of_several_iterations() {
     }
 }
 
+/// One frame under one code with k = 2 and with k = 3, which saves it. As above the values come from a
+/// separate calculation.
+#[test]
+fn a_frame_that_a_third_deviation_saves() {
+    let cases = [
+        (
+            "03",
+            Outcome::NotFound(3),
+            vec![
+                15, 27, 178, 102, 120, 0, 132, 168, 103, 0, 42, 129, 0, 212, 199, 167, 184, 6, 144,
+                115, 173, 183, 0, 164, 0, 1, 137, 44, 102, 206, 129, 78, 66, 0, 92, 84, 163, 170,
+                8, 185,
+            ],
+            "06000101 290062FF00 110112FF00 3A00710171 2E007C0343 05031AFF00 51008A0279 \
+             1601170328 04020306 130366FF00 2701400240 53005C035C 2D02A1034F 1A023CFF00 \
+             20013A0359 0D0127FF00",
+        ),
+        (
+            "23",
+            Outcome::Found(2),
+            vec![
+                33, 68, 201, 141, 155, 0, 173, 186, 116, 0, 29, 142, 5, 230, 208, 173, 185, 7, 161,
+                132, 190, 201, 0, 164, 37, 0, 167, 76, 142, 245, 165, 119, 87, 0, 100, 112, 188,
+                195, 24, 202,
+            ],
+            "03050401 190084FF00FF00 11011BFF00FF00 2A00860145FF00 1E006A0333FF00 05031AFF00FF00 \
+             2F006C01400340 1601200327FF00 01070303 130356FF00FF00 1501300247FF00 280143025A0369 \
+             1B02670376FF00 08023CFF00FF00 20013B0363FF00 0D0128FF00FF00",
+        ),
+    ];
+    let rest = "0005 02 08 03 04 000002 000104 000307 000402 04 000005 000201 000305 000404";
+    let frame =
+        "0020E9B2B21399A9 8F111A9E00F3EDBB BB00B38DB3C70DBA 0E009D54A8F7CA73 501E905BE9D100E0";
+    for (first, outcome, costs, store) in cases {
+        let decoded = decoded(&bytes(&format!("{first} {rest}")), &bytes(frame));
+        assert_eq!(decoded.outcome, outcome);
+        assert_eq!(decoded.costs, costs);
+        assert_eq!(decoded.store, bytes(store));
+    }
+}
+
 /// Two checks on two columns each, the second with weights 1 and 3. What column 2 brings reaches column
 /// 0 in the second iteration, and turns its decision.
 #[test]
@@ -219,16 +260,23 @@ fn costs_stay_in_range_and_the_result_is_the_first_satisfied_test() {
 #[test]
 fn codes_at_the_limits_decode() {
     let mut generator = Generator::new(41);
-    for size in [Size::MOST_CHECKS, Size::MOST_DEGREE] {
+    let sizes = [Size::MOST_CHECKS, Size::MOST_DEGREE];
+    for (size, k) in sizes.iter().flat_map(|size| [(size, 2), (size, 3)]) {
+        let size = Size {
+            k: k..=k,
+            ..size.clone()
+        };
         let sample = sample::code(&mut generator, &size);
         let code = code_line(&sample.line).unwrap();
+        let entry_length = 1 + 2 * k;
         let frame = sample::noisy_frame(&mut generator, &code, &sample.word, 4, Style::Uniform);
         let decoded = decoded(&sample.line, &frame);
         assert!((1..=code.limit).contains(&decoded.outcome.iterations()));
         let mut records = &decoded.store[..];
         for check in &code.checks {
-            let (record, rest) = records.split_at(check.weights.len() + 5 * 63);
-            assert!(has_accepted_form(code.field(), check.weights.len(), record));
+            let degree = check.weights.len();
+            let (record, rest) = records.split_at(degree + entry_length * 63);
+            assert!(has_accepted_form(code.rule(), degree, record));
             records = rest;
         }
         assert!(records.is_empty());

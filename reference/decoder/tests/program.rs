@@ -43,6 +43,18 @@ fn checks_on_two_columns() {
     assert_eq!(output(format!("{code}\n{frame}\n")), "00010000\n");
 }
 
+/// Document 02, §3: one frame under one code, with k = 2 and with k = 3.
+#[test]
+fn three_deviations() {
+    let rest = "00050208030400000200010400030700040204000005000201000305000404";
+    let frame = "0020E9B2B21399A98F111A9E00F3EDBBBB00B38DB3C70DBA0E009D54A8F7CA73501E905BE9D100E0";
+    let printed = |first: &str| output(format!("{first}{rest}\n{frame}\n"));
+    assert_eq!(printed("03"), "01030501060001\n");
+    assert_eq!(printed("23"), "00020501060101\n");
+    assert_eq!(printed("13"), "0600\n");
+    assert_eq!(printed("43"), "0600\n");
+}
+
 #[test]
 fn empty_input_and_empty_lines() {
     assert_eq!(output(""), "0500\n");

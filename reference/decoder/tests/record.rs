@@ -1,28 +1,30 @@
-//! Document 01, "Record", at the degrees of document 02, §1.
+//! Document 01, "Record", at the degrees of document 02, §1 and with the pairs of §3.
 
 use std::collections::HashMap;
 
 use reference_decoder::check::Messages;
-use reference_decoder::field::Field;
 use reference_decoder::sample::{self, bytes, CheckSample, Generator, Style};
-use reference_decoder::{check, expand};
+use reference_decoder::{check, expand, record, Rule};
 
 fn record(sample: &CheckSample) -> Vec<u8> {
-    let mut record = vec![0; sample.degree() + 5 * (sample.q() - 1)];
-    let written = check(sample.p, &sample.weights, &sample.costs, &mut record);
+    let mut record = vec![0; record::length(sample.rule(), sample.degree())];
+    let written = check(sample.first, &sample.weights, &sample.costs, &mut record);
     assert_eq!(written, Ok(record.len()));
     record
 }
 
-fn expansion(p: u8, weights: &[u8], record: &[u8]) -> Vec<u8> {
-    let mut out = vec![0; weights.len() << p];
-    assert_eq!(expand(p, weights, record, &mut out), Ok(out.len()));
+fn expansion(first: u8, weights: &[u8], record: &[u8]) -> Vec<u8> {
+    let q = Rule::new(first)
+        .expect("an accepted first byte")
+        .field()
+        .size();
+    let mut out = vec![0; weights.len() * q];
+    assert_eq!(expand(first, weights, record, &mut out), Ok(out.len()));
     out
 }
 
 fn messages(sample: &CheckSample) -> Messages {
-    let field = Field::new(sample.p).unwrap();
-    Messages::new(field, &sample.weights, &sample.costs)
+    Messages::new(sample.rule(), &sample.weights, &sample.costs)
 }
 
 #[test]
@@ -35,11 +37,36 @@ fn the_expansion_of_a_record_is_the_sent_costs() {
                 1..10 => 2..=2,
                 _ => 2..=12,
             };
-            let sample = sample::check(&mut generator, 2..=6, degree, style);
+            let first = sample::first_byte(&mut generator, 2..=6, 2..=3);
+            let sample = sample::check(&mut generator, first, degree, style);
             let sent = messages(&sample).sent.concat();
-            assert_eq!(expansion(sample.p, &sample.weights, &record(&sample)), sent);
+            assert_eq!(expansion(first, &sample.weights, &record(&sample)), sent);
         }
     }
+}
+
+/// Makes 4,000 checks with costs that are drawn, and answers how many records were met again. Records
+/// are equal exactly when shifts and sent costs are.
+fn compare_records(first: u8, weights: &[u8], mut draw: impl FnMut() -> Vec<u8>) -> usize {
+    let mut by_record: HashMap<Vec<u8>, (Vec<u8>, Vec<u8>)> = HashMap::new();
+    let mut by_messages: HashMap<(Vec<u8>, Vec<u8>), Vec<u8>> = HashMap::new();
+    let mut repeated = 0;
+    for _ in 0..4_000 {
+        let sample = CheckSample {
+            first,
+            weights: weights.to_vec(),
+            costs: draw(),
+        };
+        let (record, messages) = (record(&sample), messages(&sample));
+        let meaning = (messages.shifts, messages.sent.concat());
+        repeated += usize::from(by_record.contains_key(&record));
+        let known = by_record.entry(record.clone()).or_insert(meaning.clone());
+        assert_eq!(known, &meaning);
+        let known = by_messages.entry(meaning).or_insert(record.clone());
+        assert_eq!(known, &record);
+    }
+    assert!(by_record.len() > 20);
+    repeated
 }
 
 #[test]
@@ -52,37 +79,44 @@ fn records_are_equal_exactly_when_shifts_and_sent_costs_are() {
         vec![1, 2, 3],
         vec![3, 1, 1, 2],
     ] {
-        let mut by_record: HashMap<Vec<u8>, (Vec<u8>, Vec<u8>)> = HashMap::new();
-        let mut by_messages: HashMap<(Vec<u8>, Vec<u8>), Vec<u8>> = HashMap::new();
-        let mut repeated = 0;
-        for _ in 0..4_000 {
-            let mut costs = sample::columns(&mut generator, 4, weights.len(), Style::NearZero);
-            costs.iter_mut().for_each(|cost| *cost %= 2);
-            let sample = CheckSample {
-                p: 2,
-                weights: weights.clone(),
-                costs,
-            };
-            let (record, messages) = (record(&sample), messages(&sample));
-            let meaning = (messages.shifts, messages.sent.concat());
-            repeated += usize::from(by_record.contains_key(&record));
-            assert_eq!(
-                by_record.entry(record.clone()).or_insert(meaning.clone()),
-                &meaning
-            );
-            assert_eq!(
-                by_messages.entry(meaning).or_insert(record.clone()),
-                &record
-            );
+        for first in [0x02, 0x22] {
+            let repeated = compare_records(first, &weights, || {
+                let costs = sample::columns(&mut generator, 4, weights.len(), Style::NearZero);
+                costs.into_iter().map(|cost| cost % 2).collect()
+            });
+            assert!(repeated > 1_000);
         }
-        assert!(by_record.len() > 20 && repeated > 1_000);
     }
+}
+
+/// The same where a third deviation counts: a column has at most one cheap symbol, 1, 2 or 4.
+#[test]
+fn records_of_three_deviations_are_equal_exactly_when_shifts_and_sent_costs_are() {
+    let mut generator = Generator::new(13);
+    let mut of_three = 0;
+    let repeated = compare_records(0x23, &[1; 5], || {
+        let cheap = [0; 5].map(|_| generator.one_of(&[0, 1, 2, 4]));
+        of_three += usize::from([1, 2, 4].iter().all(|symbol| cheap.contains(symbol)));
+        let cost = |cheap: usize| {
+            move |x: usize| match x {
+                0 => 0,
+                _ if x == cheap => 1,
+                _ => 9,
+            }
+        };
+        let columns = cheap.iter();
+        columns.flat_map(|&cheap| (0..8).map(cost(cheap))).collect()
+    });
+    assert!(
+        repeated > 1_000 && of_three > 1_000,
+        "{repeated}, {of_three}"
+    );
 }
 
 #[test]
 fn equal_sent_costs_with_different_shifts_make_different_records() {
     let first = CheckSample {
-        p: 2,
+        first: 2,
         weights: vec![1; 3],
         costs: bytes("05000505 00000000 00000000"),
     };
@@ -109,18 +143,22 @@ fn a_record_that_no_check_wrote_expands() {
     // For x = 0 to 3, a is 1 0 3 2 in column 0, 2 0 1 3 in column 1 and 3 0 2 1 in column 2.
     let expected = bytes("FF0000FF FF000901 0000FF0A");
     assert_eq!(expansion(2, &[1, 2, 3], &record), expected);
+    let record = bytes("010203 0900FF020AFF00 FFFF00FF00FF00 00000101030205");
+    let expected = bytes("FF0001FF FF000903 0500FF0A");
+    assert_eq!(expansion(0x22, &[1, 2, 3], &record), expected);
 }
 
 #[test]
 fn every_record_of_accepted_form_expands_to_its_entries() {
     let mut generator = Generator::new(12);
-    for _ in 0..200 {
-        let p = generator.byte(2..=6);
+    for _ in 0..400 {
+        let first = sample::first_byte(&mut generator, 2..=6, 2..=3);
+        let rule = Rule::new(first).unwrap();
+        let (field, entry_length) = (rule.field(), 1 + 2 * rule.deviations());
         let degree = generator.between(2..=32);
-        let weights = sample::weights(&mut generator, p, degree);
-        let record = sample::record(&mut generator, p, degree);
-        let expansion = expansion(p, &weights, &record);
-        let field = Field::new(p).unwrap();
+        let weights = sample::weights(&mut generator, field.p(), degree);
+        let record = sample::record(&mut generator, first, degree);
+        let expansion = expansion(first, &weights, &record);
         for (place, &cost) in expansion.iter().enumerate() {
             let (n, x) = (place / field.size(), place % field.size());
             let a = usize::from(field.product(weights[n], x as u8) ^ record[n]);
@@ -128,15 +166,11 @@ fn every_record_of_accepted_form_expands_to_its_entries() {
                 assert_eq!(cost, 0);
                 continue;
             }
-            let entry = &record[degree + 5 * (a - 1)..degree + 5 * a];
-            let expected = if usize::from(entry[1]) == n {
-                entry[2]
-            } else if usize::from(entry[3]) == n {
-                entry[4]
-            } else {
-                entry[0]
-            };
-            assert_eq!(cost, expected);
+            let entry = &record[degree + entry_length * (a - 1)..][..entry_length];
+            let place = (1..entry_length)
+                .step_by(2)
+                .find(|&place| usize::from(entry[place]) == n);
+            assert_eq!(cost, entry[place.map_or(0, |place| place + 1)]);
         }
     }
 }

@@ -34,14 +34,14 @@ fn product_6_11() {
 
 #[test]
 fn check_6_9_11_12_13_4() {
-    let number = |p, weights: &[u8], costs: &[u8], room| {
-        refused(room, |record| check(p, weights, costs, record))
+    let number = |first, weights: &[u8], costs: &[u8], room| {
+        refused(room, |record| check(first, weights, costs, record))
     };
     let (weights, costs) = ([1, 2, 3], [0; 12]);
     let without_zero = [0, 9, 9, 9, 9, 9, 9, 9, 0, 9, 9, 9];
-    for p in [0, 1, 7, 255] {
-        assert_eq!(number(p, &weights, &costs, 18), 6);
-        assert_eq!(number(p, &[1], &costs, 18), 6);
+    for first in [0x00, 0x01, 0x07, 0x12, 0x21, 0x27, 0xFF] {
+        assert_eq!(number(first, &weights, &costs, 18), 6);
+        assert_eq!(number(first, &[1], &costs, 18), 6);
     }
     for degree in [0, 1, 33, 34, 256, 258] {
         assert_eq!(number(2, &vec![1; degree], &vec![0; 4 * degree], 300), 9);
@@ -70,11 +70,11 @@ fn check_6_9_11_12_13_4() {
 /// The refusals after 9, at both bounds of the degree.
 #[test]
 fn check_11_12_13_4_at_degree_2_and_32() {
-    for degree in [2, 32] {
+    for (first, degree, entries) in [(0x02, 2, 15), (0x02, 32, 15), (0x22, 2, 21), (0x22, 32, 21)] {
         let number = |weights: &[u8], costs: &[u8], room| {
-            refused(room, |record| check(2, weights, costs, record))
+            refused(room, |record| check(first, weights, costs, record))
         };
-        let (weights, costs, length) = (vec![3; degree], vec![0; 4 * degree], degree + 15);
+        let (weights, costs, length) = (vec![3; degree], vec![0; 4 * degree], degree + entries);
         for place in [0, degree - 1] {
             let mut weights = weights.clone();
             weights[place] = 4;
@@ -89,20 +89,21 @@ fn check_11_12_13_4_at_degree_2_and_32() {
         for room in [0, length - 1] {
             assert_eq!(number(&weights, &costs, room), 4);
         }
-        assert_eq!(check(2, &weights, &costs, &mut vec![0; length]), Ok(length));
+        let answer = check(first, &weights, &costs, &mut vec![0; length]);
+        assert_eq!(answer, Ok(length));
     }
 }
 
 #[test]
 fn expand_6_9_11_16_2() {
-    let number = |p, weights: &[u8], record: &[u8], room| {
-        refused(room, |out| expand(p, weights, record, out))
+    let number = |first, weights: &[u8], record: &[u8], room| {
+        refused(room, |out| expand(first, weights, record, out))
     };
     let weights = [1, 2, 3];
     let record = bytes("010203 0900FF020A FFFF00FF00 000101FF00");
-    for p in [0, 1, 7, 255] {
-        assert_eq!(number(p, &weights, &record, 12), 6);
-        assert_eq!(number(p, &[1], &record, 12), 6);
+    for first in [0x00, 0x01, 0x07, 0x12, 0x21, 0x27, 0xFF] {
+        assert_eq!(number(first, &weights, &record, 12), 6);
+        assert_eq!(number(first, &[1], &record, 12), 6);
     }
     for degree in [0, 1, 33, 256, 258] {
         assert_eq!(number(2, &vec![1; degree], &vec![0; degree + 15], 2_000), 9);
@@ -123,16 +124,20 @@ fn expand_6_9_11_16_2() {
 /// The refusals after 9, at both bounds of the degree.
 #[test]
 fn expand_11_16_2_at_degree_2_and_32() {
-    for degree in [2, 32] {
+    for (first, degree, entry) in [(0x02, 2, 5), (0x02, 32, 5), (0x22, 2, 7), (0x22, 32, 7)] {
         let number = |weights: &[u8], record: &[u8], room| {
-            refused(room, |out| expand(2, weights, record, out))
+            refused(room, |out| expand(first, weights, record, out))
         };
         let (weights, written) = (vec![3; degree], 4 * degree);
         let last = u8::try_from(degree - 1).unwrap();
         let mut record = vec![1; degree];
-        record.extend([0, 0, 1, last, 1]);
-        record.extend([0, last, 1, 0xFF, 0]);
-        record.extend([0, 0xFF, 0, 0xFF, 0]);
+        for used in [
+            [0, 0, 1, last, 1],
+            [0, last, 1, 0xFF, 0],
+            [0, 0xFF, 0, 0xFF, 0],
+        ] {
+            record.extend([&used[..], &[0xFF, 0]].concat().iter().take(entry));
+        }
         for place in [0, degree - 1] {
             let mut weights = weights.clone();
             weights[place] = 0;
@@ -145,7 +150,7 @@ fn expand_11_16_2_at_degree_2_and_32() {
         for room in [0, written - 1] {
             assert_eq!(number(&weights, &record, room), 2);
         }
-        let answer = expand(2, &weights, &record, &mut vec![0; written]);
+        let answer = expand(first, &weights, &record, &mut vec![0; written]);
         assert_eq!(answer, Ok(written));
     }
 }
@@ -204,6 +209,45 @@ fn each_fault_of_a_record_is_16() {
         let number = refused(12, |out| expand(2, &[1, 1, 1], &bytes(record), out));
         assert_eq!(number, 16, "{fault}");
     }
+}
+
+/// The faults of pairs with k = 3, in the bytes of the last a; all others are in order.
+#[test]
+fn each_fault_of_three_pairs_is_16() {
+    let answer = |entry: &str, degree: usize| {
+        let unused = "00FF00FF00FF00";
+        let record = format!("{}{unused}{unused}{entry}", "00".repeat(degree));
+        expand(0x22, &vec![1; degree], &bytes(&record), &mut [0; 16]).map_err(Refusal::number)
+    };
+    for accepted in [
+        "05 0006 0107 02FF",
+        "05 0006 03FF FF00",
+        "05 0206 FF00 FF00",
+        "05 FF00 FF00 FF00",
+    ] {
+        assert_eq!(answer(accepted, 4), Ok(16));
+    }
+    for (entry, fault) in [
+        ("05 FF00 0106 0206", "an unused pair before two used ones"),
+        ("05 0006 FF00 0206", "an unused pair between two used ones"),
+        ("05 FF00 FF00 0206", "two unused pairs before a used one"),
+        ("05 0006 0106 FF01", "an unused pair FF 01, third"),
+        ("05 0006 FF01 FF00", "an unused pair FF 01, second"),
+        ("05 0106 0206 0206", "equal columns, second and third"),
+        ("05 0106 0306 0206", "falling columns, second and third"),
+        ("05 0106 0006 0206", "falling columns, first and second"),
+        ("05 0206 0306 0006", "falling columns, first and third"),
+        ("05 0106 0206 0406", "a column not below d, third"),
+        ("05 0106 0206 0305", "S equal to E, third"),
+        ("05 0106 0204 0306", "S below E, second"),
+        ("05 0006 0107", "one pair missing"),
+        ("05 0006 0107 0208 0309", "one pair more"),
+    ] {
+        assert_eq!(answer(entry, 4), Err(16), "{fault}");
+    }
+    // With two columns at most two pairs are used.
+    assert_eq!(answer("05 0006 0107 FF00", 2), Ok(8));
+    assert_eq!(answer("05 0006 0107 0208", 2), Err(16));
 }
 
 #[test]

@@ -51,10 +51,12 @@ fn under_six_bytes_is_5_before_6() {
 }
 
 #[test]
-fn p_is_6_before_7() {
-    for p in ["00", "01", "07", "08", "FF"] {
-        assert_eq!(refused_code(&with(0, p)), 6);
-        assert_eq!(refused_code(&with(0, &format!("{p}0000"))), 6);
+fn the_first_byte_is_6_before_7() {
+    for first in [
+        "00", "01", "07", "08", "12", "20", "21", "27", "28", "32", "42", "FF",
+    ] {
+        assert_eq!(refused_code(&with(0, first)), 6);
+        assert_eq!(refused_code(&with(0, &format!("{first}0000"))), 6);
     }
 }
 
@@ -216,4 +218,17 @@ fn a_short_store_is_4_even_when_no_iteration_is_made() {
         refused_decoding(&bytes(CODE), &bytes(satisfied), [3, 12, 17]),
         4
     );
+}
+
+/// Document 02, §3: "4 and 16 use the new length".
+#[test]
+fn a_store_for_two_deviations_is_4_with_three() {
+    let code = with(0, "22");
+    for length in [0, 18, 23] {
+        assert_eq!(refused_decoding(&code, &bytes(FRAME), [3, 12, length]), 4);
+    }
+    assert_eq!(refused_decoding(&code, &bytes(FRAME), [3, 11, 23]), 3);
+    let (mut symbols, mut costs, mut store) = ([0; 3], [0; 12], [0; 24]);
+    let accepted = decode(&code, &bytes(FRAME), &mut symbols, &mut costs, &mut store);
+    assert!(accepted.is_ok());
 }

@@ -6,13 +6,39 @@ use std::collections::BTreeSet;
 use reference_decoder::encode::has_encoding_form;
 use reference_decoder::record::has_accepted_form;
 use reference_decoder::sample::{self, Generator, Size, Style};
-use reference_decoder::{code_line, decode, program, Outcome, Refusal};
+use reference_decoder::{code_line, decode, program, Outcome, Refusal, Rule};
 
 #[test]
 fn a_seed_gives_the_same_samples() {
     let sample = |seed| sample::code(&mut Generator::new(seed), &Size::MEDIUM);
     assert_eq!(sample(1), sample(1));
     assert_ne!(sample(1), sample(2));
+}
+
+#[test]
+fn first_bytes_spread_over_their_ranges() {
+    let mut generator = Generator::new(100);
+    let mut drawn = |p: u8, k: usize| {
+        let draws = (0..200).map(|_| sample::first_byte(&mut generator, 2..=p, k..=3));
+        draws.collect::<BTreeSet<u8>>()
+    };
+    assert_eq!(drawn(3, 2), BTreeSet::from([0x02, 0x03, 0x22, 0x23]));
+    assert_eq!(drawn(4, 3), BTreeSet::from([0x22, 0x23, 0x24]));
+    assert_eq!(drawn(6, 2).len(), 10);
+}
+
+/// Each of the 256 first bytes, and those that are accepted among them.
+#[test]
+fn damaged_first_bytes_are_of_every_kind() {
+    let mut generator = Generator::new(101);
+    let [mut of_codes, mut of_checks] = [0; 2].map(|_| BTreeSet::<u8>::new());
+    let line = sample::code(&mut generator, &Size::SMALL).line;
+    let check = sample::check(&mut generator, 0x02, 2..=5, Style::Uniform);
+    for _ in 0..40_000 {
+        of_codes.extend(sample::damaged_code(&mut generator, &line).first());
+        of_checks.insert(sample::damaged_check(&mut generator, &check).first);
+    }
+    assert_eq!((of_codes.len(), of_checks.len()), (256, 256));
 }
 
 #[test]
@@ -54,11 +80,11 @@ fn codes_are_accepted_and_their_words_satisfy_them() {
                 checks_on_two_columns += usize::from(check.weights.len() == 2);
             }
             assert!(size.columns.contains(&code.n) && size.checks.contains(&code.m));
-            sizes.insert(code.p);
+            sizes.insert((code.field().p(), code.rule().deviations()));
             of_two_columns += usize::from(code.n == 2);
         }
     }
-    assert_eq!(sizes, BTreeSet::from([2, 3, 4, 5, 6]));
+    assert!((2..=6).all(|p| sizes.contains(&(p, 2)) && sizes.contains(&(p, 3))));
     assert!(of_two_columns > 0 && checks_on_two_columns > 100);
 }
 
@@ -113,11 +139,14 @@ fn a_noisy_frame_without_wrong_columns_decides_for_the_word() {
 fn records_have_accepted_form() {
     let mut generator = Generator::new(94);
     for _ in 0..300 {
-        let p = generator.byte(2..=6);
+        let first = sample::first_byte(&mut generator, 2..=6, 2..=3);
         let degree = generator.between(2..=32);
-        let record = sample::record(&mut generator, p, degree);
-        let field = reference_decoder::field::Field::new(p).unwrap();
-        assert!(has_accepted_form(field, degree, &record));
+        let record = sample::record(&mut generator, first, degree);
+        assert!(has_accepted_form(
+            Rule::new(first).unwrap(),
+            degree,
+            &record
+        ));
     }
 }
 
@@ -152,7 +181,11 @@ fn encodable_codes_are_accepted_and_spread_over_their_ranges() {
             assert!(size.columns.contains(&code.n) && code.m <= *size.checks.end());
             let degrees = code.checks.iter().map(|check| check.columns.len());
             let edges = degrees.clone().sum();
-            met.extend([("p", usize::from(code.p)), ("N", code.n), ("M", code.m)]);
+            met.extend([
+                ("first", usize::from(code.first)),
+                ("N", code.n),
+                ("M", code.m),
+            ]);
             met.extend([("N - M", code.n - code.m), ("edges", edges)]);
             met.extend(degrees.map(|degree| ("degree", degree)));
             let message = sample::message(&mut generator, &code);
@@ -165,7 +198,8 @@ fn encodable_codes_are_accepted_and_spread_over_their_ranges() {
     for bound in most.into_iter().chain(least) {
         assert!(met.contains(&bound), "{bound:?}");
     }
-    assert!((2..=6).all(|p| met.contains(&("p", p))));
+    let mut first_bytes = (0x02..=0x06).chain(0x22..=0x26);
+    assert!(first_bytes.all(|first| met.contains(&("first", first))));
     assert!((2..=32).all(|degree| met.contains(&("degree", degree))));
 }
 

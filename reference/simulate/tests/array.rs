@@ -48,7 +48,7 @@ fn the_code_line_is_accepted() {
     let code = array::code();
     let read = code_line(&code.line(8, 15)).unwrap();
     assert_eq!(
-        (read.p, read.n, read.m, read.g, read.limit),
+        (read.first, read.n, read.m, read.g, read.limit),
         (5, 248, 124, 8, 15)
     );
     assert_eq!(read.frame_length(), code.frame_length());

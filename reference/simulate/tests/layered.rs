@@ -4,9 +4,8 @@
 mod common;
 
 use reference_decoder::check::Messages;
-use reference_decoder::field::Field;
 use reference_decoder::sample::{self, Generator, Size, Style};
-use reference_decoder::{decode, Outcome as Decoded};
+use reference_decoder::{decode, Outcome as Decoded, Rule};
 use simulate::decoder::{Decoder, Outcome};
 use simulate::layered::{CheckRule, Layered};
 use simulate::library::Library;
@@ -17,9 +16,9 @@ struct Document01;
 
 impl CheckRule for Document01 {
     fn send(&mut self, q: usize, terms: &[u8], brought: &[u8], sent: &mut [u8]) {
-        let field = Field::new(q.trailing_zeros() as u8).unwrap();
+        let rule = Rule::new(q.trailing_zeros() as u8).unwrap();
         let weights: Vec<u8> = terms.chunks(q).map(|terms| terms[1]).collect();
-        let messages = Messages::new(field, &weights, brought);
+        let messages = Messages::new(rule, &weights, brought);
         sent.copy_from_slice(&messages.sent.concat());
     }
 }

@@ -44,7 +44,8 @@ fn two_deviations_in_one_column_are_no_path() {
 fn renamed_symbols_are_sent_renamed() {
     let mut generator = Generator::new(1);
     for _ in 0..500 {
-        let check = sample::check(&mut generator, 2..=6, 3..=8, Style::Uniform);
+        let p = generator.byte(2..=6);
+        let check = sample::check(&mut generator, p, 3..=8, Style::Uniform);
         let q = check.q();
         // Without ties the decisions move with the symbols.
         let mut costs = check.costs.clone();
@@ -64,7 +65,7 @@ fn renamed_symbols_are_sent_renamed() {
                 .collect::<Vec<u8>>()
         };
         // The weighted sum of what is added to the other columns, by the weight of this one.
-        let field = Field::new(check.p);
+        let field = Field::new(p);
         let products = check.weights.iter().zip(&added);
         let products = products.map(|(&weight, &added)| field.product(weight, added as u8));
         let products: Vec<u8> = products.collect();
@@ -73,8 +74,8 @@ fn renamed_symbols_are_sent_renamed() {
         let moved = moved.map(|(&own, &weight)| field.product(total ^ own, field.inverse(weight)));
         let moved: Vec<usize> = moved.map(usize::from).collect();
 
-        let plain = sent(check.p, &check.weights, &costs);
-        let after = sent(check.p, &check.weights, &renamed(&costs, &added));
+        let plain = sent(p, &check.weights, &costs);
+        let after = sent(p, &check.weights, &renamed(&costs, &added));
         assert_eq!(after, renamed(&plain, &moved));
     }
 }

@@ -1,5 +1,6 @@
 //! `check`.
 
+use reference_decoder::record;
 use reference_decoder::sample::{self, CheckSample, Generator, Style};
 
 use super::{
@@ -40,7 +41,7 @@ fn expected() -> Vec<Class> {
 
 fn call(generator: &mut Generator, tally: &mut Tally) -> Result<(), Difference> {
     let accepted = accepted(generator);
-    let needed = accepted.degree() + 5 * (accepted.q() - 1);
+    let needed = record::length(accepted.rule(), accepted.degree());
     let input = if generator.once_in(2) {
         sample::damaged_check(generator, &accepted)
     } else {
@@ -52,20 +53,20 @@ fn call(generator: &mut Generator, tally: &mut Tally) -> Result<(), Difference> 
         length_enough(generator, needed)
     };
 
-    let p = input.p;
+    let first = input.first;
     let weights = Lent::holding(generator, &input.weights);
     let costs = Lent::holding(generator, &input.costs);
     let (weights_lent, costs_lent) = (weights.clone(), costs.clone());
     let mut record = Lent::<u8>::to_fill(generator, length);
     let mut record_expected = record.clone();
     let expected = of_reference(reference_decoder::check(
-        p,
+        first,
         weights.slice(),
         costs.slice(),
         record_expected.slice_mut(),
     ));
     let answer = of_library(petsivola::check(
-        p,
+        first,
         weights_lent.slice(),
         costs_lent.slice(),
         record.slice_mut(),
@@ -83,7 +84,7 @@ fn call(generator: &mut Generator, tally: &mut Tally) -> Result<(), Difference> 
     comparison.lent("costs", &costs_lent, &costs);
     comparison.end("check", || {
         Inputs::default()
-            .number("p", usize::from(p))
+            .number("first byte", usize::from(first))
             .bytes("weights", weights.slice())
             .bytes("costs", costs.slice())
             .number("record length", length)
@@ -95,7 +96,8 @@ fn call(generator: &mut Generator, tally: &mut Tally) -> Result<(), Difference> 
 fn accepted(generator: &mut Generator) -> CheckSample {
     let degree = degrees(generator);
     let style = generator.one_of(&Style::ALL);
-    let mut sample = sample::check(generator, 2..=6, degree, style);
+    let first = sample::first_byte(generator, 2..=6, 2..=3);
+    let mut sample = sample::check(generator, first, degree, style);
     if generator.once_in(3) {
         let q = sample.q();
         for column in sample.costs.chunks_mut(q) {
@@ -108,13 +110,14 @@ fn accepted(generator: &mut Generator) -> CheckSample {
 
 /// Counts what an accepted check and its record show.
 fn see(tally: &mut Tally, input: &CheckSample, record: &[u8]) {
-    tally.seen(SIZES[usize::from(input.p) - 2], true);
+    let rule = input.rule();
+    tally.seen(SIZES[usize::from(rule.field().p()) - 2], true);
     tally.seen(DEGREE_2, input.degree() == 2);
     tally.seen(CHEAPER_THAN_E, cheaper_than_extra(input, record));
     tally.seen(DEGREE_3, input.degree() == 3);
     tally.seen(DEGREE_32, input.degree() == 32);
-    let entries = record[input.degree()..].chunks_exact(5);
-    let used = |entry: &[u8]| [entry[1], entry[3]].iter().filter(|&&n| n != 0xFF).count();
+    let entries = record[input.degree()..].chunks_exact(1 + 2 * rule.deviations());
+    let used = |entry: &[u8]| entry[1..].iter().step_by(2).filter(|&&n| n != 0xFF).count();
     for (pairs, name) in PAIRS.into_iter().enumerate() {
         tally.seen(name, entries.clone().any(|entry| used(entry) == pairs));
     }
@@ -127,17 +130,15 @@ fn cheaper_than_extra(input: &CheckSample, record: &[u8]) -> bool {
     let (&[first, second], &[shift, other_shift]) = (&input.weights[..], &record[..2]) else {
         return false;
     };
-    let term = |weight, x: usize| {
-        let product = reference_decoder::product(input.p, weight, x as u8);
-        product.expect("a weight and a symbol")
-    };
+    let term = |weight, x: usize| input.rule().field().product(weight, x as u8);
+    let entry_length = 1 + 2 * input.rule().deviations();
     let (costs, other_costs) = input.costs.split_at(input.q());
     (0..input.q()).any(|x| {
         (0..input.q()).any(|y| {
             // The shifts of two columns add up to the sum of all h_k times z_k.
             let a = term(first, x) ^ term(second, y) ^ shift ^ other_shift;
             let cost = u16::from(costs[x]) + u16::from(other_costs[y]);
-            a != 0 && cost < u16::from(record[2 + 5 * (usize::from(a) - 1)])
+            a != 0 && cost < u16::from(record[2 + entry_length * (usize::from(a) - 1)])
         })
     })
 }
@@ -150,7 +151,7 @@ mod tests {
     fn a_choice_for_both_columns_may_be_cheaper_than_e() {
         let cheaper = |costs: &str, record: &str| {
             let input = CheckSample {
-                p: 2,
+                first: 2,
                 weights: vec![1, 1],
                 costs: sample::bytes(costs),
             };

@@ -47,6 +47,7 @@ fn expected() -> Vec<Class> {
 /// Codes of a few columns that may take every iteration there can be.
 const LONG: Size = Size {
     p: 2..=3,
+    k: 2..=3,
     columns: 6..=10,
     checks: 3..=6,
     degree: 2..=5,
@@ -249,7 +250,7 @@ fn see(tally: &mut Tally, code: &Code, t: u8, costs: &[u16]) {
         return;
     }
     let degrees = code.checks.iter().map(|check| check.weights.len());
-    tally.seen(SIZES[usize::from(code.p) - 2], true);
+    tally.seen(SIZES[usize::from(code.field().p()) - 2], true);
     tally.seen(LEAST_COLUMNS, code.n == 2);
     tally.seen(LEAST_DEGREE, degrees.clone().min() == Some(2));
     tally.seen(MOST_COLUMNS, code.n == 256);

@@ -209,7 +209,7 @@ fn see_miss(tally: &mut Tally, input: &Input, code: &Code, short: bool) {
 /// Counts what an accepted encoding shows.
 fn see_accepted(tally: &mut Tally, code: &Code, length: usize) {
     let degrees = code.checks.iter().map(|check| check.weights.len());
-    tally.seen(SIZES[usize::from(code.p) - 2], true);
+    tally.seen(SIZES[usize::from(code.field().p()) - 2], true);
     tally.seen(LEAST_COLUMNS, code.n == 2);
     tally.seen(LEAST_CHECKS, code.m == 1);
     tally.seen(LEAST_MESSAGE, code.n == code.m + 1);

@@ -2,7 +2,9 @@
 
 use std::collections::BTreeSet;
 
+use reference_decoder::record;
 use reference_decoder::sample::{self, CheckSample, Generator, Style};
+use reference_decoder::Rule;
 
 use super::{
     accepted_or_refused, class_of, degrees, of_library, of_reference, see_refused, EntryPoint,
@@ -54,9 +56,9 @@ fn expected() -> Vec<Class> {
 
 fn call(generator: &mut Generator, tally: &mut Tally) -> Result<(), Difference> {
     let (mut input, mut record) = accepted(generator);
-    let (q, degree) = (input.q(), input.degree());
+    let (rule, q, degree) = (input.rule(), input.q(), input.degree());
     if generator.once_in(2) {
-        record = sample::damaged_record(generator, degree, &record);
+        record = sample::damaged_record(generator, rule, degree, &record);
     }
     if generator.once_in(4) {
         input = sample::damaged_check(generator, &input);
@@ -67,20 +69,20 @@ fn call(generator: &mut Generator, tally: &mut Tally) -> Result<(), Difference> 
         length_enough(generator, degree * q)
     };
 
-    let p = input.p;
+    let first = input.first;
     let weights = Lent::holding(generator, &input.weights);
     let record = Lent::holding(generator, &record);
     let (weights_lent, record_lent) = (weights.clone(), record.clone());
     let mut out = Lent::<u8>::to_fill(generator, length);
     let mut out_expected = out.clone();
     let expected = of_reference(reference_decoder::expand(
-        p,
+        first,
         weights.slice(),
         record.slice(),
         out_expected.slice_mut(),
     ));
     let answer = of_library(petsivola::expand(
-        p,
+        first,
         weights_lent.slice(),
         record_lent.slice(),
         out.slice_mut(),
@@ -89,13 +91,13 @@ fn call(generator: &mut Generator, tally: &mut Tally) -> Result<(), Difference> 
     tally.answer(class_of(&expected));
     see_refused(tally, input.degree(), expected == Err(9));
     if expected == Err(16) {
-        let causes = causes(input.q(), input.degree(), record.slice());
+        let causes = causes(input.rule(), input.degree(), record.slice());
         for cause in CAUSES {
             tally.seen(cause, causes == BTreeSet::from([cause]));
         }
     }
     if expected.is_ok() {
-        see(tally, input.degree(), record.slice());
+        see(tally, &input, record.slice());
     }
     let mut comparison = Comparison::default();
     comparison.answers(&answer, &expected);
@@ -104,7 +106,7 @@ fn call(generator: &mut Generator, tally: &mut Tally) -> Result<(), Difference> 
     comparison.lent("record", &record_lent, &record);
     comparison.end("expand", || {
         Inputs::default()
-            .number("p", usize::from(p))
+            .number("first byte", usize::from(first))
             .bytes("weights", weights.slice())
             .bytes("record", record.slice())
             .number("out length", length)
@@ -114,39 +116,42 @@ fn call(generator: &mut Generator, tally: &mut Tally) -> Result<(), Difference> 
 /// Accepted weights (the sample has no costs) and a record of accepted form: written by a check, or
 /// arbitrary.
 fn accepted(generator: &mut Generator) -> (CheckSample, Vec<u8>) {
+    let first = sample::first_byte(generator, 2..=6, 2..=3);
     let degree = degrees(generator);
     if generator.once_in(8) {
         let style = generator.one_of(&Style::ALL);
-        let mut sample = sample::check(generator, 2..=6, degree, style);
-        let mut record = vec![0; sample.degree() + 5 * (sample.q() - 1)];
-        reference_decoder::check(sample.p, &sample.weights, &sample.costs, &mut record)
+        let mut sample = sample::check(generator, first, degree, style);
+        let mut record = vec![0; record::length(sample.rule(), sample.degree())];
+        reference_decoder::check(first, &sample.weights, &sample.costs, &mut record)
             .expect("an accepted check");
         sample.costs.clear();
         (sample, record)
     } else {
-        let p = generator.byte(2..=6);
-        let degree = generator.between(degree);
-        let sample = CheckSample {
-            p,
-            weights: sample::weights(generator, p, degree),
+        let mut sample = CheckSample {
+            first,
+            weights: Vec::new(),
             costs: Vec::new(),
         };
-        (sample, sample::record(generator, p, degree))
+        let p = sample.rule().field().p();
+        let degree = generator.between(degree);
+        sample.weights = sample::weights(generator, p, degree);
+        (sample, sample::record(generator, first, degree))
     }
 }
 
 /// Counts what an accepted expansion shows.
-fn see(tally: &mut Tally, degree: usize, record: &[u8]) {
+fn see(tally: &mut Tally, input: &CheckSample, record: &[u8]) {
+    let degree = input.degree();
     tally.seen(DEGREE_2, degree == 2);
     tally.seen(DEGREE_32, degree == 32);
-    let mut entries = record[degree..].chunks_exact(5);
+    let mut entries = record[degree..].chunks_exact(1 + 2 * input.rule().deviations());
     let both = entries.any(|entry| entry[1] != 0xFF && entry[3] != 0xFF);
     tally.seen(BOTH_COLUMNS, degree == 2 && both);
 }
 
 /// Every cause of 16 that a record has.
-fn causes(q: usize, degree: usize, record: &[u8]) -> BTreeSet<&'static str> {
-    if record.len() != degree + 5 * (q - 1) {
+fn causes(rule: Rule, degree: usize, record: &[u8]) -> BTreeSet<&'static str> {
+    if record.len() != record::length(rule, degree) {
         return BTreeSet::from([LENGTH]);
     }
     let mut causes = BTreeSet::new();
@@ -156,16 +161,22 @@ fn causes(q: usize, degree: usize, record: &[u8]) -> BTreeSet<&'static str> {
         }
     };
     let (shifts, entries) = record.split_at(degree);
-    cause(SHIFT, shifts.iter().any(|&shift| usize::from(shift) >= q));
-    for entry in entries.chunks_exact(5) {
-        let unused = [entry[1], entry[3]].map(|column| column == 0xFF);
-        for (pair, unused) in entry[1..].chunks_exact(2).zip(unused) {
+    let mut shifts = shifts.iter();
+    cause(SHIFT, shifts.any(|&shift| !rule.field().contains(shift)));
+    for entry in entries.chunks_exact(1 + 2 * rule.deviations()) {
+        let (pairs, _) = entry[1..].as_chunks();
+        let is_unused = |pair: &[u8; 2]| pair[0] == 0xFF;
+        for pair in pairs {
+            let unused = is_unused(pair);
             cause(NOT_FF_00, unused && pair[1] != 0);
             cause(NOT_BELOW_D, !unused && usize::from(pair[0]) >= degree);
             cause(NOT_ABOVE_E, !unused && pair[1] <= entry[0]);
         }
-        cause(BEFORE_USED, unused == [true, false]);
-        cause(NOT_RISING, unused == [false, false] && entry[3] <= entry[1]);
+        let pairs = pairs.windows(2).map(|pair| (&pair[0], &pair[1]));
+        for (before, after) in pairs.filter(|(_, after)| !is_unused(after)) {
+            cause(BEFORE_USED, is_unused(before));
+            cause(NOT_RISING, !is_unused(before) && after[0] <= before[0]);
+        }
     }
     causes
 }
@@ -176,25 +187,27 @@ mod tests {
 
     /// A record of accepted form for q = 4 and degree 3, one change in it, and the causes then.
     fn causes_with(place: usize, value: u8) -> Vec<&'static str> {
+        let rule = Rule::new(2).expect("an accepted first byte");
         let mut record = sample::bytes("000102 05 0006 0109 05 01FF FF00 05 FF00 FF00");
-        assert_eq!(causes(4, 3, &record), BTreeSet::new());
+        assert_eq!(causes(rule, 3, &record), BTreeSet::new());
         record[place] = value;
-        causes(4, 3, &record).into_iter().collect()
+        causes(rule, 3, &record).into_iter().collect()
     }
 
     #[test]
     fn each_cause_alone() {
-        assert_eq!(causes(4, 3, &[0; 17]), BTreeSet::from([LENGTH]));
+        let rule = Rule::new(2).expect("an accepted first byte");
+        assert_eq!(causes(rule, 3, &[0; 17]), BTreeSet::from([LENGTH]));
         assert_eq!(causes_with(0, 4), [SHIFT]);
         assert_eq!(causes_with(12, 1), [NOT_FF_00]);
         assert_eq!(causes_with(6, 0), [NOT_RISING]);
         assert_eq!(causes_with(6, 3), [NOT_BELOW_D]);
         assert_eq!(causes_with(5, 5), [NOT_ABOVE_E]);
         let mut record = sample::bytes("000102 05 FF00 0109 05 FF00 FF00 05 FF00 FF00");
-        assert_eq!(causes(4, 3, &record), BTreeSet::from([BEFORE_USED]));
+        assert_eq!(causes(rule, 3, &record), BTreeSet::from([BEFORE_USED]));
         record[5] = 1;
         assert_eq!(
-            causes(4, 3, &record),
+            causes(rule, 3, &record),
             BTreeSet::from([BEFORE_USED, NOT_FF_00])
         );
     }

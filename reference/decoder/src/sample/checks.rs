@@ -1,14 +1,15 @@
-//! Single checks and records.
+//! First bytes, single checks and records.
 
 use std::ops::RangeInclusive;
 
 use super::{costs, Generator, Style};
+use crate::rule::Rule;
 
 /// The input of one accepted check.
 #[derive(Clone, Debug, PartialEq, Eq)]
 pub struct CheckSample {
-    /// p.
-    pub p: u8,
+    /// The first byte, as a code line has it.
+    pub first: u8,
     /// The weight of each column; their number is the degree.
     pub weights: Vec<u8>,
     /// The costs, column by column.
@@ -16,9 +17,14 @@ pub struct CheckSample {
 }
 
 impl CheckSample {
-    /// q, for an accepted p.
+    /// The rule of an accepted first byte.
+    pub fn rule(&self) -> Rule {
+        Rule::new(self.first).expect("an accepted first byte")
+    }
+
+    /// q, for an accepted first byte.
     pub fn q(&self) -> usize {
-        1 << self.p
+        self.rule().field().size()
     }
 
     /// d.
@@ -27,19 +33,30 @@ impl CheckSample {
     }
 }
 
-/// An accepted check with p and degree in the ranges.
-pub fn check(
+/// An accepted first byte with p and k in the ranges.
+pub fn first_byte(
     generator: &mut Generator,
     p: RangeInclusive<u8>,
+    k: RangeInclusive<usize>,
+) -> u8 {
+    let fits = |rule: Rule| p.contains(&rule.field().p()) && k.contains(&rule.deviations());
+    let bytes = (0..=u8::MAX).filter(|&first| Rule::new(first).is_ok_and(fits));
+    generator.one_of(&bytes.collect::<Vec<u8>>())
+}
+
+/// An accepted check with this first byte and a degree in the range.
+pub fn check(
+    generator: &mut Generator,
+    first: u8,
     degree: RangeInclusive<usize>,
     style: Style,
 ) -> CheckSample {
-    let p = generator.byte(p);
+    let field = Rule::new(first).expect("an accepted first byte").field();
     let degree = generator.between(degree);
     CheckSample {
-        p,
-        weights: weights(generator, p, degree),
-        costs: costs::columns(generator, 1 << p, degree, style),
+        first,
+        weights: weights(generator, field.p(), degree),
+        costs: costs::columns(generator, field.size(), degree, style),
     }
 }
 
@@ -50,18 +67,23 @@ pub fn weights(generator: &mut Generator, p: u8, degree: usize) -> Vec<u8> {
 }
 
 /// A record of accepted form; most such records are written by no check.
-pub fn record(generator: &mut Generator, p: u8, degree: usize) -> Vec<u8> {
-    let greatest = (1 << p) - 1;
+pub fn record(generator: &mut Generator, first: u8, degree: usize) -> Vec<u8> {
+    let rule = Rule::new(first).expect("an accepted first byte");
+    let most = rule.deviations().min(degree);
+    let greatest = (1 << rule.field().p()) - 1;
     let mut record: Vec<u8> = (0..degree).map(|_| generator.byte(0..=greatest)).collect();
     for _ in 1..=greatest {
         let extra = generator.byte(0..=255);
-        let pairs = if extra == 255 { 0 } else { generator.below(3) };
+        let pairs = match extra {
+            255 => 0,
+            _ => generator.between(0..=most),
+        };
         record.push(extra);
         for column in generator.rising(pairs, degree) {
             record.push(u8::try_from(column).expect("a column is below 32"));
             record.push(generator.byte(extra + 1..=255));
         }
-        for _ in pairs..2 {
+        for _ in pairs..rule.deviations() {
             record.extend([0xFF, 0]);
         }
     }

@@ -6,6 +6,7 @@ use super::{checks, costs, Generator, Style};
 use crate::check::DEGREES;
 use crate::code::{CheckNode, Code, MOST_EDGES, MOST_SCALE};
 use crate::field::{sum, Field};
+use crate::rule::Rule;
 
 /// The ranges from which a code's numbers are taken. A check takes fewer edges than its range says
 /// where the columns or the edge total leave no room for them.
@@ -13,6 +14,8 @@ use crate::field::{sum, Field};
 pub struct Size {
     /// p.
     pub p: RangeInclusive<u8>,
+    /// k.
+    pub k: RangeInclusive<usize>,
     /// N, at least 2.
     pub columns: RangeInclusive<usize>,
     /// M.
@@ -27,6 +30,7 @@ impl Size {
     /// Codes of a few columns, for many runs.
     pub const SMALL: Size = Size {
         p: 2..=3,
+        k: 2..=3,
         columns: 2..=8,
         checks: 1..=4,
         degree: 2..=5,
@@ -35,6 +39,7 @@ impl Size {
     /// Codes of every p on which a decoding is still short.
     pub const MEDIUM: Size = Size {
         p: 2..=6,
+        k: 2..=3,
         columns: 8..=48,
         checks: 2..=16,
         degree: 2..=8,
@@ -43,6 +48,7 @@ impl Size {
     /// Every accepted size. A decoding may take up to 255 iterations over 1,024 edges.
     pub const FULL: Size = Size {
         p: 2..=6,
+        k: 2..=3,
         columns: 2..=256,
         checks: 1..=128,
         degree: 2..=32,
@@ -51,6 +57,7 @@ impl Size {
     /// The limits of p, N, M and the edge total together.
     pub const MOST_CHECKS: Size = Size {
         p: 6..=6,
+        k: 2..=3,
         columns: 256..=256,
         checks: 128..=128,
         degree: 8..=8,
@@ -59,6 +66,7 @@ impl Size {
     /// The limits of p, N, the degree and the edge total together.
     pub const MOST_DEGREE: Size = Size {
         p: 6..=6,
+        k: 2..=3,
         columns: 256..=256,
         checks: 32..=32,
         degree: 32..=32,
@@ -77,10 +85,11 @@ pub struct CodeSample {
 
 /// An accepted code line, and a word of its code, with numbers in the ranges of the size.
 pub fn code(generator: &mut Generator, size: &Size) -> CodeSample {
-    let p = generator.byte(size.p.clone());
+    let first = checks::first_byte(generator, size.p.clone(), size.k.clone());
+    let field = Rule::new(first).expect("an accepted first byte").field();
     let n = generator.between(size.columns.clone());
     let m = generator.between(size.checks.clone());
-    let word = word(generator, p, n);
+    let word = word(generator, field, n);
     let g = generator.byte(1..=MOST_SCALE);
     let limit = generator.byte(size.limit.clone());
     let mut checks = Vec::new();
@@ -91,11 +100,11 @@ pub fn code(generator: &mut Generator, size: &Size) -> CodeSample {
         let degree = generator.between(most.min(*size.degree.start())..=most);
         edges_left -= degree;
         let columns = generator.rising(degree, n);
-        let weights = weights_for_word(generator, p, &columns, &word);
+        let weights = weights_for_word(generator, field, &columns, &word);
         checks.push(CheckNode { columns, weights });
     }
     let code = Code {
-        p,
+        first,
         n,
         m,
         g,
@@ -123,7 +132,7 @@ pub fn noisy_frame(
     style: Style,
 ) -> Vec<u8> {
     let q = code.field().size();
-    let greatest = (1 << code.p) - 1;
+    let greatest = (1 << code.field().p()) - 1;
     let wrong_columns = generator.rising(wrong.min(code.n), code.n);
     let mut frame = Vec::new();
     for (n, &symbol) in word.iter().enumerate() {
@@ -141,8 +150,8 @@ pub fn noisy_frame(
 }
 
 /// All 0, or all different from 0: for both, some weights satisfy a check on any two columns or more.
-fn word(generator: &mut Generator, p: u8, n: usize) -> Vec<u8> {
-    let greatest = (1 << p) - 1;
+fn word(generator: &mut Generator, field: Field, n: usize) -> Vec<u8> {
+    let greatest = (1 << field.p()) - 1;
     let zero = generator.once_in(4);
     let symbol = |_| {
         if zero {
@@ -155,10 +164,14 @@ fn word(generator: &mut Generator, p: u8, n: usize) -> Vec<u8> {
 }
 
 /// Weights with which the word satisfies the check on these columns; about one draw in q does.
-fn weights_for_word(generator: &mut Generator, p: u8, columns: &[usize], word: &[u8]) -> Vec<u8> {
-    let field = Field::new(p).expect("an accepted p");
+fn weights_for_word(
+    generator: &mut Generator,
+    field: Field,
+    columns: &[usize],
+    word: &[u8],
+) -> Vec<u8> {
     loop {
-        let weights = checks::weights(generator, p, columns.len());
+        let weights = checks::weights(generator, field.p(), columns.len());
         let terms = columns
             .iter()
             .zip(&weights)

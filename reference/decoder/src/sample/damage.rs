@@ -4,6 +4,7 @@
 
 use super::{CheckSample, Generator};
 use crate::code::{code_line, EDGE_LENGTH, HEADER_LENGTH};
+use crate::rule::Rule;
 
 /// Applies `change` once, and once in three times a second time.
 fn damaged<T: Clone>(
@@ -41,13 +42,23 @@ fn replace(generator: &mut Generator, bytes: &mut [u8], value: u8) {
     }
 }
 
+/// A first byte that is refused by 6, or now and then accepted: those next to the accepted ones, those
+/// with p in the low digit and a wrong high digit, and every other.
+fn damaged_first_byte(generator: &mut Generator) -> u8 {
+    match generator.below(3) {
+        0 => generator.one_of(&[0x00, 0x01, 0x07, 0x08, 0x20, 0x21, 0x27, 0x28, 0xFF]),
+        1 => 16 * generator.byte(0..=15) + generator.byte(2..=6),
+        _ => generator.byte(0..=255),
+    }
+}
+
 /// A code line with changes that aim at each of the refusals 5 to 11. A second change, to a line
 /// that is no longer accepted, is at any place.
 pub fn damaged_code(generator: &mut Generator, line: &[u8]) -> Vec<u8> {
     damaged(generator, &line.to_vec(), |generator, line| {
         let kind = generator.below(7);
         match (kind, code_line(line)) {
-            (0, Ok(_)) => line[0] = generator.one_of(&[0, 1, 7, 8, 255]),
+            (0, Ok(_)) => line[0] = damaged_first_byte(generator),
             (1, Ok(_)) => match generator.below(3) {
                 0 => line[1..3].copy_from_slice(&[0, 0]),
                 1 => line[1..3].copy_from_slice(&[1, 1]),
@@ -108,7 +119,7 @@ pub fn damaged_check(generator: &mut Generator, sample: &CheckSample) -> CheckSa
     let q = sample.q();
     damaged(generator, sample, |generator, sample| {
         match generator.below(5) {
-            0 => sample.p = generator.one_of(&[0, 1, 2, 6, 7, 255]),
+            0 => sample.first = damaged_first_byte(generator),
             1 => {
                 // 256 and 258 would be 0 and 2 in a byte.
                 let degree = generator.one_of(&[0, 1, 2, 3, 32, 33, 256, 258]);
@@ -127,24 +138,36 @@ pub fn damaged_check(generator: &mut Generator, sample: &CheckSample) -> CheckSa
     })
 }
 
-/// A record with changes that aim at each part of 16.
-pub fn damaged_record(generator: &mut Generator, degree: usize, record: &[u8]) -> Vec<u8> {
+/// A record of the rule with changes that aim at each part of 16.
+pub fn damaged_record(
+    generator: &mut Generator,
+    rule: Rule,
+    degree: usize,
+    record: &[u8],
+) -> Vec<u8> {
+    let k = rule.deviations();
     damaged(generator, &record.to_vec(), |generator, record| {
-        let entries = record.len().saturating_sub(degree) / 5;
+        let entries = record.len().saturating_sub(degree) / (1 + 2 * k);
         if entries == 0 || generator.once_in(4) {
             return change_bytes(generator, record);
         }
-        let entry = degree + 5 * generator.below(entries);
-        let pair = entry + 1 + 2 * generator.below(2);
-        match generator.below(6) {
+        let entry = degree + (1 + 2 * k) * generator.below(entries);
+        let pair = entry + 1 + 2 * generator.below(k);
+        match generator.below(7) {
             0 => record[generator.below(degree)] = generator.one_of(&[4, 8, 16, 32, 64, 255]),
             1 => record[pair] = generator.byte(0..=33),
             2 => record[pair] = 0xFF,
             3 => record[pair + 1] = generator.byte(0..=255),
             4 => record[pair + 1] = record[entry],
+            5 => {
+                // The length that a record of another k has.
+                let length = degree + generator.one_of(&[3, 5, 7, 9]) * (rule.field().size() - 1);
+                record.resize(length, 0);
+            }
             _ => {
-                record.swap(entry + 1, entry + 3);
-                record.swap(entry + 2, entry + 4);
+                let other = entry + 1 + 2 * generator.below(k);
+                record.swap(pair, other);
+                record.swap(pair + 1, other + 1);
             }
         }
     })

@@ -4,12 +4,17 @@
 use super::{checks, Generator, Size};
 use crate::check::DEGREES;
 use crate::code::{CheckNode, Code, MOST_COLUMNS, MOST_EDGES, MOST_SCALE};
+use crate::rule::Rule;
 
 /// An accepted code "where N exceeds M and check m, counted from 0, contains column N - M + m and no
 /// higher one", with numbers in the ranges of the size. There are fewer checks than the range says
 /// where N leaves no room for them.
 pub fn encodable_code(generator: &mut Generator, size: &Size) -> Code {
-    let p = generator.byte(size.p.clone());
+    let first = checks::first_byte(generator, size.p.clone(), size.k.clone());
+    let p = Rule::new(first)
+        .expect("an accepted first byte")
+        .field()
+        .p();
     let n = generator.between(size.columns.clone());
     let most = (n - 1).min(*size.checks.end());
     let m = generator.between(most.min(*size.checks.start())..=most);
@@ -24,7 +29,7 @@ pub fn encodable_code(generator: &mut Generator, size: &Size) -> Code {
     };
     let checks = (0..m).map(&mut check).collect();
     Code {
-        p,
+        first,
         n,
         m,
         g: generator.byte(1..=MOST_SCALE),
@@ -82,7 +87,7 @@ pub fn near_miss(generator: &mut Generator, code: &Code, miss: Miss) -> Option<C
             let edges: usize = code.checks.iter().map(|check| check.columns.len()).sum();
             let place = generator.below(code.m - 1);
             let higher = generator.between(first_parity + place + 1..=code.n - 1);
-            let weight = checks::weights(generator, code.p, 1);
+            let weight = checks::weights(generator, code.field().p(), 1);
             let check = &mut code.checks[place];
             // Where there is no room for an edge more, the lowest one, which is not its own, goes.
             if edges == MOST_EDGES || check.columns.len() == *DEGREES.end() {
@@ -129,11 +134,12 @@ pub fn near_miss(generator: &mut Generator, code: &Code, miss: Miss) -> Option<C
 /// The code with so many columns, at most M and at least 2: check m contains column N - M + m, or 1
 /// where that is less, and lower ones.
 fn narrowed(generator: &mut Generator, mut code: Code, n: usize) -> Code {
+    let p = code.field().p();
     code.n = n;
     for (place, check) in code.checks.iter_mut().enumerate() {
         let own = (n + place).saturating_sub(code.m).max(1);
         let degree = check.columns.len().min(own + 1);
-        *check = check_up_to(generator, code.p, degree, own);
+        *check = check_up_to(generator, p, degree, own);
     }
     code
 }
@@ -143,7 +149,7 @@ pub fn message(generator: &mut Generator, code: &Code) -> Vec<u8> {
     let greatest = if generator.once_in(16) {
         0
     } else {
-        (1 << code.p) - 1
+        (1 << code.field().p()) - 1
     };
     let symbols = 0..code.n - code.m;
     symbols.map(|_| generator.byte(0..=greatest)).collect()

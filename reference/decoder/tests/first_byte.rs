@@ -1,0 +1,165 @@
+//! Document 02, §3: "a first code byte of 22 to 26 hexadecimal means k = 3 with p in its low digit.
+//! Check and expansion take this byte in place of p." "Refusal 6 covers the new first byte": every byte
+//! there is, in each call that takes one.
+
+use reference_decoder::{
+    check, code_line, decode, encode, expand, product, Outcome, Refusal, Rule,
+};
+
+/// p and k of a first byte, none where it is refused by 6.
+fn meaning(first: u8) -> Option<(u8, usize)> {
+    match first {
+        0x02..=0x06 => Some((first, 2)),
+        0x22..=0x26 => Some((first - 0x20, 3)),
+        _ => None,
+    }
+}
+
+/// Every byte, with q and the bytes of a record for each a where it is accepted.
+fn first_bytes() -> impl Iterator<Item = (u8, Option<(usize, usize)>)> {
+    (0..=u8::MAX).map(|first| {
+        let sizes = meaning(first).map(|(p, k)| (1 << p, 1 + 2 * k));
+        (first, sizes)
+    })
+}
+
+/// One check on three columns, weights 1, scale 16, one iteration.
+fn code(first: u8) -> Vec<u8> {
+    vec![first, 0, 3, 1, 16, 1, 3, 0, 0, 1, 0, 1, 1, 0, 2, 1]
+}
+
+#[test]
+fn the_rule() {
+    for first in 0..=u8::MAX {
+        let rule = Rule::new(first);
+        let found = rule.map(|rule| (rule.field().p(), rule.deviations()));
+        assert_eq!(found, meaning(first).ok_or(Refusal::FieldSize));
+    }
+    let accepted = (0..=u8::MAX).filter(|&first| meaning(first).is_some());
+    assert_eq!(accepted.count(), 10);
+}
+
+#[test]
+fn in_check() {
+    for (first, sizes) in first_bytes() {
+        let (q, entry) = sizes.unwrap_or((4, 5));
+        let length = 3 + entry * (q - 1);
+        let mut record = vec![0xA5; length + 1];
+        let answer = check(first, &[1; 3], &vec![0; 3 * q], &mut record);
+        match sizes {
+            Some(_) => {
+                assert_eq!(answer, Ok(length));
+                assert_eq!(record[length], 0xA5);
+                let short = check(first, &[1; 3], &vec![0; 3 * q], &mut record[..length - 1]);
+                assert_eq!(short, Err(Refusal::ShortStore));
+            }
+            None => {
+                assert_eq!(answer, Err(Refusal::FieldSize));
+                assert_eq!(record, vec![0xA5; length + 1]);
+                // Before 9, and with all that follows it.
+                assert_eq!(check(first, &[], &[9], &mut []), Err(Refusal::FieldSize));
+            }
+        }
+    }
+}
+
+#[test]
+fn in_expand() {
+    for (first, sizes) in first_bytes() {
+        let (q, entry) = sizes.unwrap_or((4, 5));
+        let mut group = vec![7];
+        group.extend([0xFF, 0].repeat(entry / 2));
+        let record = [vec![0; 3], group.repeat(q - 1)].concat();
+        let mut out = vec![0xA5; 3 * q + 1];
+        let answer = expand(first, &[1; 3], &record, &mut out);
+        match sizes {
+            Some(_) => {
+                assert_eq!(answer, Ok(3 * q));
+                let column = [vec![0], vec![7; q - 1]].concat();
+                assert_eq!(out, [column.repeat(3), vec![0xA5]].concat());
+                // The length of a record with the other k.
+                let other = 3 + (12 - entry) * (q - 1);
+                let longer = [&record[..], &[0xFF; 200]].concat();
+                let answer = expand(first, &[1; 3], &longer[..other], &mut out);
+                assert_eq!(answer, Err(Refusal::Record));
+            }
+            None => {
+                assert_eq!(answer, Err(Refusal::FieldSize));
+                assert_eq!(out, vec![0xA5; 3 * q + 1]);
+                assert_eq!(expand(first, &[], &[], &mut []), Err(Refusal::FieldSize));
+            }
+        }
+    }
+}
+
+#[test]
+fn in_decode() {
+    for (first, sizes) in first_bytes() {
+        let (q, entry) = sizes.unwrap_or((4, 5));
+        let code = code(first);
+        assert_eq!(code_line(&code).is_ok(), sizes.is_some());
+        // Column 0 decides for 1, the others for 0: not satisfied at the start.
+        let mut frame = vec![9; 3 * q];
+        (frame[1], frame[q], frame[2 * q]) = (0, 0, 0);
+        let length = 3 + entry * (q - 1);
+        let mut buffers = (vec![0xA5; 3], vec![0xA5A5; 3 * q], vec![0xA5; length + 1]);
+        let before = buffers.clone();
+        let (symbols, costs, store) = (&mut buffers.0, &mut buffers.1, &mut buffers.2);
+        let answer = decode(&code, &frame, symbols, costs, store);
+        match sizes {
+            Some(_) => {
+                assert!(matches!(
+                    answer,
+                    Ok(Outcome::Found(1) | Outcome::NotFound(1))
+                ));
+                assert_eq!(store[length], 0xA5);
+                let short = decode(&code, &frame, symbols, costs, &mut store[..length - 1]);
+                assert_eq!(short, Err(Refusal::ShortStore));
+            }
+            None => {
+                assert_eq!(answer, Err(Refusal::FieldSize));
+                assert_eq!(buffers, before);
+            }
+        }
+    }
+}
+
+#[test]
+fn in_encode() {
+    for (first, sizes) in first_bytes() {
+        let mut symbols = [0xA5; 4];
+        let answer = encode(&code(first), &[1, 3], &mut symbols);
+        match sizes {
+            Some(_) => assert_eq!((answer, symbols), (Ok(3), [1, 3, 2, 0xA5])),
+            None => {
+                assert_eq!((answer, symbols), (Err(Refusal::FieldSize), [0xA5; 4]));
+            }
+        }
+    }
+}
+
+/// The product keeps p.
+#[test]
+fn in_product() {
+    for p in 0..=u8::MAX {
+        let expected = match p {
+            2..=6 => Ok(3),
+            _ => Err(Refusal::FieldSize),
+        };
+        assert_eq!(product(p, 1, 3), expected);
+    }
+}
+
+/// 6 stands between 5 and 7.
+#[test]
+fn its_place_in_a_code_line() {
+    for first in [0x00, 0x12, 0x21, 0x27, 0x32, 0x42, 0xFF] {
+        let mut line = code(first);
+        assert_eq!(code_line(&line[..5]), Err(Refusal::CodeBytes));
+        assert_eq!(code_line(&line[..6]), Err(Refusal::FieldSize));
+        line[1] = 2;
+        assert_eq!(code_line(&line), Err(Refusal::FieldSize));
+        line[0] = 0x22;
+        assert_eq!(code_line(&line), Err(Refusal::ColumnsOrChecks));
+    }
+}
