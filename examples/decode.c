@@ -8,16 +8,17 @@
 
 #include "petsivola.h"
 
-/* The code: p = 2, N = 3, M = 1, g = 16, I = 1, and one check on columns 0, 1, 2 with weights 1. */
-enum { P = 2, COLUMNS = 3, CHECKS = 1, EDGES = 3 };
+/* The code: p = 2, k = 2, N = 3, M = 1, g = 16, I = 1, and one check on columns 0, 1, 2 with weights
+ * 1. With FIRST = 0x22, for k = 3, all else below stays as it is. */
+enum { FIRST = 0x02, COLUMNS = 3, CHECKS = 1, EDGES = 3 };
 
 static const uint8_t code[PETSIVOLA_CODE_LENGTH(CHECKS, EDGES)] = {
-    P, 0, COLUMNS, CHECKS, 16, 1,
+    FIRST, 0, COLUMNS, CHECKS, 16, 1,
     3, 0, 0, 1, 0, 1, 1, 0, 2, 1,
 };
 
 /* What the radio received: four costs for each column. */
-static const uint8_t frame[PETSIVOLA_FRAME_LENGTH(P, COLUMNS)] = {
+static const uint8_t frame[PETSIVOLA_FRAME_LENGTH(FIRST, COLUMNS)] = {
     5, 0, 9, 7,
     0, 4, 8, 3,
     0, 6, 2, 10,
@@ -25,8 +26,8 @@ static const uint8_t frame[PETSIVOLA_FRAME_LENGTH(P, COLUMNS)] = {
 
 /* The lent buffers, exactly as long as this code needs them. */
 static uint8_t symbols[COLUMNS];
-static uint16_t costs[PETSIVOLA_FRAME_LENGTH(P, COLUMNS)];
-static uint8_t store[PETSIVOLA_STORE_LENGTH(P, CHECKS, EDGES)];
+static uint16_t costs[PETSIVOLA_FRAME_LENGTH(FIRST, COLUMNS)];
+static uint8_t store[PETSIVOLA_STORE_LENGTH(FIRST, CHECKS, EDGES)];
 
 int main(void)
 {

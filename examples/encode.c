@@ -10,12 +10,13 @@
 
 #include "petsivola.h"
 
-/* The code: p = 4, N = 12, M = 6, g = 14, I = 20. Check m, counted from 0, contains column 6 + m and
- * no higher one, which is what petsivola_encode asks for; each line below ends with that column. */
-enum { P = 4, Q = 16, COLUMNS = 12, CHECKS = 6, EDGES = 23 };
+/* The code: p = 4, k = 2, N = 12, M = 6, g = 14, I = 20. Check m, counted from 0, contains column
+ * 6 + m and no higher one, which is what petsivola_encode asks for; each line below ends with that
+ * column. */
+enum { FIRST = 0x04, P = 4, Q = 16, COLUMNS = 12, CHECKS = 6, EDGES = 23 };
 
 static const uint8_t code[PETSIVOLA_CODE_LENGTH(CHECKS, EDGES)] = {
-    P, 0, COLUMNS, CHECKS, 14, 20,
+    FIRST, 0, COLUMNS, CHECKS, 14, 20,
     3,  0, 0, 1,   0, 1, 7,               0, 6, 3,
     4,  0, 2, 5,   0, 3, 2,   0, 6, 9,    0, 7, 12,
     4,  0, 4, 11,  0, 5, 6,   0, 7, 1,    0, 8, 14,
@@ -28,10 +29,10 @@ static const uint8_t message[PETSIVOLA_MESSAGE_LENGTH(COLUMNS, CHECKS)] = {4, 11
 
 /* The lent buffers, exactly as long as this code needs them. */
 static uint8_t sent[COLUMNS];
-static uint8_t frame[PETSIVOLA_FRAME_LENGTH(P, COLUMNS)];
+static uint8_t frame[PETSIVOLA_FRAME_LENGTH(FIRST, COLUMNS)];
 static uint8_t decoded[COLUMNS];
-static uint16_t costs[PETSIVOLA_FRAME_LENGTH(P, COLUMNS)];
-static uint8_t store[PETSIVOLA_STORE_LENGTH(P, CHECKS, EDGES)];
+static uint16_t costs[PETSIVOLA_FRAME_LENGTH(FIRST, COLUMNS)];
+static uint8_t store[PETSIVOLA_STORE_LENGTH(FIRST, CHECKS, EDGES)];
 
 /* Noise from -18 to 18, the same in every run. */
 static int noise(void)

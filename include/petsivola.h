@@ -16,6 +16,11 @@
  *
  * The result is one number: PETSIVOLA_NUMBER(result) says what happened, PETSIVOLA_VALUE(result) is
  * the product, the bytes written or the iterations t; it is 0 on a refusal.
+ *
+ * The first byte of a code line, "first" below, gives the field and the number of deviations: 02 to
+ * 06 hexadecimal is p = 2 to 6 with k = 2, 22 to 26 is p = 2 to 6 with k = 3. The field has q = 2^p
+ * elements, and what a check sends is the least cost over choices that depart from at most k hard
+ * decisions.
  */
 #ifndef PETSIVOLA_H
 #define PETSIVOLA_H
@@ -43,7 +48,8 @@ enum petsivola_number {
     PETSIVOLA_SHORT_STORE = 4,      /* record buffer or store too short */
     /* by the code line's writer */
     PETSIVOLA_CODE_BYTES = 5,       /* bytes missing or left over */
-    PETSIVOLA_FIELD_SIZE = 6,       /* p not 2 to 6 */
+    PETSIVOLA_FIELD_SIZE = 6,       /* first byte not 02 to 06 or 22 to 26 hexadecimal; in the
+                                       product: p not 2 to 6 */
     PETSIVOLA_COLUMNS_CHECKS = 7,   /* N not 1 to 256, or M not 1 to 128 */
     PETSIVOLA_SCALE_LIMIT = 8,      /* g not 1 to 16, or I not 1 to 255 */
     PETSIVOLA_DEGREE = 9,           /* degree not 2 to 32, or more than 1,024 edges */
@@ -66,37 +72,39 @@ enum petsivola_number {
     PETSIVOLA_MESSAGE = 18          /* message length is not N - M, or a symbol not below q */
 };
 
-/* Lengths in elements, as constant expressions for constant arguments. p is 2 to 6 and q is 2^p. */
-#define PETSIVOLA_Q(p) ((size_t)1 << (p))
-#define PETSIVOLA_RECORD_LENGTH(p, d) ((size_t)(d) + 5 * (PETSIVOLA_Q(p) - 1))
-#define PETSIVOLA_EXPANSION_LENGTH(p, d) ((size_t)(d) * PETSIVOLA_Q(p))
-#define PETSIVOLA_FRAME_LENGTH(p, n) ((size_t)(n) * PETSIVOLA_Q(p))
-#define PETSIVOLA_STORE_LENGTH(p, m, edges) \
-    ((size_t)(edges) + (size_t)(m) * 5 * (PETSIVOLA_Q(p) - 1))
+/* q and k, then lengths in elements, as constant expressions for constant arguments. */
+#define PETSIVOLA_Q(first) ((size_t)1 << ((first) & 15))
+#define PETSIVOLA_DEVIATIONS(first) (2 + (size_t)((first) >> 5 & 1))
+#define PETSIVOLA_RECORD_LENGTH(first, d) PETSIVOLA_STORE_LENGTH(first, 1, d)
+#define PETSIVOLA_EXPANSION_LENGTH(first, d) ((size_t)(d) * PETSIVOLA_Q(first))
+#define PETSIVOLA_FRAME_LENGTH(first, n) ((size_t)(n) * PETSIVOLA_Q(first))
+#define PETSIVOLA_STORE_LENGTH(first, m, edges) \
+    ((size_t)(edges) + \
+     (size_t)(m) * (1 + 2 * PETSIVOLA_DEVIATIONS(first)) * (PETSIVOLA_Q(first) - 1))
 #define PETSIVOLA_CODE_LENGTH(m, edges) (6 + (size_t)(m) + 3 * (size_t)(edges))
 #define PETSIVOLA_MESSAGE_LENGTH(n, m) ((size_t)(n) - (size_t)(m))  /* for n above m */
 
 /* Lengths that are enough for every accepted input. */
-#define PETSIVOLA_MOST_RECORD PETSIVOLA_RECORD_LENGTH(6, 32)        /*    347 */
-#define PETSIVOLA_MOST_EXPANSION PETSIVOLA_EXPANSION_LENGTH(6, 32)  /*  2,048 */
+#define PETSIVOLA_MOST_RECORD PETSIVOLA_RECORD_LENGTH(0x26, 32)        /*    473 */
+#define PETSIVOLA_MOST_EXPANSION PETSIVOLA_EXPANSION_LENGTH(0x26, 32)  /*  2,048 */
 #define PETSIVOLA_MOST_SYMBOLS ((size_t)256)
-#define PETSIVOLA_MOST_MESSAGE PETSIVOLA_MESSAGE_LENGTH(256, 1)     /*    255 */
-#define PETSIVOLA_MOST_COSTS PETSIVOLA_FRAME_LENGTH(6, 256)         /* 16,384 */
-#define PETSIVOLA_MOST_STORE PETSIVOLA_STORE_LENGTH(6, 128, 1024)   /* 41,344 */
-#define PETSIVOLA_MOST_CODE PETSIVOLA_CODE_LENGTH(128, 1024)        /*  3,206 */
-#define PETSIVOLA_MOST_LINE ((size_t)32768)                         /* digits */
+#define PETSIVOLA_MOST_MESSAGE PETSIVOLA_MESSAGE_LENGTH(256, 1)        /*    255 */
+#define PETSIVOLA_MOST_COSTS PETSIVOLA_FRAME_LENGTH(0x26, 256)         /* 16,384 */
+#define PETSIVOLA_MOST_STORE PETSIVOLA_STORE_LENGTH(0x26, 128, 1024)   /* 57,472 */
+#define PETSIVOLA_MOST_CODE PETSIVOLA_CODE_LENGTH(128, 1024)           /*  3,206 */
+#define PETSIVOLA_MOST_LINE ((size_t)32768)                            /* digits */
 
 /* Decodes one frame: the layered trellis extended min-sum decoder.
  *
- *   code     the code line: p, N (two bytes, high first), M, g, I, then M checks: the degree, 2 to
- *            32, then for each edge the column (two bytes, high first, rising in the check) and the
- *            weight. g/16 scales the sent costs; I limits the iterations.
+ *   code     the code line: first, N (two bytes, high first), M, g, I, then M checks: the degree, 2
+ *            to 32, then for each edge the column (two bytes, high first, rising in the check) and
+ *            the weight. g/16 scales the sent costs; I limits the iterations.
  *   frame    N * q costs, column by column, each 0 to 255, a 0 in every column:
- *            PETSIVOLA_FRAME_LENGTH(p, N), exactly
+ *            PETSIVOLA_FRAME_LENGTH(first, N), exactly
  *   symbols  gets the N decisions: at least N
- *   costs    gets the last N * q costs, 0 to 510: at least PETSIVOLA_FRAME_LENGTH(p, N)
+ *   costs    gets the last N * q costs, 0 to 510: at least PETSIVOLA_FRAME_LENGTH(first, N)
  *   store    gets the M records, end to end; untouched when t = 0: at least
- *            PETSIVOLA_STORE_LENGTH(p, M, edges)
+ *            PETSIVOLA_STORE_LENGTH(first, M, edges)
  *
  * Number: 0 found, 1 not found, or a refusal; tested in this order: 5 to 11 as the code line is read
  * front to back, 12, 13, 2, 3, 4. Value: the iterations t, 0 to I.
@@ -110,7 +118,7 @@ uint32_t petsivola_decode(const uint8_t *code, size_t code_len,
 /* Encodes one message: N - M symbols become the N symbols that decoding looks for.
  *
  *   code     a code line as for petsivola_decode, of this form: N is above M, and check m, counted
- *            from 0, contains column N - M + m and no higher one. g and I do not matter.
+ *            from 0, contains column N - M + m and no higher one. k, g and I do not matter.
  *   message  N - M symbols, each 0 to q - 1: PETSIVOLA_MESSAGE_LENGTH(N, M), exactly
  *   symbols  gets the message and behind it M symbols with which every check is satisfied; no others
  *            behind this message satisfy them all: at least N
@@ -134,34 +142,36 @@ uint32_t petsivola_line(const uint8_t *text, size_t text_len,
 
 /* Works out one check's messages and writes their packed record.
  *
- *   p        2 to 6
+ *   first    as a code line's first byte
  *   weights  one for each column, 1 to q - 1; their number is the degree d, 2 to 32
  *   costs    d * q costs, column by column, each 0 to 255, a 0 in every column
- *   record   gets d shifts, then for each a from 1 to q - 1: E(a), column, its S, column, its S: at
- *            least PETSIVOLA_RECORD_LENGTH(p, d)
+ *   record   gets d shifts, then for each a from 1 to q - 1: E(a) and k pairs, each a column and its
+ *            S, FF 00 where unused: at least PETSIVOLA_RECORD_LENGTH(first, d)
  *
  * Number: 0, or 6, 9, 11, 12, 13, 4 in this order. Value: the bytes written.
  */
-uint32_t petsivola_check(uint8_t p,
+uint32_t petsivola_check(uint8_t first,
                          const uint8_t *weights, size_t weights_len,
                          const uint8_t *costs, size_t costs_len,
                          uint8_t *record, size_t record_len);
 
 /* Writes the unscaled sent costs that a record stands for.
  *
- *   p        2 to 6
+ *   first    as a code line's first byte
  *   weights  as for petsivola_check
- *   record   PETSIVOLA_RECORD_LENGTH(p, d), exactly; any record of the right form
- *   out      gets the d * q sent costs, column by column: at least PETSIVOLA_EXPANSION_LENGTH(p, d)
+ *   record   PETSIVOLA_RECORD_LENGTH(first, d), exactly; any record of the right form
+ *   out      gets the d * q sent costs, column by column: at least
+ *            PETSIVOLA_EXPANSION_LENGTH(first, d)
  *
  * Number: 0, or 6, 9, 11, 16, 2 in this order. Value: the bytes written.
  */
-uint32_t petsivola_expand(uint8_t p,
+uint32_t petsivola_expand(uint8_t first,
                           const uint8_t *weights, size_t weights_len,
                           const uint8_t *record, size_t record_len,
                           uint8_t *out, size_t out_len);
 
-/* The product of two elements a and b, 0 to q - 1, of the field with q elements.
+/* The product of two elements a and b, 0 to q - 1, of the field with q = 2^p elements. It takes p
+ * alone, 2 to 6, where the calls above take a first byte.
  *
  * Number: 0, or 6, 11 in this order. Value: the product.
  */
