@@ -1,9 +1,12 @@
-//! How long the slices are. The functions answer none when p is not 2 to 6, or when N is not above M
-//! where a message's length is asked for; a number past every accepted one gives a length that is
-//! right or, where that passes the greatest number, the greatest number.
+//! How long the slices are, by a code line's first byte: 02 to 06 hexadecimal for p = 2 to 6 with k = 2,
+//! 22 to 26 for the same with k = 3. The functions answer none for another first byte, or when N is not
+//! above M where a message's length is asked for; a number past every accepted one gives a length that
+//! is right or, where that passes the greatest number, the greatest number.
 
 /// "p is 2 to 6, q = 2^p": q at its greatest.
 pub const MOST_ELEMENTS: usize = 64;
+/// Document 02, §3: "The number of deviations becomes k, 2 or 3".
+pub const MOST_DEVIATIONS: usize = 3;
 /// Document 02, §1: "Degree becomes 2 to 32."
 pub const MOST_DEGREE: usize = 32;
 /// "N as two bytes, high first (1 to 256)": also the longest used part of a symbol buffer.
@@ -14,7 +17,7 @@ pub const MOST_CHECKS: usize = 128;
 pub const MOST_EDGES: usize = 1_024;
 
 /// The longest record.
-pub const MOST_RECORD: usize = MOST_DEGREE + RECORD_ENTRY * (MOST_ELEMENTS - 1);
+pub const MOST_RECORD: usize = MOST_DEGREE + entry(MOST_DEVIATIONS) * (MOST_ELEMENTS - 1);
 /// The longest expansion.
 pub const MOST_EXPANSION: usize = MOST_DEGREE * MOST_ELEMENTS;
 /// The longest frame, and the longest used part of a cost buffer.
@@ -22,34 +25,59 @@ pub const MOST_FRAME: usize = MOST_COLUMNS * MOST_ELEMENTS;
 /// The longest message.
 pub const MOST_MESSAGE: usize = MOST_COLUMNS - 1;
 /// The longest used part of a store.
-pub const MOST_STORE: usize = MOST_EDGES + MOST_CHECKS * RECORD_ENTRY * (MOST_ELEMENTS - 1);
+pub const MOST_STORE: usize =
+    MOST_EDGES + MOST_CHECKS * entry(MOST_DEVIATIONS) * (MOST_ELEMENTS - 1);
 /// The longest accepted text of a line: "more than 32,768 bytes" are refused.
 pub const MOST_LINE: usize = 32_768;
 
-/// "five bytes for each a from 1 to q - 1"
-const RECORD_ENTRY: usize = 5;
+/// Document 02, §3: "A record then has 1 + 2k bytes a symbol".
+const fn entry(deviations: usize) -> usize {
+    1 + 2 * deviations
+}
 
-/// q, the number of elements.
-pub const fn field(p: u8) -> Option<usize> {
-    match p {
-        2..=6 => Some(1 << p),
+/// q and k. Document 02, §3: "a first code byte of 22 to 26 hexadecimal means k = 3 with p in its low
+/// digit".
+const fn rule(first: u8) -> Option<(usize, usize)> {
+    let deviations = match first >> 4 {
+        0 => 2,
+        2 => 3,
+        _ => return None,
+    };
+    match first & 0x0F {
+        p @ 2..=6 => Some((1 << p, deviations)),
         _ => None,
     }
 }
 
-/// The bytes of a record: "Length: d + 5(q - 1)."
-pub const fn record(p: u8, degree: usize) -> Option<usize> {
-    store(p, 1, degree)
+/// q, the number of elements.
+pub const fn field(first: u8) -> Option<usize> {
+    match rule(first) {
+        Some((q, _)) => Some(q),
+        None => None,
+    }
+}
+
+/// k, the most deviations of a choice.
+pub const fn deviations(first: u8) -> Option<usize> {
+    match rule(first) {
+        Some((_, deviations)) => Some(deviations),
+        None => None,
+    }
+}
+
+/// The bytes of a record: "Length: d + 5(q - 1)", with 1 + 2k in the place of 5.
+pub const fn record(first: u8, degree: usize) -> Option<usize> {
+    store(first, 1, degree)
 }
 
 /// The bytes of an expansion: "d times q unscaled bytes".
-pub const fn expansion(p: u8, degree: usize) -> Option<usize> {
-    frame(p, degree)
+pub const fn expansion(first: u8, degree: usize) -> Option<usize> {
+    frame(first, degree)
 }
 
 /// The costs of a frame, and the used part of a cost buffer: "N times q costs".
-pub const fn frame(p: u8, columns: usize) -> Option<usize> {
-    match field(p) {
+pub const fn frame(first: u8, columns: usize) -> Option<usize> {
+    match field(first) {
         Some(q) => Some(columns.saturating_mul(q)),
         None => None,
     }
@@ -65,10 +93,10 @@ pub const fn message(columns: usize, checks: usize) -> Option<usize> {
 }
 
 /// The used part of a store: "as many bytes as the M record lengths add up to".
-pub const fn store(p: u8, checks: usize, edges: usize) -> Option<usize> {
-    match field(p) {
-        Some(q) => {
-            let entries = checks.saturating_mul(RECORD_ENTRY * (q - 1));
+pub const fn store(first: u8, checks: usize, edges: usize) -> Option<usize> {
+    match rule(first) {
+        Some((q, deviations)) => {
+            let entries = checks.saturating_mul(entry(deviations) * (q - 1));
             Some(edges.saturating_add(entries))
         }
         None => None,
@@ -85,37 +113,57 @@ mod tests {
         assert_eq!(expansion(2, 2), Some(8));
         assert_eq!(record(2, 3), Some(3 + 15));
         assert_eq!(expansion(2, 3), Some(12));
+        assert_eq!(record(0x22, 3), Some(3 + 21));
+        assert_eq!(expansion(0x22, 3), Some(12));
         assert_eq!(frame(3, 5), Some(40));
+        assert_eq!(frame(0x23, 5), Some(40));
         assert_eq!(message(5, 2), Some(3));
         assert_eq!(message(2, 1), Some(1));
         assert_eq!(message(2, 2), None);
         assert_eq!(message(2, 3), None);
         // Two checks, of degree 3 and 4.
-        let both = record(3, 3).zip(record(3, 4)).map(|(a, b)| a + b);
-        assert_eq!(store(3, 2, 7), both);
+        for first in [0x03, 0x23] {
+            let both = record(first, 3).zip(record(first, 4)).map(|(a, b)| a + b);
+            assert_eq!(store(first, 2, 7), both);
+        }
     }
 
     #[test]
     fn at_the_limits() {
-        assert_eq!(field(6), Some(MOST_ELEMENTS));
-        assert_eq!(record(6, MOST_DEGREE), Some(MOST_RECORD));
-        assert_eq!(expansion(6, MOST_DEGREE), Some(MOST_EXPANSION));
-        assert_eq!(frame(6, MOST_COLUMNS), Some(MOST_FRAME));
+        assert_eq!(field(0x26), Some(MOST_ELEMENTS));
+        assert_eq!(deviations(0x26), Some(MOST_DEVIATIONS));
+        assert_eq!(record(0x26, MOST_DEGREE), Some(MOST_RECORD));
+        assert_eq!(expansion(0x26, MOST_DEGREE), Some(MOST_EXPANSION));
+        assert_eq!(frame(0x26, MOST_COLUMNS), Some(MOST_FRAME));
         assert_eq!(message(MOST_COLUMNS, 1), Some(MOST_MESSAGE));
-        assert_eq!(store(6, MOST_CHECKS, MOST_EDGES), Some(MOST_STORE));
+        assert_eq!(store(0x26, MOST_CHECKS, MOST_EDGES), Some(MOST_STORE));
+        // As the header has them.
+        assert_eq!((MOST_RECORD, MOST_STORE), (473, 57_472));
+        assert_eq!(record(6, MOST_DEGREE), Some(347));
+        assert_eq!(store(6, MOST_CHECKS, MOST_EDGES), Some(41_344));
         // The longest frame fills the longest line.
         assert_eq!(2 * MOST_FRAME, MOST_LINE);
     }
 
     #[test]
     fn no_number_panics() {
-        for p in 0..=u8::MAX {
-            let accepted = (2..=6).contains(&p);
+        for first in 0..=u8::MAX {
+            let accepted = matches!(first, 0x02..=0x06 | 0x22..=0x26);
+            assert_eq!(field(first).is_some(), accepted);
+            assert_eq!(deviations(first).is_some(), accepted);
             for number in [0, 1, usize::MAX / 64 + 1, usize::MAX] {
-                assert_eq!(record(p, number).is_some(), accepted);
-                assert_eq!(expansion(p, number).is_some(), accepted);
-                assert_eq!(store(p, number, number).is_some(), accepted);
+                assert_eq!(record(first, number).is_some(), accepted);
+                assert_eq!(expansion(first, number).is_some(), accepted);
+                assert_eq!(store(first, number, number).is_some(), accepted);
             }
+        }
+    }
+
+    #[test]
+    fn q_and_k_of_each_accepted_first_byte() {
+        for p in 2..=6 {
+            assert_eq!(field(p).zip(deviations(p)), Some((1 << p, 2)));
+            assert_eq!(field(0x20 + p).zip(deviations(0x20 + p)), Some((1 << p, 3)));
         }
     }
 }

@@ -6,6 +6,10 @@
 //! [`Refusal`]. Elements past those that a call
 //! fills keep their old content. No call panics, whatever its arguments.
 //!
+//! The first byte of a code line, which `check` and `expand` take too, gives the field and the number of
+//! deviations: 02 to 06 hexadecimal is p = 2 to 6 with k = 2, 22 to 26 the same with k = 3. [`lengths`]
+//! has the lengths that follow from it. `product` takes p alone.
+//!
 //! | call | fills | refusals, in order |
 //! |---|---|---|
 //! | [`product`] | nothing | 6, 11 |
@@ -49,15 +53,16 @@ pub fn product(p: u8, a: u8, b: u8) -> Result<u8, Refusal> {
 
 /// Works out one check's messages and writes their record; answers how many bytes it wrote,
 /// [`lengths::record`]. The degree is the number of weights, and the costs stand column by column,
-/// q each. Order: "Check: 6, 9, 11, 12, 13, 4."
-pub fn check(p: u8, weights: &[u8], costs: &[u8], record: &mut [u8]) -> Result<usize, Refusal> {
-    answer::written(library::check(p, weights, costs, record))
+/// q each; `first` is as a code line's first byte. Order: "Check: 6, 9, 11, 12, 13, 4."
+pub fn check(first: u8, weights: &[u8], costs: &[u8], record: &mut [u8]) -> Result<usize, Refusal> {
+    answer::written(library::check(first, weights, costs, record))
 }
 
 /// Writes the unscaled sent costs that a record stands for, column by column, q each; answers how
-/// many bytes it wrote, [`lengths::expansion`]. Order: "Expand: 6, 9, 11, 16, 2."
-pub fn expand(p: u8, weights: &[u8], record: &[u8], out: &mut [u8]) -> Result<usize, Refusal> {
-    answer::written(library::expand(p, weights, record, out))
+/// many bytes it wrote, [`lengths::expansion`]. `first` is as a code line's first byte. Order: "Expand:
+/// 6, 9, 11, 16, 2."
+pub fn expand(first: u8, weights: &[u8], record: &[u8], out: &mut [u8]) -> Result<usize, Refusal> {
+    answer::written(library::expand(first, weights, record, out))
 }
 
 /// Reads the text of one line, without its 0A, into bytes, two digits a byte; answers how many

@@ -15,7 +15,7 @@ extern "C" {
     fn petsivola_product(p: u8, a: u8, b: u8) -> u32;
 
     fn petsivola_check(
-        p: u8,
+        first: u8,
         weights: *const u8,
         weights_len: usize,
         costs: *const u8,
@@ -25,7 +25,7 @@ extern "C" {
     ) -> u32;
 
     fn petsivola_expand(
-        p: u8,
+        first: u8,
         weights: *const u8,
         weights_len: usize,
         record: *const u8,
@@ -64,12 +64,12 @@ pub(crate) fn product(p: u8, a: u8, b: u8) -> u32 {
     unsafe { petsivola_product(p, a, b) }
 }
 
-pub(crate) fn check(p: u8, weights: &[u8], costs: &[u8], record: &mut [u8]) -> u32 {
+pub(crate) fn check(first: u8, weights: &[u8], costs: &[u8], record: &mut [u8]) -> u32 {
     // SAFETY: each pointer and length come from one borrowed slice; `record`, the only one written,
     // overlaps no other.
     unsafe {
         petsivola_check(
-            p,
+            first,
             weights.as_ptr(),
             weights.len(),
             costs.as_ptr(),
@@ -80,12 +80,12 @@ pub(crate) fn check(p: u8, weights: &[u8], costs: &[u8], record: &mut [u8]) -> u
     }
 }
 
-pub(crate) fn expand(p: u8, weights: &[u8], record: &[u8], out: &mut [u8]) -> u32 {
+pub(crate) fn expand(first: u8, weights: &[u8], record: &[u8], out: &mut [u8]) -> u32 {
     // SAFETY: each pointer and length come from one borrowed slice; `out`, the only one written,
     // overlaps no other.
     unsafe {
         petsivola_expand(
-            p,
+            first,
             weights.as_ptr(),
             weights.len(),
             record.as_ptr(),

@@ -86,14 +86,56 @@ fn expand_writes_the_sent_costs_and_nothing_else() {
     assert_eq!(answer, Err(Refusal::ShortBuffer));
 }
 
+/// Document 02, §3. Symbol 1 of column 0, 2 of column 1 and 4 of column 2 cost 1, all else but the
+/// decisions 9: 7 is made by three deviations for 3, and a column of the cheapest choice is sent 9.
+#[test]
+fn check_and_expand_with_three_deviations() {
+    let mut costs = [9; 32];
+    for (column, cheap) in costs.chunks_exact_mut(8).zip([1, 2, 4, 0]) {
+        column[cheap] = 1;
+        column[0] = 0;
+    }
+    let expected = [
+        &[0, 0, 0, 0][..],
+        &[1, 0, 9, 255, 0, 255, 0],
+        &[1, 1, 9, 255, 0, 255, 0],
+        &[2, 0, 9, 1, 9, 255, 0],
+        &[1, 2, 9, 255, 0, 255, 0],
+        &[2, 0, 9, 2, 9, 255, 0],
+        &[2, 1, 9, 2, 9, 255, 0],
+        &[3, 0, 9, 1, 9, 2, 9],
+    ]
+    .concat();
+    let (mut record, mut sent) = ([0xA5; 54], [0xA5; 33]);
+    assert_eq!(check(0x23, &[1; 4], &costs, &mut record), Ok(53));
+    assert_eq!(record[..53], expected);
+    assert_eq!(record[53], 0xA5);
+    assert_eq!(expand(0x23, &[1; 4], &record[..53], &mut sent), Ok(32));
+    assert_eq!(sent[..8], [0, 9, 1, 9, 1, 9, 2, 9]);
+    assert_eq!(sent[24..], [0, 1, 1, 2, 1, 2, 2, 3, 0xA5]);
+    assert_eq!(lengths::record(0x23, 4), Some(53));
+    // With k = 2 nothing makes 7 for less than 9.
+    assert_eq!(check(0x03, &[1; 4], &costs, &mut record), Ok(39));
+    assert_eq!(record[34..39], [9, 255, 0, 255, 0]);
+    assert_eq!(record[39..53], expected[39..]);
+    let answer = check(0x23, &[1; 4], &costs, &mut record[..52]);
+    assert_eq!(answer, Err(Refusal::ShortStore));
+}
+
+/// Of every first byte; the product takes p alone.
 #[test]
 fn empty_slices_are_answered() {
-    for p in 0..=u8::MAX {
-        let refusal = match p {
-            2..=6 => Refusal::Degree,
+    for first in 0..=u8::MAX {
+        let refusal = match first {
+            0x02..=0x06 | 0x22..=0x26 => Refusal::Degree,
             _ => Refusal::FieldSize,
         };
-        assert_eq!(check(p, &[], &[], &mut []), Err(refusal));
-        assert_eq!(expand(p, &[], &[], &mut []), Err(refusal));
+        assert_eq!(check(first, &[], &[], &mut []), Err(refusal));
+        assert_eq!(expand(first, &[], &[], &mut []), Err(refusal));
+        let expected = match first {
+            2..=6 => Ok(0),
+            _ => Err(Refusal::FieldSize),
+        };
+        assert_eq!(product(first, 0, 0), expected);
     }
 }

@@ -72,6 +72,33 @@ fn decode_with_two_columns() {
     assert_eq!(store[17], 0xA5);
 }
 
+/// Document 02, §3: a frame of five columns under two checks of degree 4, with k = 2 and with k = 3,
+/// which saves it. The values come from a separate calculation.
+#[test]
+fn decode_with_three_deviations() {
+    let rest = [
+        0, 5, 2, 8, 3, 4, 0, 0, 2, 0, 1, 4, 0, 3, 7, 0, 4, 2, 4, 0, 0, 5, 0, 2, 1, 0, 3, 5, 0, 4, 4,
+    ];
+    let frame = [
+        0, 32, 233, 178, 178, 19, 153, 169, 143, 17, 26, 158, 0, 243, 237, 187, 187, 0, 179, 141,
+        179, 199, 13, 186, 14, 0, 157, 84, 168, 247, 202, 115, 80, 30, 144, 91, 233, 209, 0, 224,
+    ];
+    let answer = |first: u8, room: usize| {
+        let (mut symbols, mut costs, mut store) = ([0xA5; 5], [0xA5A5; 40], vec![0xA5; room]);
+        let code = [&[first], &rest[..]].concat();
+        let outcome = decode(&code, &frame, &mut symbols, &mut costs, &mut store)?;
+        Ok((outcome, symbols, store[..4].to_vec()))
+    };
+    let (two, three) = (78, 106);
+    assert_eq!(lengths::store(0x03, 2, 8), Some(two));
+    assert_eq!(lengths::store(0x23, 2, 8), Some(three));
+    let expected = (Outcome::NotFound(3), [5, 1, 6, 0, 1], vec![6, 0, 1, 1]);
+    assert_eq!(answer(0x03, two), Ok(expected));
+    let expected = (Outcome::Found(2), [5, 1, 6, 1, 1], vec![3, 5, 4, 1]);
+    assert_eq!(answer(0x23, three), Ok(expected));
+    assert_eq!(answer(0x23, three - 1), Err(Refusal::ShortStore));
+}
+
 /// "Degree 2 and 33: 9. Degree 3 and 32 pass. g 16 passes, 17 gives 8." Document 02, §1: "the bench
 /// cases of degree 2 and 3 become 1 and 2".
 #[test]
