@@ -3,50 +3,74 @@
 
 use bench::{foreign, same, search_engine};
 use reference_decoder::sample::{self, CheckSample, Generator, Style};
-use reference_decoder::Refusal;
+use reference_decoder::{record, Refusal, Rule};
 
-/// The engines that this machine can run, each with the least degree at which it is compared: below 3
-/// the search refuses all, and so may an older library.
-fn engines() -> Vec<(&'static str, usize, foreign::Call)> {
-    let mut engines: Vec<(_, _, foreign::Call)> = vec![
-        ("same", 0, same::check),
-        ("search", 3, search_engine::check),
-        ("SSE2", 0, foreign::check_sse2),
-    ];
-    engines.extend(foreign::check_avx2().map(|check| ("AVX2", 0, check)));
-    engines.extend(foreign::old_library().map(|old| ("old", 3, old.check)));
-    engines
+/// An engine, and from where on and up to where it is compared.
+struct Candidate {
+    name: &'static str,
+    /// Below this degree the search refuses all, and so may an older library.
+    least_degree: usize,
+    /// Above this k the others than the same algorithm refuse all.
+    most_deviations: usize,
+    check: foreign::Call,
+}
+
+impl Candidate {
+    /// The engines that this machine can run.
+    fn all() -> Vec<Candidate> {
+        let candidate = |name, least_degree, most_deviations, check| Candidate {
+            name,
+            least_degree,
+            most_deviations,
+            check,
+        };
+        let mut all = vec![
+            candidate("same", 0, 3, same::check),
+            candidate("search", 3, 2, search_engine::check),
+            candidate("SSE2", 0, 2, foreign::check_sse2),
+        ];
+        all.extend(foreign::check_avx2().map(|check| candidate("AVX2", 0, 2, check)));
+        all.extend(foreign::old_library().map(|old| candidate("old", 3, 2, old.check)));
+        all
+    }
+
+    /// Whether it has checks like this one, where they are not refused.
+    fn has(&self, check: &CheckSample) -> bool {
+        let few_deviations = |rule: Rule| rule.deviations() <= self.most_deviations;
+        check.degree() >= self.least_degree && Rule::new(check.first).map_or(true, few_deviations)
+    }
 }
 
 /// Every engine leaves what the reference decoder leaves, in a buffer of this length.
 fn compare(generator: &mut Generator, check: &CheckSample, room: usize) {
     let before = generator.bytes(room);
     let mut expected = before.clone();
-    let (p, weights, costs) = (check.first, &check.weights, &check.costs);
-    let answer = reference_decoder::check(p, weights, costs, &mut expected);
+    let (first, weights, costs) = (check.first, &check.weights, &check.costs);
+    let answer = reference_decoder::check(first, weights, costs, &mut expected);
     let answer = answer.map_err(Refusal::number);
-    for (name, least, engine) in engines() {
-        if check.degree() < least {
+    for candidate in Candidate::all() {
+        if !candidate.has(check) {
             continue;
         }
-        let mut found = before.clone();
-        assert_eq!(engine(p, weights, costs, &mut found), answer, "{name}");
-        assert_eq!(found, expected, "{name}: p = {p}, {weights:?}, {costs:?}");
+        let (name, mut found) = (candidate.name, before.clone());
+        let found_answer = (candidate.check)(first, weights, costs, &mut found);
+        assert_eq!(found_answer, answer, "{name}");
+        assert_eq!(found, expected, "{name}: {check:?}");
     }
 }
 
 fn record_length(check: &CheckSample) -> usize {
-    check.degree() + 5 * (check.q() - 1)
+    record::length(check.rule(), check.degree())
 }
 
 #[test]
-fn every_p_and_degree_with_ties() {
+fn every_first_byte_and_degree_with_ties() {
     let mut generator = Generator::new(1);
-    for p in 2..=6 {
+    for first in (0x02..=0x06).chain(0x22..=0x26) {
         for degree in 2..=32 {
             for style in Style::ALL {
                 for _ in 0..4 {
-                    let check = sample::check(&mut generator, p, degree..=degree, style);
+                    let check = sample::check(&mut generator, first, degree..=degree, style);
                     compare(&mut generator, &check, record_length(&check));
                 }
             }
@@ -57,15 +81,12 @@ fn every_p_and_degree_with_ties() {
 #[test]
 fn refusals_and_buffers() {
     let mut generator = Generator::new(2);
-    for round in 0..2_000 {
+    for round in 0..4_000 {
         let degree = if round % 8 == 0 { 2..=2 } else { 2..=32 };
-        let p = generator.byte(2..=6);
-        let check = sample::check(&mut generator, p, degree, Style::ALL[round % 5]);
+        let first = sample::first_byte(&mut generator, 2..=6, 2..=3);
+        let check = sample::check(&mut generator, first, degree, Style::ALL[round % 5]);
         let room = record_length(&check) + generator.below(3) - 1;
-        let mut damaged = sample::damaged_check(&mut generator, &check);
-        if (0x20..0x30).contains(&damaged.first) {
-            damaged.first = 0x40;
-        }
+        let damaged = sample::damaged_check(&mut generator, &check);
         compare(&mut generator, &check, room);
         compare(&mut generator, &damaged, room);
     }

@@ -17,19 +17,19 @@ fn expansions() {
     let mut generator = Generator::new(1);
     for round in 0..3_000 {
         let degree = if round % 8 < 2 { 2..=2 } else { 2..=32 };
-        let (p, degree) = (generator.byte(2..=6), generator.between(degree));
-        let mut record = sample::record(&mut generator, p, degree);
+        let first = sample::first_byte(&mut generator, 2..=6, 2..=3);
+        let (rule, degree) = (Rule::new(first).unwrap(), generator.between(degree));
+        let mut record = sample::record(&mut generator, first, degree);
         if round % 4 == 1 {
-            let rule = Rule::new(p).unwrap();
             record = sample::damaged_record(&mut generator, rule, degree, &record);
         }
-        let weights = sample::weights(&mut generator, p, degree);
-        let room = (degree << p) + generator.below(3) - 1;
+        let weights = sample::weights(&mut generator, rule.field().p(), degree);
+        let room = degree * rule.field().size() + generator.below(3) - 1;
         let mut expected = generator.bytes(room);
         let mut found = expected.clone();
         assert_eq!(
-            same::expand(p, &weights, &record, &mut found),
-            numbered(expand(p, &weights, &record, &mut expected))
+            same::expand(first, &weights, &record, &mut found),
+            numbered(expand(first, &weights, &record, &mut expected))
         );
         assert_eq!(found, expected);
     }

@@ -26,8 +26,8 @@ impl Code {
     /// "Code: 5 if under six bytes, 6, 7, 8; in each check 5 for the degree byte, 9, 5 for its edges,
     /// then 10 and 11 edge by edge; last 5 for bytes left over."
     pub fn read(bytes: &[u8]) -> Result<Code, Refusal> {
-        let (&[p, n_high, n_low, m, g, limit], left) = bytes.split_first_chunk().ok_or(5)?;
-        let rule = Rule::of(p)?;
+        let (&[first, n_high, n_low, m, g, limit], left) = bytes.split_first_chunk().ok_or(5)?;
+        let rule = Rule::of(first)?;
         let n = usize::from(u16::from_be_bytes([n_high, n_low]));
         let m = usize::from(m);
         if !(1..=256).contains(&n) || !(1..=MOST_CHECKS).contains(&m) {

@@ -8,8 +8,8 @@ use super::symbols;
 use crate::accepted::{self, Refusal, DEGREES};
 
 /// "Expand: 6, 9, 11, 16, 2."
-pub fn expand(p: u8, weights: &[u8], record: &[u8], out: &mut [u8]) -> Result<usize, Refusal> {
-    expand_by(Rule::of(p)?, weights, record, out)
+pub fn expand(first: u8, weights: &[u8], record: &[u8], out: &mut [u8]) -> Result<usize, Refusal> {
+    expand_by(Rule::of(first)?, weights, record, out)
 }
 
 /// The expansion under any rule.

@@ -7,8 +7,8 @@ use super::{groups, lines, symbols, tables};
 use crate::accepted::{self, Refusal, DEGREES, MOST_COLUMNS};
 
 /// "Check: 6, 9, 11, 12, 13, 4."
-pub fn check(p: u8, weights: &[u8], costs: &[u8], out: &mut [u8]) -> Result<usize, Refusal> {
-    messages(Rule::of(p)?, weights, costs, out, None)
+pub fn check(first: u8, weights: &[u8], costs: &[u8], out: &mut [u8]) -> Result<usize, Refusal> {
+    messages(Rule::of(first)?, weights, costs, out, None)
 }
 
 /// The record of a check, and its sent costs where d times q bytes are lent for them. Refused as a check

@@ -26,9 +26,15 @@ pub struct Rule {
 }
 
 impl Rule {
-    /// Document 01's rule: at most two deviations, and sums.
-    pub fn of(p: u8) -> Result<Rule, Refusal> {
-        Rule::new(p, 2, false)
+    /// The rule of a first byte, or refusal 6. Document 02, §3: "a first code byte of 22 to 26 hexadecimal
+    /// means k = 3 with p in its low digit".
+    pub fn of(first: u8) -> Result<Rule, Refusal> {
+        let k = match first >> 4 {
+            0 => 2,
+            2 => 3,
+            _ => return Err(6),
+        };
+        Rule::new(first & 0x0F, k, false)
     }
 
     /// A rule, or refusal 6.
