@@ -4,6 +4,7 @@ mod check;
 mod decode;
 mod encode;
 mod expand;
+mod first_byte;
 mod line;
 mod product;
 
@@ -60,8 +61,8 @@ impl EntryPoint {
         Ok(())
     }
 
-    /// Makes the calls that are few enough to be made all: every product, and every line of two
-    /// bytes.
+    /// Makes the calls that are few enough to be made all: every product, every line of two bytes, and
+    /// a check, an expansion, a decoding and an encoding with every first byte.
     ///
     /// # Errors
     ///

@@ -6,6 +6,7 @@ mod program;
 
 use std::io::{self, BufReader};
 
+use reference_decoder::code_line;
 use reference_decoder::program::{run, INPUT_LIMIT};
 use reference_decoder::sample::{Generator, Size};
 
@@ -20,14 +21,17 @@ pub fn tally() -> Tally {
     // The program's own buffers are long enough, so 2, 3 and 4 are never printed.
     expected.extend((5..=15).map(Class::Refused));
     expected.extend([LEAST_COLUMNS, MOST_COLUMNS].map(Class::Seen));
+    expected.extend(DEVIATIONS.map(Class::Seen));
     Tally::new("the program decode", expected)
 }
 
 const LEAST_COLUMNS: &str = "N 2";
 const MOST_COLUMNS: &str = "N 256";
+/// An input with an accepted code line, by its k.
+const DEVIATIONS: [&str; 2] = ["k 2", "k 3"];
 
-/// Compares the program on document 01's example, on checks of two columns and on inputs made for one
-/// rule each.
+/// Compares the program on document 01's example, on checks of two columns, on every first byte and on
+/// inputs made for one rule each.
 ///
 /// # Errors
 ///
@@ -98,6 +102,9 @@ fn compare(
 ) -> Result<(), Difference> {
     let expected = reference_decoder::program(input);
     count(&expected, tally);
+    if let Some(deviations) = deviations(input) {
+        tally.seen(DEVIATIONS[deviations - 2], true);
+    }
     let printed = printed(program.output(inputs::in_pieces(input, generator)))?;
     if printed == expected {
         Ok(())
@@ -105,6 +112,15 @@ fn compare(
         let inputs = Inputs::default().bytes("input, as the bytes of its text,", input);
         Err(differs("the program decode", &printed, &expected, inputs))
     }
+}
+
+/// k of an input's code line, where it is accepted.
+fn deviations(input: &[u8]) -> Option<usize> {
+    let text = input.split(|&byte| byte == b'\n').next()?;
+    let mut bytes = vec![0; text.len() / 2];
+    let length = reference_decoder::line(text, &mut bytes).ok()?;
+    let code = code_line(&bytes[..length]).ok()?;
+    Some(code.rule().deviations())
 }
 
 /// What the program printed.

@@ -4,7 +4,7 @@ use reference_decoder::encode::has_encoding_form;
 use reference_decoder::sample::{self, Generator, Miss, Size};
 use reference_decoder::{code_line, Code};
 
-use super::{accepted_or_refused, class_of, of_library, of_reference, EntryPoint};
+use super::{accepted_or_refused, class_of, first_byte, of_library, of_reference, EntryPoint};
 use crate::comparison::{Comparison, Difference, Inputs};
 use crate::lent::{length_around, length_enough, Lent};
 use crate::tally::{Class, Tally};
@@ -14,10 +14,9 @@ pub const ENCODE: EntryPoint = EntryPoint {
     name: "encode",
     expected,
     call,
-    every: |_| Ok(()),
+    every,
 };
 
-const SIZES: [&str; 5] = ["p 2", "p 3", "p 4", "p 5", "p 6"];
 const LEAST_COLUMNS: &str = "N 2";
 const LEAST_CHECKS: &str = "M 1";
 const LEAST_MESSAGE: &str = "N - M 1";
@@ -72,22 +71,30 @@ fn missed(miss: Miss) -> &'static str {
 
 fn expected() -> Vec<Class> {
     let mut classes = accepted_or_refused(&[2, 5, 6, 7, 8, 9, 10, 11, 17, 18]);
-    let seen = SIZES.into_iter().chain(BOUNDS).chain(CAUSES);
+    let seen = first_byte::names().chain(BOUNDS).chain(CAUSES);
     classes.extend(seen.chain(Miss::ALL.map(missed)).map(Class::Seen));
     classes
 }
 
+/// A random call.
 fn call(generator: &mut Generator, tally: &mut Tally) -> Result<(), Difference> {
     let size = size(generator);
-    let code = sample::encodable_code(generator, &size);
-    let mut input = Input {
-        message: sample::message(generator, &code),
-        length: length_enough(generator, code.n),
-        line: code.line(),
-        miss: None,
-    };
+    let (code, mut input) = Input::accepted(generator, &size);
     input.damage_some(generator, &code);
     compare(generator, &input, tally)
+}
+
+/// A call with every first byte.
+fn every(tally: &mut Tally) -> Result<(), Difference> {
+    let mut generator = Generator::new(0);
+    for first in first_byte::ALL {
+        let accepted_first = first_byte::accepted_or_drawn(&mut generator, first);
+        let size = first_byte::small_codes(accepted_first);
+        let (_, mut input) = Input::accepted(&mut generator, &size);
+        input.line[0] = first;
+        compare(&mut generator, &input, tally)?;
+    }
+    Ok(())
 }
 
 /// The size of a code: small ones are many, and those at the limits few.
@@ -111,6 +118,18 @@ struct Input {
 }
 
 impl Input {
+    /// An accepted input of the size, with its code.
+    fn accepted(generator: &mut Generator, size: &Size) -> (Code, Input) {
+        let code = sample::encodable_code(generator, size);
+        let input = Input {
+            message: sample::message(generator, &code),
+            length: length_enough(generator, code.n),
+            line: code.line(),
+            miss: None,
+        };
+        (code, input)
+    }
+
     /// Damages each part now and then, several at once too, so that the order of refusals matters.
     fn damage_some(&mut self, generator: &mut Generator, code: &Code) {
         if generator.once_in(4) {
@@ -209,7 +228,7 @@ fn see_miss(tally: &mut Tally, input: &Input, code: &Code, short: bool) {
 /// Counts what an accepted encoding shows.
 fn see_accepted(tally: &mut Tally, code: &Code, length: usize) {
     let degrees = code.checks.iter().map(|check| check.weights.len());
-    tally.seen(SIZES[usize::from(code.field().p()) - 2], true);
+    first_byte::see(tally, code.first);
     tally.seen(LEAST_COLUMNS, code.n == 2);
     tally.seen(LEAST_CHECKS, code.m == 1);
     tally.seen(LEAST_MESSAGE, code.n == code.m + 1);

@@ -1,11 +1,14 @@
 //! `expand`.
 
+mod causes;
+
 use std::collections::BTreeSet;
 
 use reference_decoder::record;
 use reference_decoder::sample::{self, CheckSample, Generator, Style};
 use reference_decoder::Rule;
 
+use super::first_byte::{self, ByDeviations};
 use super::{
     accepted_or_refused, class_of, degrees, of_library, of_reference, see_refused, EntryPoint,
     REFUSED_DEGREES,
@@ -13,50 +16,59 @@ use super::{
 use crate::comparison::{Comparison, Difference, Inputs};
 use crate::lent::{length_around, length_enough, Lent};
 use crate::tally::{Class, Tally};
+use causes::{causes, Cause};
 
 /// `expand`.
 pub const EXPAND: EntryPoint = EntryPoint {
     name: "expand",
     expected,
     call,
-    every: |_| Ok(()),
+    every,
 };
 
-/// "16, length wrong, shift not below q, an unused pair that is not FF 00 or stands before a used
-/// one, columns not rising or not below d, or S not above E": each must be met as the only cause.
-const CAUSES: [&str; 7] = [
-    LENGTH,
-    SHIFT,
-    NOT_FF_00,
-    BEFORE_USED,
-    NOT_RISING,
-    NOT_BELOW_D,
-    NOT_ABOVE_E,
-];
-const LENGTH: &str = "16 by length alone";
-const SHIFT: &str = "16 by a shift alone";
-const NOT_FF_00: &str = "16 by an unused pair not FF 00 alone";
-const BEFORE_USED: &str = "16 by an unused pair before a used one alone";
-const NOT_RISING: &str = "16 by columns not rising alone";
-const NOT_BELOW_D: &str = "16 by a column not below d alone";
-const NOT_ABOVE_E: &str = "16 by an S not above E alone";
-
-const DEGREE_2: &str = "degree 2";
-const DEGREE_32: &str = "degree 32";
+const DEGREE_2: ByDeviations = ["degree 2, k 2", "degree 2, k 3"];
+const DEGREE_32: ByDeviations = ["degree 32, k 2", "degree 32, k 3"];
 /// No check writes such a record.
 const BOTH_COLUMNS: &str = "degree 2, both columns in the pairs of an a";
+const THREE_PAIRS: &str = "3 pairs used";
+
+const MISSING_BYTE: ByDeviations = ["k 2, 16 by a byte missing", "k 3, 16 by a byte missing"];
+const BYTE_LEFT_OVER: ByDeviations = ["k 2, 16 by a byte left over", "k 3, 16 by a byte left over"];
+/// Document 02, §3: "4 and 16 use the new length".
+const OTHER_LENGTH: ByDeviations = [
+    "k 2, 16 by the length for k 3",
+    "k 3, 16 by the length for k 2",
+];
 
 fn expected() -> Vec<Class> {
     let mut classes = accepted_or_refused(&[2, 6, 9, 11, 16]);
-    classes.extend(CAUSES.map(Class::Seen));
-    classes.extend([DEGREE_2, DEGREE_32, BOTH_COLUMNS].map(Class::Seen));
-    classes.extend(REFUSED_DEGREES.map(Class::Seen));
+    let by_deviations = [
+        DEGREE_2,
+        DEGREE_32,
+        MISSING_BYTE,
+        BYTE_LEFT_OVER,
+        OTHER_LENGTH,
+    ];
+    // Each cause of 16 must be met as the only one.
+    let by_deviations = by_deviations
+        .into_iter()
+        .chain(Cause::ALL.map(Cause::names));
+    let seen = [BOTH_COLUMNS, THREE_PAIRS]
+        .into_iter()
+        .chain(REFUSED_DEGREES);
+    let seen = seen
+        .chain(first_byte::names())
+        .chain(by_deviations.flatten());
+    classes.extend(seen.map(Class::Seen));
     classes
 }
 
+/// A random call.
 fn call(generator: &mut Generator, tally: &mut Tally) -> Result<(), Difference> {
-    let (mut input, mut record) = accepted(generator);
-    let (rule, q, degree) = (input.rule(), input.q(), input.degree());
+    let first = first_byte::drawn(generator);
+    let (mut input, mut record) = accepted(generator, first);
+    let (rule, degree) = (input.rule(), input.degree());
+    let needed = degree * input.q();
     if generator.once_in(2) {
         record = sample::damaged_record(generator, rule, degree, &record);
     }
@@ -64,14 +76,36 @@ fn call(generator: &mut Generator, tally: &mut Tally) -> Result<(), Difference> 
         input = sample::damaged_check(generator, &input);
     }
     let length = if generator.once_in(2) {
-        length_around(generator, degree * q)
+        length_around(generator, needed)
     } else {
-        length_enough(generator, degree * q)
+        length_enough(generator, needed)
     };
+    compare(generator, &input, &record, length, tally)
+}
 
+/// A call with every first byte.
+fn every(tally: &mut Tally) -> Result<(), Difference> {
+    let mut generator = Generator::new(0);
+    for first in first_byte::ALL {
+        let accepted_first = first_byte::accepted_or_drawn(&mut generator, first);
+        let (mut input, record) = accepted(&mut generator, accepted_first);
+        let length = input.degree() * input.q();
+        input.first = first;
+        compare(&mut generator, &input, &record, length, tally)?;
+    }
+    Ok(())
+}
+
+fn compare(
+    generator: &mut Generator,
+    input: &CheckSample,
+    record: &[u8],
+    length: usize,
+    tally: &mut Tally,
+) -> Result<(), Difference> {
     let first = input.first;
     let weights = Lent::holding(generator, &input.weights);
-    let record = Lent::holding(generator, &record);
+    let record = Lent::holding(generator, record);
     let (weights_lent, record_lent) = (weights.clone(), record.clone());
     let mut out = Lent::<u8>::to_fill(generator, length);
     let mut out_expected = out.clone();
@@ -90,14 +124,10 @@ fn call(generator: &mut Generator, tally: &mut Tally) -> Result<(), Difference> 
 
     tally.answer(class_of(&expected));
     see_refused(tally, input.degree(), expected == Err(9));
-    if expected == Err(16) {
-        let causes = causes(input.rule(), input.degree(), record.slice());
-        for cause in CAUSES {
-            tally.seen(cause, causes == BTreeSet::from([cause]));
-        }
-    }
-    if expected.is_ok() {
-        see(tally, &input, record.slice());
+    match expected {
+        Ok(_) => see(tally, input, record.slice()),
+        Err(16) => see_causes(tally, input, record.slice()),
+        Err(_) => {}
     }
     let mut comparison = Comparison::default();
     comparison.answers(&answer, &expected);
@@ -115,100 +145,52 @@ fn call(generator: &mut Generator, tally: &mut Tally) -> Result<(), Difference> 
 
 /// Accepted weights (the sample has no costs) and a record of accepted form: written by a check, or
 /// arbitrary.
-fn accepted(generator: &mut Generator) -> (CheckSample, Vec<u8>) {
-    let first = sample::first_byte(generator, 2..=6, 2..=3);
+fn accepted(generator: &mut Generator, first: u8) -> (CheckSample, Vec<u8>) {
     let degree = degrees(generator);
-    if generator.once_in(8) {
-        let style = generator.one_of(&Style::ALL);
-        let mut sample = sample::check(generator, first, degree, style);
-        let mut record = vec![0; record::length(sample.rule(), sample.degree())];
+    let style = generator.one_of(&Style::ALL);
+    let mut sample = sample::check(generator, first, degree, style);
+    let (rule, degree) = (sample.rule(), sample.degree());
+    let record = if generator.once_in(8) {
+        let mut record = vec![0; record::length(rule, degree)];
         reference_decoder::check(first, &sample.weights, &sample.costs, &mut record)
             .expect("an accepted check");
-        sample.costs.clear();
-        (sample, record)
+        record
     } else {
-        let mut sample = CheckSample {
-            first,
-            weights: Vec::new(),
-            costs: Vec::new(),
-        };
-        let p = sample.rule().field().p();
-        let degree = generator.between(degree);
-        sample.weights = sample::weights(generator, p, degree);
-        (sample, sample::record(generator, first, degree))
-    }
+        sample::record(generator, first, degree)
+    };
+    sample.costs.clear();
+    (sample, record)
 }
 
 /// Counts what an accepted expansion shows.
 fn see(tally: &mut Tally, input: &CheckSample, record: &[u8]) {
-    let degree = input.degree();
-    tally.seen(DEGREE_2, degree == 2);
-    tally.seen(DEGREE_32, degree == 32);
-    let mut entries = record[degree..].chunks_exact(1 + 2 * input.rule().deviations());
-    let both = entries.any(|entry| entry[1] != 0xFF && entry[3] != 0xFF);
-    tally.seen(BOTH_COLUMNS, degree == 2 && both);
+    let (rule, degree) = (input.rule(), input.degree());
+    first_byte::see(tally, input.first);
+    first_byte::see_by_deviations(tally, rule, DEGREE_2, degree == 2);
+    first_byte::see_by_deviations(tally, rule, DEGREE_32, degree == 32);
+    let entries = record[degree..].chunks_exact(1 + 2 * rule.deviations());
+    let used = |entry: &[u8]| entry[1..].iter().step_by(2).filter(|&&n| n != 0xFF).count();
+    let most = entries.map(used).max();
+    tally.seen(BOTH_COLUMNS, degree == 2 && most == Some(2));
+    tally.seen(THREE_PAIRS, most == Some(3));
 }
 
-/// Every cause of 16 that a record has.
-fn causes(rule: Rule, degree: usize, record: &[u8]) -> BTreeSet<&'static str> {
-    if record.len() != record::length(rule, degree) {
-        return BTreeSet::from([LENGTH]);
+/// Counts why a record was refused.
+fn see_causes(tally: &mut Tally, input: &CheckSample, record: &[u8]) {
+    let (rule, degree) = (input.rule(), input.degree());
+    let found = causes(rule, degree, record);
+    for cause in Cause::ALL {
+        let alone = found == BTreeSet::from([cause]);
+        first_byte::see_by_deviations(tally, rule, cause.names(), alone);
     }
-    let mut causes = BTreeSet::new();
-    let mut cause = |name, met| {
-        if met {
-            causes.insert(name);
-        }
-    };
-    let (shifts, entries) = record.split_at(degree);
-    let mut shifts = shifts.iter();
-    cause(SHIFT, shifts.any(|&shift| !rule.field().contains(shift)));
-    for entry in entries.chunks_exact(1 + 2 * rule.deviations()) {
-        let (pairs, _) = entry[1..].as_chunks();
-        let is_unused = |pair: &[u8; 2]| pair[0] == 0xFF;
-        for pair in pairs {
-            let unused = is_unused(pair);
-            cause(NOT_FF_00, unused && pair[1] != 0);
-            cause(NOT_BELOW_D, !unused && usize::from(pair[0]) >= degree);
-            cause(NOT_ABOVE_E, !unused && pair[1] <= entry[0]);
-        }
-        let pairs = pairs.windows(2).map(|pair| (&pair[0], &pair[1]));
-        for (before, after) in pairs.filter(|(_, after)| !is_unused(after)) {
-            cause(BEFORE_USED, is_unused(before));
-            cause(NOT_RISING, !is_unused(before) && after[0] <= before[0]);
-        }
-    }
-    causes
-}
-
-#[cfg(test)]
-mod tests {
-    use super::*;
-
-    /// A record of accepted form for q = 4 and degree 3, one change in it, and the causes then.
-    fn causes_with(place: usize, value: u8) -> Vec<&'static str> {
-        let rule = Rule::new(2).expect("an accepted first byte");
-        let mut record = sample::bytes("000102 05 0006 0109 05 01FF FF00 05 FF00 FF00");
-        assert_eq!(causes(rule, 3, &record), BTreeSet::new());
-        record[place] = value;
-        causes(rule, 3, &record).into_iter().collect()
-    }
-
-    #[test]
-    fn each_cause_alone() {
-        let rule = Rule::new(2).expect("an accepted first byte");
-        assert_eq!(causes(rule, 3, &[0; 17]), BTreeSet::from([LENGTH]));
-        assert_eq!(causes_with(0, 4), [SHIFT]);
-        assert_eq!(causes_with(12, 1), [NOT_FF_00]);
-        assert_eq!(causes_with(6, 0), [NOT_RISING]);
-        assert_eq!(causes_with(6, 3), [NOT_BELOW_D]);
-        assert_eq!(causes_with(5, 5), [NOT_ABOVE_E]);
-        let mut record = sample::bytes("000102 05 FF00 0109 05 FF00 FF00 05 FF00 FF00");
-        assert_eq!(causes(rule, 3, &record), BTreeSet::from([BEFORE_USED]));
-        record[5] = 1;
-        assert_eq!(
-            causes(rule, 3, &record),
-            BTreeSet::from([BEFORE_USED, NOT_FF_00])
-        );
+    let other = Rule::new(first_byte::with_other_deviations(input.first));
+    let other = other.map(|other| record::length(other, degree));
+    let needed = record::length(rule, degree);
+    for (names, met) in [
+        (MISSING_BYTE, record.len() + 1 == needed),
+        (BYTE_LEFT_OVER, record.len() == needed + 1),
+        (OTHER_LENGTH, other == Ok(record.len())),
+    ] {
+        first_byte::see_by_deviations(tally, rule, names, met);
     }
 }

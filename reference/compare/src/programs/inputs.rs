@@ -2,7 +2,7 @@
 
 use std::io::{self, Cursor, Read};
 
-use reference_decoder::line::LINE_LIMIT;
+use reference_decoder::line::{hexadecimal, LINE_LIMIT};
 use reference_decoder::program::INPUT_LIMIT;
 use reference_decoder::sample::{self, Generator, Size};
 
@@ -16,10 +16,11 @@ pub fn random(generator: &mut Generator, size: &Size, frames: usize) -> Vec<u8> 
 }
 
 /// Document 01's example, and inputs each made for one rule of its section "Program" or for document 02,
-/// §1.
+/// §1 and §3.
 pub fn chosen() -> Vec<Vec<u8>> {
     let mut inputs = vec![lines(&[CODE, FRAME])];
     inputs.extend(few_columns());
+    inputs.extend(first_bytes());
     inputs.extend(ends());
     inputs.extend(other_bytes());
     inputs.extend(long_lines());
@@ -43,6 +44,20 @@ fn few_columns() -> Vec<Vec<u8>> {
         lines(&[b"02000301100101", three]),
         lines(&[b"02000301100102", three]),
     ]
+}
+
+/// Document 02, §3, "Three deviations": a frame that is found with three deviations and not with two, under
+/// its code with every first byte there is, and document 01's example with each.
+fn first_bytes() -> Vec<Vec<u8>> {
+    let rest = b"00050208030400000200010400030700040204000005000201000305000404";
+    let frame = b"0020E9B2B21399A98F111A9E00F3EDBBBB00B38DB3C70DBA0E009D54A8F7CA73501E905BE9D100E0";
+    let mut inputs = Vec::new();
+    for first in 0..=u8::MAX {
+        let with_first = |rest: &[u8]| [&hexadecimal(&[first]), rest].concat();
+        inputs.push(lines(&[&with_first(rest), frame]));
+        inputs.push(lines(&[&with_first(&CODE[2..]), FRAME]));
+    }
+    inputs
 }
 
 /// "Lines end in byte 0A; a last line without it counts if not empty." "Empty input prints the line

@@ -160,9 +160,17 @@ pub fn damaged_record(
             3 => record[pair + 1] = generator.byte(0..=255),
             4 => record[pair + 1] = record[entry],
             5 => {
-                // The length that a record of another k has.
-                let length = degree + generator.one_of(&[3, 5, 7, 9]) * (rule.field().size() - 1);
-                record.resize(length, 0);
+                // A byte less or more, or the length that another number of pairs has.
+                let of_pairs = |pairs: usize| degree + (1 + 2 * pairs) * (rule.field().size() - 1);
+                let length = record.len();
+                let lengths = [
+                    length - 1,
+                    length + 1,
+                    of_pairs(1),
+                    of_pairs(2),
+                    of_pairs(3),
+                ];
+                record.resize(generator.one_of(&lengths), 0);
             }
             _ => {
                 let other = entry + 1 + 2 * generator.below(k);

@@ -1,0 +1,131 @@
+//! The inputs of decodings.
+
+use reference_decoder::check::accept_costs;
+use reference_decoder::sample::{self, CodeSample, Generator, Size, Style};
+use reference_decoder::{code_line, Code};
+
+use crate::calls::first_byte;
+use crate::lent::{length_around, length_enough};
+
+/// Codes of a few columns that may take every iteration there can be.
+const LONG: Size = Size {
+    p: 2..=3,
+    k: 2..=3,
+    columns: 6..=10,
+    checks: 3..=6,
+    degree: 2..=5,
+    limit: 250..=255,
+};
+
+/// Codes of every size, with few iterations: the reference decoder takes up to a second for each.
+const WIDE: Size = Size {
+    limit: 1..=2,
+    ..Size::FULL
+};
+
+/// The size of a code, and whether the input is to be refused. Small codes are many, and those at
+/// the limits are mostly refused, since the reference decoder answers these at once.
+pub fn size(generator: &mut Generator) -> (Size, bool) {
+    match generator.below(2_000) {
+        0..2 => (Size::MOST_CHECKS, false),
+        2 => (Size::MOST_DEGREE, false),
+        3..12 => (WIDE, false),
+        12..60 => (Size::MEDIUM, false),
+        60..120 => (LONG, false),
+        120..150 => (Size::MOST_CHECKS, true),
+        150..180 => (Size::MOST_DEGREE, true),
+        _ => (Size::SMALL, false),
+    }
+}
+
+/// A frame near a word of the code, or now and then an arbitrary one.
+fn frame(generator: &mut Generator, sample: &CodeSample, code: &Code) -> Vec<u8> {
+    let style = generator.one_of(&Style::ALL);
+    if generator.once_in(3) {
+        sample::frame(generator, code, style)
+    } else {
+        let wrong = generator.between(0..=code.n / 4 + 1);
+        sample::noisy_frame(generator, code, &sample.word, wrong, style)
+    }
+}
+
+/// The used lengths of the symbol buffer, the cost buffer and the store.
+fn needed(code: &Code) -> [usize; 3] {
+    [code.n, code.frame_length(), code.store_length()]
+}
+
+/// The same code with the other k.
+pub fn with_other_deviations(code: &Code) -> Code {
+    Code {
+        first: first_byte::with_other_deviations(code.first),
+        ..code.clone()
+    }
+}
+
+/// A code line, a frame, and the lengths of the symbol buffer, the cost buffer and the store.
+pub struct Input {
+    pub line: Vec<u8>,
+    pub frame: Vec<u8>,
+    pub lengths: [usize; 3],
+}
+
+impl Input {
+    /// An accepted input of the size, with its code.
+    pub fn accepted(generator: &mut Generator, size: &Size) -> (Code, Input) {
+        let sample = sample::code(generator, size);
+        let code = code_line(&sample.line).expect("an accepted code line");
+        let input = Input {
+            frame: frame(generator, &sample, &code),
+            lengths: needed(&code).map(|needed| length_enough(generator, needed)),
+            line: sample.line,
+        };
+        (code, input)
+    }
+
+    /// Damages each part now and then, several at once too, so that the order of refusals matters.
+    pub fn damage_some(&mut self, generator: &mut Generator, code: &Code) {
+        if generator.once_in(5) {
+            self.line = sample::damaged_code(generator, &self.line);
+        }
+        if generator.once_in(5) {
+            self.frame = sample::damaged_frame(generator, code.field().size(), &self.frame);
+        }
+        for (length, needed) in self.lengths.iter_mut().zip(needed(code)) {
+            if generator.once_in(5) {
+                *length = length_around(generator, needed);
+            }
+        }
+        if generator.once_in(20) {
+            self.lengths[2] = length_around(generator, with_other_deviations(code).store_length());
+        }
+    }
+
+    /// Damages one part so that the input is refused.
+    pub fn damage_one(&mut self, generator: &mut Generator, code: &Code) {
+        match generator.below(8) {
+            0 => self.damage_edge_total(code),
+            1 => {
+                let buffer = generator.below(3);
+                self.lengths[buffer] = needed(code)[buffer] - 1;
+            }
+            2..5 => {
+                while accept_costs(code.field(), code.n, &self.frame).is_ok() {
+                    self.frame = sample::damaged_frame(generator, code.field().size(), &self.frame);
+                }
+            }
+            _ => {
+                while code_line(&self.line).is_ok() {
+                    self.line = sample::damaged_code(generator, &self.line);
+                }
+            }
+        }
+    }
+
+    /// Gives the last check one more edge. With 1,024 edges before, "the edge total passes 1,024".
+    fn damage_edge_total(&mut self, code: &Code) {
+        let degree = code.checks.last().map_or(0, |check| check.weights.len());
+        let degree_place = self.line.len() - 3 * degree - 1;
+        self.line[degree_place] += 1;
+        self.line.extend([0, 0, 1]);
+    }
+}

@@ -1,0 +1,93 @@
+//! What decodings must meet beside their answers.
+
+use reference_decoder::{record, Code};
+
+use super::inputs::with_other_deviations;
+use super::Buffers;
+use crate::calls::first_byte::{self, ByDeviations};
+use crate::tally::{Class, Tally};
+
+const LEAST_COLUMNS: ByDeviations = ["N 2, k 2", "N 2, k 3"];
+const LEAST_DEGREE: ByDeviations = ["degree 2, k 2", "degree 2, k 3"];
+const MOST_COLUMNS: ByDeviations = ["N 256, k 2", "N 256, k 3"];
+const MOST_CHECKS: ByDeviations = ["M 128, k 2", "M 128, k 3"];
+const MOST_EDGES: ByDeviations = ["1,024 edges, k 2", "1,024 edges, k 3"];
+const MOST_DEGREE: ByDeviations = ["degree 32, k 2", "degree 32, k 3"];
+const MOST_ITERATIONS: ByDeviations = ["t 255, k 2", "t 255, k 3"];
+const PAST_A_BYTE: ByDeviations = ["P above 255, k 2", "P above 255, k 3"];
+const EXACT_STORE: ByDeviations = ["k 2, a store of its length", "k 3, a store of its length"];
+const STORE_SHORT_BY_ONE: ByDeviations =
+    ["k 2, 4 by one byte of room", "k 3, 4 by one byte of room"];
+/// Document 02, §3: "4 and 16 use the new length".
+const STORE_OF_OTHER_LENGTH: ByDeviations = ["k 2, a store for k 3", "k 3, 4 by a store for k 2"];
+const THREE_PAIRS: &str = "3 pairs used in a store";
+
+/// The classes of answers, and all that must be seen.
+pub fn expected() -> Vec<Class> {
+    let mut classes = vec![Class::FoundAtStart, Class::FoundLater, Class::NotFound];
+    classes.extend((2..=13).map(Class::Refused));
+    let by_deviations = [
+        LEAST_COLUMNS,
+        LEAST_DEGREE,
+        MOST_COLUMNS,
+        MOST_CHECKS,
+        MOST_EDGES,
+        MOST_DEGREE,
+        MOST_ITERATIONS,
+        PAST_A_BYTE,
+        EXACT_STORE,
+        STORE_SHORT_BY_ONE,
+        STORE_OF_OTHER_LENGTH,
+    ];
+    let seen = by_deviations.into_iter().flatten();
+    let seen = seen.chain(first_byte::names()).chain([THREE_PAIRS]);
+    classes.extend(seen.map(Class::Seen));
+    classes
+}
+
+/// Counts the length of the store of a decoding that is accepted but for it.
+pub fn see_room(tally: &mut Tally, code: &Code, length: usize) {
+    let needed = code.store_length();
+    for (names, met) in [
+        (EXACT_STORE, length == needed),
+        (STORE_SHORT_BY_ONE, length + 1 == needed),
+        (
+            STORE_OF_OTHER_LENGTH,
+            length == with_other_deviations(code).store_length(),
+        ),
+    ] {
+        first_byte::see_by_deviations(tally, code.rule(), names, met);
+    }
+}
+
+/// Counts what a decoding with at least one iteration shows.
+pub fn see(tally: &mut Tally, code: &Code, t: u8, buffers: &Buffers) {
+    let degrees = code.checks.iter().map(|check| check.weights.len());
+    let costs = &buffers.costs.slice()[..code.frame_length()];
+    first_byte::see(tally, code.first);
+    for (names, met) in [
+        (LEAST_COLUMNS, code.n == 2),
+        (LEAST_DEGREE, degrees.clone().min() == Some(2)),
+        (MOST_COLUMNS, code.n == 256),
+        (MOST_CHECKS, code.m == 128),
+        (MOST_EDGES, degrees.clone().sum::<usize>() == 1_024),
+        (MOST_DEGREE, degrees.max() == Some(32)),
+        (MOST_ITERATIONS, t == 255),
+        (PAST_A_BYTE, costs.iter().any(|&cost| cost > 255)),
+    ] {
+        first_byte::see_by_deviations(tally, code.rule(), names, met);
+    }
+    tally.seen(THREE_PAIRS, has_three_pairs(code, buffers.store.slice()));
+}
+
+/// Whether some a of the store's records uses three pairs.
+fn has_three_pairs(code: &Code, mut store: &[u8]) -> bool {
+    let rule = code.rule();
+    code.checks.iter().any(|check| {
+        let degree = check.weights.len();
+        let (record, rest) = store.split_at(record::length(rule, degree));
+        store = rest;
+        let mut entries = record[degree..].chunks_exact(1 + 2 * rule.deviations());
+        entries.any(|entry| entry.get(5).is_some_and(|&column| column != 0xFF))
+    })
+}
