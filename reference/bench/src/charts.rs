@@ -4,7 +4,7 @@ use simulate::chart::{Axis, Chart, Point, Series, Stroke, COLOURS};
 
 use crate::checks::{Row, DEGREES, PS};
 use crate::engines::Engine;
-use crate::targets::{OF_C, OF_RUST};
+use crate::targets::{OF_C, OF_RUST, OF_TWO};
 
 /// Whose times are drawn, and how.
 const TIMES: [(Engine, Stroke); 3] = [
@@ -37,7 +37,9 @@ pub fn time_per_check(rows: &[Row]) -> Chart {
 /// The proved library's time per check by that of the same algorithm in Rust.
 pub fn ratio_to_rust(rows: &[Row]) -> Chart {
     let level = (OF_RUST, format!("target: at most {OF_RUST:.1}"));
-    ratio(rows, Engine::Rust, "the same algorithm in Rust", level)
+    let title = "Time per check: proved library by the same algorithm in Rust";
+    let of_row = |row: &Row| row.check.ratio(Engine::Proved, Engine::Rust);
+    ratio(rows, title, of_row, level)
 }
 
 /// The proved library's time per check by that of the same algorithm by hand in C.
@@ -46,12 +48,26 @@ pub fn ratio_to_c(rows: &[Row]) -> Chart {
         OF_C,
         format!("target, p from 4 up, d to 8: at most {OF_C:.1}"),
     );
-    ratio(rows, Engine::Sse2, "the same by hand in C (SSE2)", level)
+    let title = "Time per check: proved library by the same by hand in C (SSE2)";
+    let of_row = |row: &Row| row.check.ratio(Engine::Proved, Engine::Sse2);
+    ratio(rows, title, of_row, level)
 }
 
-/// The proved library's time per check by another's.
-fn ratio(rows: &[Row], other: Engine, name: &str, level: (f64, String)) -> Chart {
-    let ratio = |row: &Row| row.check.ratio(Engine::Proved, other);
+/// The proved library's time per check with k = 3 by that with k = 2.
+pub fn three_by_two(rows: &[Row]) -> Chart {
+    let level = (OF_TWO, format!("target: at most {OF_TWO:.1}"));
+    let title = "Time per check: proved library with k = 3 by k = 2";
+    let of_row = |row: &Row| row.three.ratio(Engine::Proved, Engine::ProvedTwo);
+    ratio(rows, title, of_row, level)
+}
+
+/// A ratio against d, for every p.
+fn ratio(
+    rows: &[Row],
+    title: &str,
+    ratio: impl Fn(&Row) -> f64 + Copy,
+    level: (f64, String),
+) -> Chart {
     let high = rows.iter().map(ratio).fold(1.25 * level.0, f64::max);
     let step = if high <= 2.0 {
         0.25
@@ -60,7 +76,7 @@ fn ratio(rows: &[Row], other: Engine, name: &str, level: (f64, String)) -> Chart
     };
     let of_p = |(p, colour)| series(rows, format!("p = {p}"), p, colour, Stroke::Solid, ratio);
     Chart {
-        title: format!("Time per check: proved library by {name}"),
+        title: title.to_string(),
         x: degrees(),
         y: Axis::linear("ratio", 0.0, (high / step).ceil() * step, step),
         series: PS.into_iter().zip(COLOURS).map(of_p).collect(),

@@ -1,4 +1,4 @@
-//! The times of one check and of one expansion by p and d.
+//! The times of one check, with k = 2 and with k = 3, and of one expansion by p and d.
 
 use std::fmt::Debug;
 
@@ -17,7 +17,7 @@ pub const DEGREES: [usize; 6] = [3, 4, 6, 8, 16, 32];
 /// time.
 const COUNT: usize = 160;
 
-/// Who makes checks.
+/// Who makes checks with k = 2.
 const CHECKING: [Engine; 7] = [
     Engine::Proved,
     Engine::Rust,
@@ -27,14 +27,22 @@ const CHECKING: [Engine; 7] = [
     Engine::Sweeps,
     Engine::Old,
 ];
+/// Who makes checks with k = 3, and beside them with k = 2.
+const DEVIATING: [Engine; 5] = [
+    Engine::Proved,
+    Engine::Rust,
+    Engine::Sweeps,
+    Engine::ProvedTwo,
+    Engine::RustTwo,
+];
 /// Who expands records.
 const EXPANDING: [Engine; 3] = [Engine::Proved, Engine::Rust, Engine::Old];
 
 /// The results of checks and expansions are bytes: the buffers are filled with A5 beforehand, and
-/// every byte is compared.
+/// every byte is compared. Only records of another k have another length.
 const BYTES: Rules<Vec<u8>> = Rules {
     spoil: |buffer| buffer.fill(0xA5),
-    agree: |one, other| one == other,
+    agree: |one, other| one == other || one.len() != other.len(),
     units: |_| 1,
 };
 
@@ -50,26 +58,29 @@ pub struct Row {
     pub p: u8,
     /// d.
     pub degree: usize,
-    /// The checks.
+    /// The checks with k = 2.
     pub check: Results,
+    /// The checks with k = 3, and beside them with k = 2.
+    pub three: Results,
     /// The expansions.
     pub expand: Results,
 }
 
 impl Row {
     /// A size that is not measured yet.
-    fn new(p: u8, degree: usize) -> Row {
+    pub fn new(p: u8, degree: usize) -> Row {
         Row {
             p,
             degree,
             check: Results::default(),
+            three: Results::default(),
             expand: Results::default(),
         }
     }
 
-    /// The bytes of a record, "d + 5(q - 1)".
-    pub fn record_length(&self) -> usize {
-        self.degree + 5 * ((1 << self.p) - 1)
+    /// The bytes of a record: "1 + 2k bytes a symbol" behind the d shifts.
+    pub fn record_length(&self, k: usize) -> usize {
+        self.degree + (1 + 2 * k) * ((1 << self.p) - 1)
     }
 
     /// The bytes of plain messages, d times q.
@@ -77,15 +88,74 @@ impl Row {
         self.degree << self.p
     }
 
-    /// One round of checks. Answers their records.
+    /// Measures so many checks of one round with k = 2 and their expansions, and as many of another round
+    /// with k = 3.
+    pub fn measure(&mut self, costs: Costs, [two, three]: [usize; 2], count: usize) {
+        let checks = |round| inputs::checks(self.p, self.degree, costs, round, count);
+        let (inputs, others) = (checks(two), checks(three));
+        let records = self.race_checks(&inputs, two);
+        self.race_deviations(&others, three);
+        let packed = inputs.into_iter().zip(records);
+        let packed = packed.map(|(check, record)| Packed { check, record });
+        self.race_expansions(&packed.collect::<Vec<_>>(), two);
+    }
+
+    /// One round of checks with k = 2. Answers their records.
     fn race_checks(&mut self, inputs: &[CheckSample], round: usize) -> Vec<Vec<u8>> {
         let engines = Engine::present(CHECKING);
-        let lent = vec![0; self.record_length()];
-        let contender = |&engine| checking(engine, self.p, inputs, lent.clone());
+        let contender = |&engine| self.checking(engine, 2, inputs);
         let mut contenders: Vec<_> = engines.iter().map(contender).collect();
         let times = race(&mut contenders, round, &BYTES);
+        let records = contenders[0].outputs().to_vec();
         self.check.append(&engines, times);
-        contenders[0].outputs().to_vec()
+        records
+    }
+
+    /// One round of checks with k = 3.
+    fn race_deviations(&mut self, inputs: &[CheckSample], round: usize) {
+        let mut contenders = DEVIATING.map(|engine| self.checking(engine, 3, inputs));
+        let times = race(&mut contenders, round, &BYTES);
+        self.three.append(&DEVIATING, times);
+    }
+
+    /// An engine on some checks with this k; a few are always on checks with k = 2.
+    fn checking<'a>(
+        &self,
+        engine: Engine,
+        k: usize,
+        inputs: &'a [CheckSample],
+    ) -> Contender<'a, CheckSample, Vec<u8>> {
+        let k = match engine {
+            Engine::ProvedTwo | Engine::RustTwo => 2,
+            _ => k,
+        };
+        let lent = vec![0; self.record_length(k)];
+        let first = inputs::first_byte(self.p, k);
+        match engine {
+            Engine::Proved | Engine::ProvedTwo => {
+                Contender::new(inputs, lent, check_by(first, petsivola::check))
+            }
+            Engine::Rust | Engine::RustTwo => {
+                Contender::new(inputs, lent, check_by(first, same::check))
+            }
+            Engine::Search => Contender::new(inputs, lent, check_by(first, search_engine::check)),
+            Engine::Sse2 => Contender::new(inputs, lent, check_by(first, foreign::check_sse2)),
+            Engine::Avx2 => {
+                let check = foreign::check_avx2().expect("AVX2 is present");
+                Contender::new(inputs, lent, check_by(first, check))
+            }
+            Engine::Sweeps => {
+                // Its tables are kept from call to call.
+                let mut sweeps = sweeps::Engine::new(self.p, k);
+                Contender::new(inputs, lent, move |input: &CheckSample, out| {
+                    sweeps.check(&input.weights, &input.costs, out)
+                })
+            }
+            Engine::Old => {
+                let old = foreign::old_library().expect("the old library is present");
+                Contender::new(inputs, lent, check_by(first, old.check))
+            }
+        }
     }
 
     /// One round of expansions.
@@ -99,43 +169,13 @@ impl Row {
     }
 }
 
-/// An engine on some checks.
-fn checking(
-    engine: Engine,
-    p: u8,
-    inputs: &[CheckSample],
-    lent: Vec<u8>,
-) -> Contender<'_, CheckSample, Vec<u8>> {
-    match engine {
-        Engine::Proved => Contender::new(inputs, lent, check_by(p, petsivola::check)),
-        Engine::Rust => Contender::new(inputs, lent, check_by(p, same::check)),
-        Engine::Search => Contender::new(inputs, lent, check_by(p, search_engine::check)),
-        Engine::Sse2 => Contender::new(inputs, lent, check_by(p, foreign::check_sse2)),
-        Engine::Avx2 => {
-            let check = foreign::check_avx2().expect("AVX2 is present");
-            Contender::new(inputs, lent, check_by(p, check))
-        }
-        Engine::Sweeps => {
-            // Its tables are kept from call to call.
-            let mut sweeps = sweeps::Engine::new(p);
-            Contender::new(inputs, lent, move |input: &CheckSample, out| {
-                sweeps.check(&input.weights, &input.costs, out)
-            })
-        }
-        Engine::Old => {
-            let old = foreign::old_library().expect("the old library is present");
-            Contender::new(inputs, lent, check_by(p, old.check))
-        }
-    }
-}
-
 /// A check as a call on one input.
 fn check_by<E: Debug>(
-    p: u8,
+    first: u8,
     check: impl Fn(u8, &[u8], &[u8], &mut [u8]) -> Result<usize, E>,
 ) -> impl FnMut(&CheckSample, &mut Vec<u8>) {
     move |input, out| {
-        check(p, &input.weights, &input.costs, out).expect("an accepted check");
+        check(first, &input.weights, &input.costs, out).expect("an accepted check");
     }
 }
 
@@ -174,12 +214,7 @@ pub fn table(costs: Costs, rounds: usize) -> Vec<Row> {
     for round in 0..rounds {
         eprintln!("check, {costs:?} costs, round {} of {rounds}", round + 1);
         for row in &mut rows {
-            let count = COUNT << (6 - row.p);
-            let inputs = inputs::checks(row.p, row.degree, costs, round, count);
-            let records = row.race_checks(&inputs, round);
-            let packed = inputs.into_iter().zip(records);
-            let packed = packed.map(|(check, record)| Packed { check, record });
-            row.race_expansions(&packed.collect::<Vec<_>>(), round);
+            row.measure(costs, [round, rounds + round], COUNT << (6 - row.p));
         }
     }
     rows

@@ -20,6 +20,10 @@ pub enum Engine {
     Sweeps,
     /// An older proved library.
     Old,
+    /// The proved library with k = 2, beside others with k = 3.
+    ProvedTwo,
+    /// The same algorithm in Rust with k = 2, beside others with k = 3.
+    RustTwo,
 }
 
 impl Engine {
@@ -33,6 +37,8 @@ impl Engine {
             Engine::Avx2 => "C, AVX2",
             Engine::Sweeps => "sweeps",
             Engine::Old => "old",
+            Engine::ProvedTwo => "proved, k = 2",
+            Engine::RustTwo => "Rust, k = 2",
         }
     }
 

@@ -21,7 +21,15 @@ pub enum Costs {
     Uniform,
 }
 
-/// The checks of one size in one round.
+/// The first byte for p and k, 2 or 3.
+pub fn first_byte(p: u8, k: usize) -> u8 {
+    match k {
+        2 => p,
+        _ => 0x20 + p,
+    }
+}
+
+/// The checks of one size in one round; they serve for every k.
 pub fn checks(p: u8, degree: usize, costs: Costs, round: usize, count: usize) -> Vec<CheckSample> {
     let size = u64::from(p) * 64 + degree as u64;
     let mut generator = Generator::new(round as u64 * 512 + size);

@@ -86,6 +86,7 @@ fn run(rounds: usize, out: Option<&Path>) -> io::Result<()> {
             ("time-per-check.svg", charts::time_per_check(&channel)),
             ("ratio-to-rust.svg", charts::ratio_to_rust(&channel)),
             ("ratio-to-c.svg", charts::ratio_to_c(&channel)),
+            ("three-by-two.svg", charts::three_by_two(&channel)),
         ];
         for (name, chart) in charts {
             fs::write(directory.join(name), chart.svg())?;

@@ -1,5 +1,7 @@
 //! The Markdown document that a run writes.
 
+mod deviations;
+
 use crate::checks::Row;
 use crate::decoding::{self, LIMIT, SCALE};
 use crate::encoding;
@@ -32,6 +34,7 @@ impl Report<'_> {
             self.head(),
             targets(self.targets),
             self.checks(),
+            deviations::section(self.channel, self.uniform),
             self.expansions(),
             self.decodings(),
             self.encodings(),
@@ -66,7 +69,7 @@ impl Report<'_> {
     fn checks(&self) -> String {
         let [channel, uniform] = self.growth;
         format!(
-            "## Time per check\n\nCosts are quantised symbols of a noisy channel, as a decoder's first \
+            "## Time per check\n\nWith k = 2. Costs are quantised symbols of a noisy channel, as a decoder's first \
              iteration brings them. Times in microseconds, then ratios.\n\n{}{}\
              ![Time per check](time-per-check.svg)\n\n![Ratio to Rust](ratio-to-rust.svg)\n\n\
              ![Ratio to C](ratio-to-c.svg)\n\n\
@@ -85,7 +88,7 @@ impl Report<'_> {
         let head = ["p", "d", "proved, µs", "Rust, µs", "proved / Rust"];
         let sizes = ["record, bytes", "plain, bytes", "record / plain"];
         let rows = self.channel.iter().map(|row| {
-            let (record, plain) = (row.record_length(), row.plain_length());
+            let (record, plain) = (row.record_length(2), row.plain_length());
             vec![
                 row.p.to_string(),
                 row.degree.to_string(),
@@ -98,8 +101,8 @@ impl Report<'_> {
             ]
         });
         format!(
-            "## Expansion, and record sizes\n\nA record has d + 5(q - 1) bytes, plain messages d·q. \
-             The expansion tests the form of the record first.\n\n{}",
+            "## Expansion, and record sizes\n\nWith k = 2 a record has d + 5(q - 1) bytes; plain messages \
+             have d·q. The expansion tests the form of the record first.\n\n{}",
             table(&[&head[..], &sizes].concat(), rows)
         )
     }
@@ -119,7 +122,7 @@ impl Report<'_> {
             "plain, bytes",
         ];
         format!(
-            "## Decoding\n\nNoisy random words over BPSK and white noise, g = {SCALE}, I = {LIMIT}. \
+            "## Decoding\n\nNoisy random words over BPSK and white noise, k = 2, g = {SCALE}, I = {LIMIT}. \
              The time of an iteration is the time of a whole call, with the reading of the code \
              line and the first test, divided by its iterations; coded bits per second count N·p \
              bits a frame at the mean iterations beside them. Sweeps: the layered decoder with \

@@ -1,22 +1,22 @@
 //! The textbook engine for one check: forward and backward sweeps over the trellis. Document 02, §7:
 //! "For one check it keeps, for each partial sum and each count of deviations up to k, the least cost
 //! over the columns before n, and the same over the columns after n, and joins the two sweeps for
-//! column n." Here k = 2, as in document 01; the work is some d q² (k + 1)(k + 2) / 2 joins.
+//! column n." The work is some d q² (k + 1)(k + 2) / 2 joins.
 
 use simulate::field::Field;
 use simulate::layered::{hard_decision, CheckRule};
 
-/// k + 1: the counts of deviations, 0 to 2.
-const COUNTS: usize = 3;
 /// Stands where no choice exists. Twice this still fits, and every cost of a choice is smaller.
 const NONE: u16 = 30_000;
 
-/// The least cost for each count of deviations and each partial sum.
-type Costs = [Vec<u16>; COUNTS];
+/// The least cost for each count of deviations, 0 to k, and each partial sum.
+type Costs = Vec<Vec<u16>>;
 
 /// The sweeps, with their tables kept from call to call.
-#[derive(Clone, Debug, Default)]
+#[derive(Clone, Debug)]
 pub struct Sweeps {
+    /// k.
+    deviations: usize,
     /// Over the columns before n, for each n.
     before: Vec<Costs>,
     /// Over the columns after the one at hand.
@@ -24,11 +24,25 @@ pub struct Sweeps {
     next: Costs,
 }
 
+impl Sweeps {
+    /// The sweeps for choices with at most so many deviations.
+    pub fn new(deviations: usize) -> Sweeps {
+        let costs = vec![Vec::new(); deviations + 1];
+        Sweeps {
+            deviations,
+            before: Vec::new(),
+            after: costs.clone(),
+            next: costs,
+        }
+    }
+}
+
 impl CheckRule for Sweeps {
     fn send(&mut self, q: usize, terms: &[u8], brought: &[u8], sent: &mut [u8]) {
         let columns = terms.chunks_exact(q).zip(brought.chunks_exact(q));
         let degree = brought.len() / q;
-        self.before.resize(degree, Costs::default());
+        self.before
+            .resize(degree, vec![Vec::new(); self.deviations + 1]);
         start(q, &mut self.before[0]);
         // Nothing is asked over the columns before or after all of them, so no sweep takes its last.
         for (n, (terms, costs)) in columns.clone().enumerate().take(degree - 1) {
@@ -59,9 +73,9 @@ fn start(q: usize, costs: &mut Costs) {
 /// One column more: from the costs over some columns to those over these and this one.
 fn step(q: usize, terms: &[u8], costs: &[u8], known: &Costs, next: &mut Costs) {
     let decision = hard_decision(costs);
-    for count in 0..COUNTS {
-        next[count].clear();
-        next[count].resize(q, NONE);
+    for (count, next) in next.iter_mut().enumerate() {
+        next.clear();
+        next.resize(q, NONE);
         for (symbol, (&term, &cost)) in terms.iter().zip(costs).enumerate() {
             let earlier = match (symbol == decision, count) {
                 (true, _) => &known[count],
@@ -69,7 +83,7 @@ fn step(q: usize, terms: &[u8], costs: &[u8], known: &Costs, next: &mut Costs) {
                 (false, _) => &known[count - 1],
             };
             for (sum, &earlier) in earlier.iter().enumerate() {
-                let least = &mut next[count][sum ^ usize::from(term)];
+                let least = &mut next[sum ^ usize::from(term)];
                 *least = (earlier + u16::from(cost)).min(*least).min(NONE);
             }
         }
@@ -77,12 +91,12 @@ fn step(q: usize, terms: &[u8], costs: &[u8], known: &Costs, next: &mut Costs) {
 }
 
 /// "joins the two sweeps for column n": the cost sent at x is the least over the sums and counts
-/// before and after n that make h_n times x with at most two deviations.
+/// before and after n that make h_n times x with at most k deviations.
 fn join(terms: &[u8], before: &Costs, after: &Costs, sent: &mut [u8]) {
     for (sent, &term) in sent.iter_mut().zip(terms) {
         let mut least = NONE;
         for (count, before) in before.iter().enumerate() {
-            for after in &after[..COUNTS - count] {
+            for after in &after[..after.len() - count] {
                 for (sum, &before) in before.iter().enumerate() {
                     let other = sum ^ usize::from(term);
                     least = (before + after[other]).min(least);
@@ -106,17 +120,17 @@ pub struct Engine {
 }
 
 impl Engine {
-    /// The engine for p.
-    pub fn new(p: u8) -> Engine {
+    /// The engine for p and k.
+    pub fn new(p: u8, deviations: usize) -> Engine {
         Engine {
             field: Field::new(p),
-            sweeps: Sweeps::default(),
+            sweeps: Sweeps::new(deviations),
             terms: Vec::new(),
             sent: Vec::new(),
         }
     }
 
-    /// Writes the record of a check, "d shift bytes, s_0 first, then five bytes for each a".
+    /// Writes the record of a check: "d shift bytes, s_0 first", then "1 + 2k bytes a symbol".
     pub fn check(&mut self, weights: &[u8], costs: &[u8], record: &mut [u8]) {
         let (q, field) = (self.field.size(), &self.field);
         self.terms.clear();
@@ -134,13 +148,12 @@ impl Engine {
         }
         let sum = shifts.iter().fold(0, |sum, term| sum ^ term);
         shifts.iter_mut().for_each(|shift| *shift ^= sum);
-        let (groups, _) = groups.as_chunks_mut();
         self.pack(q, shifts, groups);
     }
 
     /// "The columns are those with S_n(a) greater than E(a), rising; an unused pair is FF 00." Document
     /// 02, §1: "E(a) is therefore the least of S_n(a) over the columns, at each degree."
-    fn pack(&self, q: usize, shifts: &[u8], groups: &mut [[u8; 5]]) {
+    fn pack(&self, q: usize, shifts: &[u8], groups: &mut [u8]) {
         let columns = || {
             let columns = self.terms.chunks_exact(q).zip(self.sent.chunks_exact(q));
             columns.zip(shifts).flat_map(|((terms, sent), &shift)| {
@@ -148,15 +161,22 @@ impl Engine {
                 sums.zip(sent)
             })
         };
-        groups.fill([0xFF, 0xFF, 0x00, 0xFF, 0x00]);
+        let length = 1 + 2 * self.sweeps.deviations;
+        for group in groups.chunks_exact_mut(length) {
+            group[0] = 0xFF;
+            let (pairs, _) = group[1..].as_chunks_mut();
+            pairs.fill([0xFF, 0x00]);
+        }
         for (a, &cost) in columns().filter(|&(a, _)| a > 0) {
-            groups[a - 1][0] = cost.min(groups[a - 1][0]);
+            let extra = &mut groups[(a - 1) * length];
+            *extra = cost.min(*extra);
         }
         for (place, (a, &cost)) in columns().enumerate().filter(|&(_, (a, _))| a > 0) {
-            let group = &mut groups[a - 1];
+            let group = &mut groups[(a - 1) * length..][..length];
             if cost > group[0] {
-                let pair = if group[1] == 0xFF { 1 } else { 3 };
-                group[pair..][..2].copy_from_slice(&[(place / q) as u8, cost]);
+                let (pairs, _) = group[1..].as_chunks_mut();
+                let unused = pairs.iter().position(|pair| pair[0] == 0xFF);
+                pairs[unused.expect("a pair for each column")] = [(place / q) as u8, cost];
             }
         }
     }

@@ -8,6 +8,10 @@ pub const OF_RUST: f64 = 1.0;
 /// The most that a check may take of the time of the same algorithm by hand in C with SSE2, where this is
 /// asked.
 pub const OF_C: f64 = 2.5;
+/// The most that a check with k = 3 may take of the time with k = 2.
+pub const OF_TWO: f64 = 2.0;
+/// The least that the sweeps may take of the time of a check with k = 3, where this is asked.
+pub const BY_SWEEPS: f64 = 8.0;
 
 /// One target with what was measured.
 pub struct Target {
@@ -23,15 +27,12 @@ pub struct Target {
 
 /// Every target, over all measured checks and codes.
 pub fn targets(checks: &[&checks::Row], codes: &[decoding::Row]) -> Vec<Target> {
-    let by = |other, rows: &[&checks::Row]| {
-        let ratio = |row: &&checks::Row| {
-            let place = format!("p = {}, d = {}", row.p, row.degree);
-            (row.check.ratio(Engine::Proved, other), place)
-        };
-        rows.iter().map(ratio).collect()
-    };
-    let short = checks.iter().filter(|row| row.p >= 4 && row.degree <= 8);
-    let short: Vec<_> = short.copied().collect();
+    let large: Vec<_> = checks.iter().copied().filter(|row| row.p >= 4).collect();
+    let short: Vec<_> = large
+        .iter()
+        .copied()
+        .filter(|row| row.degree <= 8)
+        .collect();
     let iterations = codes.iter().map(|row| {
         let ratio = row.decode.ratio(Engine::Proved, Engine::Rust);
         (ratio, row.job.name.to_string())
@@ -40,7 +41,7 @@ pub fn targets(checks: &[&checks::Row], codes: &[decoding::Row]) -> Vec<Target> 
         at_most(
             format!("check: at most {OF_RUST:.1} times the same algorithm in Rust"),
             OF_RUST,
-            by(Engine::Rust, checks),
+            ratios(checks, |row| row.check.ratio(Engine::Proved, Engine::Rust)),
         ),
         at_most(
             format!(
@@ -48,7 +49,19 @@ pub fn targets(checks: &[&checks::Row], codes: &[decoding::Row]) -> Vec<Target> 
                  with SSE2"
             ),
             OF_C,
-            by(Engine::Sse2, &short),
+            ratios(&short, |row| row.check.ratio(Engine::Proved, Engine::Sse2)),
+        ),
+        at_most(
+            format!("check with k = 3: at most {OF_TWO:.1} times the same check with k = 2"),
+            OF_TWO,
+            ratios(checks, |row| {
+                row.three.ratio(Engine::Proved, Engine::ProvedTwo)
+            }),
+        ),
+        at_least(
+            format!("check with k = 3, from p = 4 up: the sweeps take at least {BY_SWEEPS:.1} times as long"),
+            BY_SWEEPS,
+            ratios(&large, |row| row.three.ratio(Engine::Sweeps, Engine::Proved)),
         ),
         at_most(
             format!("decoding: an iteration at most {OF_RUST:.1} times the same algorithm in Rust"),
@@ -56,6 +69,13 @@ pub fn targets(checks: &[&checks::Row], codes: &[decoding::Row]) -> Vec<Target> 
             iterations.collect(),
         ),
     ]
+}
+
+/// A ratio of each row, with its place.
+fn ratios(rows: &[&checks::Row], ratio: impl Fn(&checks::Row) -> f64) -> Vec<(f64, String)> {
+    let rows = rows.iter();
+    rows.map(|row| (ratio(row), format!("p = {}, d = {}", row.p, row.degree)))
+        .collect()
 }
 
 fn at_most(text: String, limit: f64, numbers: Vec<(f64, String)>) -> Target {
@@ -67,5 +87,41 @@ fn at_most(text: String, limit: f64, numbers: Vec<(f64, String)>) -> Target {
         worst: worst.expect("something was measured"),
         measured,
         missed,
+    }
+}
+
+fn at_least(text: String, limit: f64, numbers: Vec<(f64, String)>) -> Target {
+    let missed = numbers.iter().filter(|(number, _)| *number < limit).count();
+    let measured = numbers.len();
+    let worst = numbers.into_iter().min_by(|a, b| a.0.total_cmp(&b.0));
+    Target {
+        text,
+        worst: worst.expect("something was measured"),
+        measured,
+        missed,
+    }
+}
+
+#[cfg(test)]
+mod tests {
+    use super::*;
+
+    fn numbers() -> Vec<(f64, String)> {
+        let names = ["a", "b", "c", "d"].map(String::from);
+        [8.5, 7.0, 9.0, 8.0].into_iter().zip(names).collect()
+    }
+
+    #[test]
+    fn the_worst_is_the_greatest_where_a_number_is_at_most() {
+        let target = at_most(String::new(), 8.0, numbers());
+        assert_eq!(target.worst, (9.0, "c".to_string()));
+        assert_eq!((target.missed, target.measured), (2, 4));
+    }
+
+    #[test]
+    fn the_worst_is_the_least_where_a_number_is_at_least() {
+        let target = at_least(String::new(), 8.0, numbers());
+        assert_eq!(target.worst, (7.0, "b".to_string()));
+        assert_eq!((target.missed, target.measured), (1, 4));
     }
 }

@@ -1,0 +1,45 @@
+//! The document of a run: every measured size is in it, with both k.
+
+use bench::checks::Row;
+use bench::inputs::{self, Costs};
+use bench::report::Report;
+use bench::{charts, encoding};
+
+/// A size, measured on a few checks.
+fn row(p: u8, degree: usize) -> Row {
+    let mut row = Row::new(p, degree);
+    row.measure(Costs::Channel, [0, 1], 8);
+    row
+}
+
+#[test]
+fn every_size_stands_in_it_with_both_k() {
+    let rows = [row(2, 3), row(3, 4)];
+    let report = Report {
+        channel: &rows,
+        uniform: &rows,
+        growth: [1.0, 1.0],
+        codes: &[],
+        encoding: &encoding::measure(inputs::encodable(), 1),
+        targets: &[],
+        rounds: 1,
+    };
+    let text = report.markdown();
+    let (_, section) = text.split_once("## Three deviations").expect("the section");
+    let (section, _) = section.split_once("\n## ").expect("another section");
+    for size in ["| 2 | 3 | ", "| 3 | 4 | "] {
+        let of_size = section.lines().filter(|line| line.starts_with(size));
+        let cells = of_size.map(|line| line.matches(" | ").count() + 1);
+        // Times and ratios, with costs from the channel and uniform.
+        assert_eq!(cells.collect::<Vec<_>>(), [7, 6, 7, 6]);
+    }
+    assert!(section.contains("| k = 3, sweeps / proved |"));
+    let svg = charts::three_by_two(&rows).svg();
+    assert!(svg.contains("target: at most 2.0"));
+}
+
+#[test]
+fn the_length_of_a_record_is_that_of_its_k() {
+    let row = Row::new(6, 32);
+    assert_eq!([2, 3].map(|k| row.record_length(k)), [347, 473]);
+}
