@@ -80,7 +80,7 @@ impl Row<'_> {
 
 /// Measures one code, with all its frames in each round.
 pub fn measure(job: &Job, rounds: usize) -> Row<'_> {
-    let line = job.code.line(SCALE, LIMIT);
+    let line = job.code.line(2, SCALE, LIMIT);
     let engines = Engine::present(DECODING);
     let contender = |&engine| contender(engine, job, &line);
     let mut contenders: Vec<_> = engines.iter().map(contender).collect();
@@ -101,7 +101,7 @@ pub fn measure(job: &Job, rounds: usize) -> Row<'_> {
 
 /// An engine on the frames of a code.
 fn contender<'a>(engine: Engine, job: &'a Job, line: &'a [u8]) -> Contender<'a, Vec<u8>, Decoded> {
-    let lent = Decoded::lent(&job.code, job.code.store_length());
+    let lent = Decoded::lent(&job.code, job.code.store_length(2));
     match engine {
         Engine::Proved => Contender::new(&job.frames, lent, decode_by(line, proved)),
         Engine::Sweeps => {

@@ -264,7 +264,7 @@ fn decoding_cells(row: &decoding::Row) -> Vec<String> {
         micros(row.decode.median(Engine::Sweeps)),
         quotient(&row.decode, Engine::Proved, Engine::Rust),
         format!("{:.0}", row.bits_per_second()),
-        code.store_length().to_string(),
+        code.store_length(2).to_string(),
         (code.edges() * code.field.size()).to_string(),
     ]
 }

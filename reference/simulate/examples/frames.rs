@@ -33,7 +33,7 @@ fn main() -> io::Result<()> {
         costs_per_nat: COSTS_PER_NAT,
     };
     let mut generator = Generator::new(SEED);
-    let mut input = text(&code.line(PROVED_G, LIMIT));
+    let mut input = text(&code.line(2, PROVED_G, LIMIT));
     let mut sent = Vec::new();
     for _ in 0..FRAMES {
         let word = encoder.random_word(&mut generator);

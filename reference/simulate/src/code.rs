@@ -1,7 +1,8 @@
 //! A code as a list of checks, and its code line. Document 01, "Code line as bytes": "p; N as two
 //! bytes, high first (1 to 256); M (1 to 128); scale g (1 to 16); iteration limit I (1 to 255). Then
 //! M checks: degree byte, then for each edge the column (two bytes, high first, below N, rising
-//! within the check) and weight."
+//! within the check) and weight." Document 02, §3: "a first code byte of 22 to 26 hexadecimal means k = 3
+//! with p in its low digit".
 
 use crate::field::Field;
 
@@ -41,9 +42,10 @@ impl Code {
         self.columns * self.field.size()
     }
 
-    /// "as many bytes as the M record lengths add up to", each "d + 5(q - 1)".
-    pub fn store_length(&self) -> usize {
-        self.edges() + 5 * (self.field.size() - 1) * self.checks.len()
+    /// "as many bytes as the M record lengths add up to", each with "1 + 2k bytes a symbol" behind its
+    /// shifts.
+    pub fn store_length(&self, deviations: usize) -> usize {
+        self.edges() + (1 + 2 * deviations) * (self.field.size() - 1) * self.checks.len()
     }
 
     /// N times p: the bits that one frame carries over the channel.
@@ -61,9 +63,10 @@ impl Code {
         })
     }
 
-    /// The code line with scale g and iteration limit I.
-    pub fn line(&self, g: u8, limit: u8) -> Vec<u8> {
-        let mut line = vec![self.p()];
+    /// The code line with k, 2 or 3, scale g and iteration limit I.
+    pub fn line(&self, deviations: usize, g: u8, limit: u8) -> Vec<u8> {
+        let high_digit = if deviations == 3 { 0x20 } else { 0 };
+        let mut line = vec![high_digit + self.p()];
         line.extend(two_bytes(self.columns));
         line.extend([byte(self.checks.len()), g, limit]);
         for check in &self.checks {

@@ -1,5 +1,6 @@
 //! The simulation: frame error rates over BPSK and white noise, with the decoder called
-//! through the static library, beside the Trellis Min-Max rule of source document 003.
+//! through the static library, with k = 2 beside the Trellis Min-Max rule of source document 003, and with
+//! k = 3 beside k = 2 under codes with long checks.
 
 #![forbid(unsafe_code)]
 #![deny(missing_docs)]
@@ -14,11 +15,14 @@ pub mod encoder;
 pub mod field;
 pub mod layered;
 pub mod library;
+pub mod long_checks;
 pub mod min_max;
 pub mod plan;
+pub mod plane;
 pub mod progress;
 pub mod quantiser;
 pub mod report;
+pub mod sweep;
 pub mod tally;
 pub mod trial;
 pub mod weights;

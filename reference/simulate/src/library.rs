@@ -12,13 +12,13 @@ pub struct Library {
 }
 
 impl Library {
-    /// A decoder of the code with scale g and iteration limit I.
-    pub fn new(code: &Code, g: u8, limit: u8) -> Library {
+    /// A decoder of the code with k, 2 or 3, scale g and iteration limit I.
+    pub fn new(code: &Code, deviations: usize, g: u8, limit: u8) -> Library {
         Library {
-            line: code.line(g, limit),
+            line: code.line(deviations, g, limit),
             symbols: vec![0; code.columns],
             costs: vec![0; code.frame_length()],
-            store: vec![0; code.store_length()],
+            store: vec![0; code.store_length(deviations)],
         }
     }
 }

@@ -1,5 +1,5 @@
 //! `simulate [--quick] [--size S] [--seed N] [--out DIR]`: counts errors, prints the tables and writes
-//! them with a chart to `docs/simulation`. The size scales the frames of every trial; `--quick` takes
+//! them with charts to `docs/simulation`. The size scales the frames of every trial; `--quick` takes
 //! a small one, and then nothing is written unless a directory is given.
 
 use std::path::{Path, PathBuf};
@@ -66,8 +66,16 @@ fn run(plan: &Plan, out: Option<&Path>) -> io::Result<()> {
     if let Some(directory) = out {
         fs::create_dir_all(directory)?;
         fs::write(directory.join("README.md"), text)?;
-        let chart = report::chart(&results.curve);
-        fs::write(directory.join("frame-error-rate.svg"), chart.svg())?;
+        let charts = [
+            ("frame-error-rate.svg", report::chart(&results.curve)),
+            (
+                "long-checks.svg",
+                report::chart_of_long_checks(&results.long_checks),
+            ),
+        ];
+        for (name, chart) in charts {
+            fs::write(directory.join(name), chart.svg())?;
+        }
     }
     Ok(())
 }

@@ -16,8 +16,8 @@ use crate::tally::Tally;
 /// The rule for one check.
 #[derive(Clone, Copy, Debug, PartialEq, Eq)]
 pub enum Rule {
-    /// Document 01, by the proved library.
-    Proved,
+    /// Document 01 with this k, 2 or 3, by the proved library.
+    Proved(usize),
     /// The Trellis Min-Max rule of source document 003.
     MinMax,
 }
@@ -121,7 +121,7 @@ impl Scene {
     /// The decoder of a setup.
     fn decoder(&self, setup: Setup) -> Box<dyn Decoder + '_> {
         match setup.rule {
-            Rule::Proved => Box::new(Library::new(&self.code, setup.g, self.limit)),
+            Rule::Proved(k) => Box::new(Library::new(&self.code, k, setup.g, self.limit)),
             Rule::MinMax => Box::new(Layered::new(&self.code, setup.g, self.limit, MinMax)),
         }
     }

@@ -46,16 +46,18 @@ fn blocks_are_as_described() {
 #[test]
 fn the_code_line_is_accepted() {
     let code = array::code();
-    let read = code_line(&code.line(8, 15)).unwrap();
-    assert_eq!(
-        (read.first, read.n, read.m, read.g, read.limit),
-        (5, 248, 124, 8, 15)
-    );
-    assert_eq!(read.frame_length(), code.frame_length());
-    assert_eq!(read.store_length(), code.store_length());
-    for (read, check) in read.checks.iter().zip(&code.checks) {
-        let columns: Vec<usize> = check.iter().map(|edge| edge.column).collect();
-        let weights: Vec<u8> = check.iter().map(|edge| edge.weight).collect();
-        assert_eq!((&read.columns, &read.weights), (&columns, &weights));
+    for (deviations, first) in [(2, 0x05), (3, 0x25)] {
+        let read = code_line(&code.line(deviations, 8, 15)).unwrap();
+        assert_eq!(
+            (read.first, read.n, read.m, read.g, read.limit),
+            (first, 248, 124, 8, 15)
+        );
+        assert_eq!(read.frame_length(), code.frame_length());
+        assert_eq!(read.store_length(), code.store_length(deviations));
+        for (read, check) in read.checks.iter().zip(&code.checks) {
+            let columns: Vec<usize> = check.iter().map(|edge| edge.column).collect();
+            let weights: Vec<u8> = check.iter().map(|edge| edge.weight).collect();
+            assert_eq!((&read.columns, &read.weights), (&columns, &weights));
+        }
     }
 }

@@ -55,7 +55,7 @@ fn the_same_seed_gives_the_same_counts() {
         errors: 2,
         frames: 3,
     };
-    let setups = [Rule::Proved, Rule::MinMax].map(|rule| Setup {
+    let setups = [Rule::Proved(2), Rule::MinMax].map(|rule| Setup {
         rule,
         g: 8,
         costs_per_nat: 8.0,
@@ -74,13 +74,28 @@ fn the_document_has_every_trial() {
     assert_eq!(results.scaling.len(), 10 * plan.scaling.len());
     assert_eq!(results.costs.len(), 10 * plan.costs.len());
     assert_eq!(results.weights.len(), plan.weights.len());
+    let long = results.long_checks.iter().map(|code| code.curve.len());
+    assert!(long.eq(plan.long_checks.iter().map(|code| 2 * code.curve.len())));
     let text = report::markdown(&plan, &scene.encoder, &results);
-    let rows = text.lines().filter(|line| line.contains("| proved |"));
-    assert_eq!(rows.count(), 7 + 5 * 2 + 5);
+    let rows = text
+        .lines()
+        .filter(|line| line.contains("| proved, k = 2 |"));
+    assert_eq!(rows.count(), 7 + 5 * 2 + 5 + (6 + 5));
+    let rows = text
+        .lines()
+        .filter(|line| line.contains("| proved, k = 3 |"));
+    assert_eq!(rows.count(), 6 + 5);
     let rows = text
         .lines()
         .filter(|line| line.matches(" of 1 |").count() == 3);
     assert_eq!(rows.count(), 11);
-    let svg = report::chart(&results.curve).svg();
-    assert!(svg.starts_with("<svg") && svg.ends_with("</svg>\n"));
+    let charts = [
+        report::chart(&results.curve),
+        report::chart_of_long_checks(&results.long_checks),
+    ];
+    for (chart, lines) in charts.iter().zip([2, 4]) {
+        let svg = chart.svg();
+        assert!(svg.starts_with("<svg") && svg.ends_with("</svg>\n"));
+        assert_eq!(chart.series.len(), lines);
+    }
 }

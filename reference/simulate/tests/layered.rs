@@ -10,15 +10,14 @@ use simulate::decoder::{Decoder, Outcome};
 use simulate::layered::{CheckRule, Layered};
 use simulate::library::Library;
 
-/// Document 01's rule, by the reference decoder. With q terms a column, the term of symbol 1 is the
-/// weight.
-struct Document01;
+/// Document 01's rule with the k of a code, by the reference decoder. With q terms a column, the term of
+/// symbol 1 is the weight.
+struct Document01(Rule);
 
 impl CheckRule for Document01 {
     fn send(&mut self, q: usize, terms: &[u8], brought: &[u8], sent: &mut [u8]) {
-        let rule = Rule::new(q.trailing_zeros() as u8).unwrap();
         let weights: Vec<u8> = terms.chunks(q).map(|terms| terms[1]).collect();
-        let messages = Messages::new(rule, &weights, brought);
+        let messages = Messages::new(self.0, &weights, brought);
         sent.copy_from_slice(&messages.sent.concat());
     }
 }
@@ -42,11 +41,12 @@ fn document_01s_rule_decodes_as_the_reference() {
         let frame = sample::noisy_frame(&mut generator, &read, &sample.word, wrong, style);
         let mut symbols = vec![0; code.columns];
         let mut costs = vec![0; code.frame_length()];
-        let mut store = vec![0; code.store_length()];
+        let k = read.rule().deviations();
+        let mut store = vec![0; code.store_length(k)];
         let expected = decode(&sample.line, &frame, &mut symbols, &mut costs, &mut store);
         let expected = outcome(expected.unwrap());
 
-        let mut layered = Layered::new(&code, read.g, read.limit, Document01);
+        let mut layered = Layered::new(&code, read.g, read.limit, Document01(read.rule()));
         // A decoder keeps nothing from one frame to the next.
         layered.decode(&sample::frame(&mut generator, &read, style));
         assert_eq!(layered.decode(&frame), expected);
@@ -55,7 +55,7 @@ fn document_01s_rule_decodes_as_the_reference() {
             (&symbols[..], &costs[..])
         );
 
-        let mut library = Library::new(&code, read.g, read.limit);
+        let mut library = Library::new(&code, k, read.g, read.limit);
         assert_eq!(library.decode(&frame), expected);
         assert_eq!(library.symbols(), symbols);
         found[usize::from(expected.found)] += 1;

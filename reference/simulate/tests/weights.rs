@@ -3,9 +3,10 @@
 use reference_decoder::code_line;
 use simulate::code::Code;
 use simulate::encoder::Encoder;
+use simulate::sweep::{Shape, Sweep};
 use simulate::tally::Tally;
 use simulate::trial::{Count, Rule, Setup};
-use simulate::weights::{self, Shape, Sweep};
+use simulate::weights;
 
 /// The checks of each column.
 fn checks_by_column(code: &Code) -> Vec<Vec<usize>> {
@@ -24,7 +25,7 @@ fn every_column_and_every_check_is_as_said() {
         assert!(code.checks.iter().all(|check| check.len() == degree));
         let columns = checks_by_column(code);
         assert!(columns.iter().all(|checks| checks.len() == weight));
-        assert!(code_line(&code.line(16, 255)).is_ok());
+        assert!(code_line(&code.line(2, 16, 255)).is_ok());
     }
 }
 
@@ -53,7 +54,7 @@ fn sweep(errors: &[usize]) -> Sweep {
     let count = |(g, &errors)| Count {
         decibels: 2.0,
         setup: Setup {
-            rule: Rule::Proved,
+            rule: Rule::Proved(2),
             g,
             costs_per_nat: 8.0,
         },

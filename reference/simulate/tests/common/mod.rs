@@ -5,14 +5,9 @@ use reference_decoder::{code_line, Code as ReadCode};
 use simulate::code::{Code, Edge};
 use simulate::field::Field;
 
-/// A random code of the size, with k = 2: its line with a word, and the same as the two packages read
-/// it.
+/// A random code of the size: its line with a word, and the same as the two packages read it.
 pub fn random_code(generator: &mut Generator, size: &Size) -> (CodeSample, ReadCode, Code) {
-    let size = Size {
-        k: 2..=2,
-        ..size.clone()
-    };
-    let sample = sample::code(generator, &size);
+    let sample = sample::code(generator, size);
     let read = code_line(&sample.line).expect("an accepted code line");
     let checks = read.checks.iter().map(|check| {
         let edges = check.columns.iter().zip(&check.weights);

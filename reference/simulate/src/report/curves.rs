@@ -1,0 +1,88 @@
+//! Frame error rates against Eb/N0: charts, and how far apart two lines of one are.
+
+use crate::chart::{Axis, Chart, Point, Series, Stroke};
+use crate::trial::Count;
+
+/// One line of a chart.
+pub struct Line {
+    /// Its name in the legend.
+    pub name: String,
+    /// A colour as SVG names it.
+    pub colour: &'static str,
+    /// How it is drawn.
+    pub stroke: Stroke,
+    /// Its points, rising in Eb/N0.
+    pub counts: Vec<Count>,
+}
+
+/// A chart of the lines; points without a frame error are left out.
+pub fn chart(title: &str, lines: &[Line]) -> Chart {
+    let counts = || lines.iter().flat_map(|line| &line.counts);
+    let counted = |count: &&Count| count.tally.frame_errors() > 0;
+    let series = |line: &Line| Series {
+        name: line.name.clone(),
+        colour: line.colour,
+        stroke: line.stroke,
+        points: line.counts.iter().filter(counted).map(point).collect(),
+    };
+    let places = || counts().map(|count| count.decibels);
+    let low = places().fold(f64::INFINITY, f64::min);
+    let high = places().fold(f64::NEG_INFINITY, f64::max);
+    Chart {
+        title: title.to_string(),
+        x: Axis::linear("Eb/N0, dB", low, high.max(low + 0.25), 0.25),
+        y: Axis::decades(
+            "frame error rate",
+            counts()
+                .filter(counted)
+                .map(|count| count.tally.frame_error_rate()),
+        ),
+        series: lines.iter().map(series).collect(),
+        level: None,
+    }
+}
+
+/// A frame error rate with its interval.
+fn point(count: &Count) -> Point {
+    Point {
+        x: count.decibels,
+        y: count.tally.frame_error_rate(),
+        bar: Some(count.tally.interval()),
+    }
+}
+
+/// A point with fewer frame errors says too little about the distance of two curves.
+const ENOUGH_ERRORS: usize = 10;
+
+/// How far a line is before another, at the rates that both reach.
+pub fn distances(names: [&str; 2], lines: [&[Count]; 2]) -> String {
+    let [name, other_name] = names;
+    let mut table = format!(
+        "Between the points, on straight lines in the chart:\n\n\
+         | frame error rate | {name}, dB | {other_name}, dB | gain, dB |\n|---:|---:|---:|---:|\n",
+    );
+    for rate in [1e-1, 1e-2, 1e-3] {
+        if let [Some(one), Some(other)] = lines.map(|counts| crossing(counts, rate)) {
+            let gain = other - one;
+            table += &format!("| {rate} | {one:.2} | {other:.2} | {gain:.2} |\n");
+        }
+    }
+    table + "\n"
+}
+
+/// The Eb/N0 at which a line falls through a frame error rate, between two points with enough frame
+/// errors.
+fn crossing(counts: &[Count], rate: f64) -> Option<f64> {
+    let counted = counts
+        .iter()
+        .filter(|count| count.tally.frame_errors() >= ENOUGH_ERRORS);
+    let points: Vec<(f64, f64)> = counted
+        .map(|count| (count.decibels, count.tally.frame_error_rate()))
+        .collect();
+    let found = points
+        .windows(2)
+        .find(|pair| pair[0].1 >= rate && rate > pair[1].1)?;
+    let ((x, high), (end, low)) = (found[0], found[1]);
+    let part = (high / rate).ln() / (high / low).ln();
+    Some(x + part * (end - x))
+}
