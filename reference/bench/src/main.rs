@@ -79,18 +79,24 @@ fn run(rounds: usize, out: Option<&Path>) -> io::Result<()> {
     };
     let text = report.markdown();
     print!("{text}");
-    if let Some(directory) = out {
-        fs::create_dir_all(directory)?;
-        fs::write(directory.join("README.md"), text)?;
-        let charts = [
-            ("time-per-check.svg", charts::time_per_check(&channel)),
-            ("ratio-to-rust.svg", charts::ratio_to_rust(&channel)),
-            ("ratio-to-c.svg", charts::ratio_to_c(&channel)),
-            ("three-by-two.svg", charts::three_by_two(&channel)),
-        ];
-        for (name, chart) in charts {
-            fs::write(directory.join(name), chart.svg())?;
-        }
+    match out {
+        Some(directory) => write(directory, &text, &channel),
+        None => Ok(()),
+    }
+}
+
+/// Writes the document and the charts.
+fn write(directory: &Path, text: &str, channel: &[checks::Row]) -> io::Result<()> {
+    fs::create_dir_all(directory)?;
+    fs::write(directory.join("README.md"), text)?;
+    let charts = [
+        ("time-per-check.svg", charts::time_per_check(channel)),
+        ("ratio-to-rust.svg", charts::ratio_to_rust(channel)),
+        ("ratio-to-c.svg", charts::ratio_to_c(channel)),
+        ("three-by-two.svg", charts::three_by_two(channel)),
+    ];
+    for (name, chart) in charts {
+        fs::write(directory.join(name), chart.svg())?;
     }
     Ok(())
 }

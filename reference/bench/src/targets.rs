@@ -33,11 +33,7 @@ pub fn targets(checks: &[&checks::Row], codes: &[decoding::Row]) -> Vec<Target> 
         .copied()
         .filter(|row| row.degree <= 8)
         .collect();
-    let iterations = codes.iter().map(|row| {
-        let ratio = row.decode.ratio(Engine::Proved, Engine::Rust);
-        (ratio, row.job.name.to_string())
-    });
-    vec![
+    let mut targets = vec![
         at_most(
             format!("check: at most {OF_RUST:.1} times the same algorithm in Rust"),
             OF_RUST,
@@ -51,24 +47,41 @@ pub fn targets(checks: &[&checks::Row], codes: &[decoding::Row]) -> Vec<Target> 
             OF_C,
             ratios(&short, |row| row.check.ratio(Engine::Proved, Engine::Sse2)),
         ),
+    ];
+    targets.extend(targets_of_three(checks, &large));
+    targets.push(target_of_decoding(codes));
+    targets
+}
+
+/// The targets of checks with k = 3; the sweeps stand in the second, over the larger fields.
+fn targets_of_three(checks: &[&checks::Row], large: &[&checks::Row]) -> [Target; 2] {
+    let by_two = |row: &checks::Row| row.three.ratio(Engine::Proved, Engine::ProvedTwo);
+    let by_sweeps = |row: &checks::Row| row.three.ratio(Engine::Sweeps, Engine::Proved);
+    [
         at_most(
             format!("check with k = 3: at most {OF_TWO:.1} times the same check with k = 2"),
             OF_TWO,
-            ratios(checks, |row| {
-                row.three.ratio(Engine::Proved, Engine::ProvedTwo)
-            }),
+            ratios(checks, by_two),
         ),
         at_least(
             format!("check with k = 3, from p = 4 up: the sweeps take at least {BY_SWEEPS:.1} times as long"),
             BY_SWEEPS,
-            ratios(&large, |row| row.three.ratio(Engine::Sweeps, Engine::Proved)),
-        ),
-        at_most(
-            format!("decoding: an iteration at most {OF_RUST:.1} times the same algorithm in Rust"),
-            OF_RUST,
-            iterations.collect(),
+            ratios(large, by_sweeps),
         ),
     ]
+}
+
+/// The target of iterations.
+fn target_of_decoding(codes: &[decoding::Row]) -> Target {
+    let iterations = codes.iter().map(|row| {
+        let ratio = row.decode.ratio(Engine::Proved, Engine::Rust);
+        (ratio, row.job.name.to_string())
+    });
+    at_most(
+        format!("decoding: an iteration at most {OF_RUST:.1} times the same algorithm in Rust"),
+        OF_RUST,
+        iterations.collect(),
+    )
 }
 
 /// A ratio of each row, with its place.

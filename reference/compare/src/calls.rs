@@ -5,6 +5,7 @@ mod decode;
 mod encode;
 mod expand;
 mod first_byte;
+mod lending;
 mod line;
 mod product;
 

@@ -54,8 +54,15 @@ impl Comparison {
         self.findings.is_empty()
     }
 
+    /// Says where findings were made, if there are any.
+    pub fn explain(&mut self, place: &str) {
+        if !self.agrees() {
+            self.find(place);
+        }
+    }
+
     /// Adds a finding in words of its own.
-    pub fn find(&mut self, finding: &str) {
+    fn find(&mut self, finding: &str) {
         self.findings.push_str("\n  ");
         self.findings.push_str(finding);
     }

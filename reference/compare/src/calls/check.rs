@@ -5,12 +5,13 @@ use reference_decoder::sample::{self, CheckSample, Generator, Style};
 use reference_decoder::Rule;
 
 use super::first_byte::{self, ByDeviations};
+use super::lending::Lending;
 use super::{
     accepted_or_refused, class_of, degrees, of_library, of_reference, see_refused, EntryPoint,
     REFUSED_DEGREES,
 };
 use crate::comparison::{Comparison, Difference, Inputs};
-use crate::lent::{length_around, length_enough, Lent};
+use crate::lent::{length_around, length_enough};
 use crate::tally::{Class, Tally};
 
 /// `check`.
@@ -115,23 +116,13 @@ fn compare(
     tally: &mut Tally,
 ) -> Result<(), Difference> {
     let first = input.first;
-    let weights = Lent::holding(generator, &input.weights);
-    let costs = Lent::holding(generator, &input.costs);
-    let (weights_lent, costs_lent) = (weights.clone(), costs.clone());
-    let mut record = Lent::<u8>::to_fill(generator, length);
-    let mut record_expected = record.clone();
-    let expected = of_reference(reference_decoder::check(
-        first,
-        weights.slice(),
-        costs.slice(),
-        record_expected.slice_mut(),
-    ));
-    let answer = of_library(petsivola::check(
-        first,
-        weights_lent.slice(),
-        costs_lent.slice(),
-        record.slice_mut(),
-    ));
+    let mut lent = Lending::new(generator, [&input.weights, &input.costs], length);
+    let mut lent_expected = lent.clone();
+    let expected = lent_expected.to(|weights, costs, record| {
+        of_reference(reference_decoder::check(first, weights, costs, record))
+    });
+    let answer = lent
+        .to(|weights, costs, record| of_library(petsivola::check(first, weights, costs, record)));
 
     tally.answer(class_of(&expected));
     see_refused(tally, input.degree(), expected == Err(9));
@@ -139,18 +130,20 @@ fn compare(
         see_room(tally, input, length);
     }
     if let Ok(written) = expected {
-        see(tally, input, &record_expected.slice()[..written]);
+        see(tally, input, &lent_expected.filled()[..written]);
     }
     let mut comparison = Comparison::default();
     comparison.answers(&answer, &expected);
-    comparison.lent("record", &record, &record_expected);
-    comparison.lent("weights", &weights_lent, &weights);
-    comparison.lent("costs", &costs_lent, &costs);
+    lent.compare(
+        &mut comparison,
+        ["weights", "costs", "record"],
+        &lent_expected,
+    );
     comparison.end("check", || {
         Inputs::default()
             .number("first byte", usize::from(first))
-            .bytes("weights", weights.slice())
-            .bytes("costs", costs.slice())
+            .bytes("weights", &input.weights)
+            .bytes("costs", &input.costs)
             .number("record length", length)
     })
 }

@@ -3,7 +3,6 @@
 mod inputs;
 mod seen;
 
-use reference_decoder::code_line;
 use reference_decoder::sample::Generator;
 
 use super::{first_byte, of_library, of_reference, EntryPoint};
@@ -65,25 +64,16 @@ fn compare(generator: &mut Generator, input: &Input, tally: &mut Tally) -> Resul
         Ok((status, t)) => Class::of_outcome(status, t),
         Err(number) => Class::Refused(number),
     });
-    if matches!(expected, Ok(_) | Err(4)) {
-        let code = code_line(line.slice()).expect("an accepted code line");
-        seen::see_room(tally, &code, input.lengths[2]);
-        // The sizes count where there was an iteration.
-        if let Ok((_, t @ 1..)) = expected {
-            seen::see(tally, &code, t, &buffers_expected);
-        }
-    }
+    seen::see(tally, input, expected, &buffers_expected);
     let mut comparison = Comparison::default();
     comparison.answers(&answer, &expected);
     buffers.compare(&mut comparison, &buffers_expected);
+    // A second decoding in the used buffers gives the same: nothing was left behind.
     if comparison.agrees() {
-        // A second decoding in the used buffers gives the same: nothing was left behind.
         let again = buffers.decode(&line_lent, &frame_lent);
         comparison.answers(&again, &expected);
         buffers.compare(&mut comparison, &buffers_expected);
-        if !comparison.agrees() {
-            comparison.find("at the second decoding in the same buffers");
-        }
+        comparison.explain("at the second decoding in the same buffers");
     }
     comparison.lent("code", &line_lent, &line);
     comparison.lent("frame", &frame_lent, &frame);

@@ -9,12 +9,13 @@ use reference_decoder::sample::{self, CheckSample, Generator, Style};
 use reference_decoder::Rule;
 
 use super::first_byte::{self, ByDeviations};
+use super::lending::Lending;
 use super::{
     accepted_or_refused, class_of, degrees, of_library, of_reference, see_refused, EntryPoint,
     REFUSED_DEGREES,
 };
 use crate::comparison::{Comparison, Difference, Inputs};
-use crate::lent::{length_around, length_enough, Lent};
+use crate::lent::{length_around, length_enough};
 use crate::tally::{Class, Tally};
 use causes::{causes, Cause};
 
@@ -104,41 +105,33 @@ fn compare(
     tally: &mut Tally,
 ) -> Result<(), Difference> {
     let first = input.first;
-    let weights = Lent::holding(generator, &input.weights);
-    let record = Lent::holding(generator, record);
-    let (weights_lent, record_lent) = (weights.clone(), record.clone());
-    let mut out = Lent::<u8>::to_fill(generator, length);
-    let mut out_expected = out.clone();
-    let expected = of_reference(reference_decoder::expand(
-        first,
-        weights.slice(),
-        record.slice(),
-        out_expected.slice_mut(),
-    ));
-    let answer = of_library(petsivola::expand(
-        first,
-        weights_lent.slice(),
-        record_lent.slice(),
-        out.slice_mut(),
-    ));
+    let mut lent = Lending::new(generator, [&input.weights, record], length);
+    let mut lent_expected = lent.clone();
+    let expected = lent_expected.to(|weights, record, out| {
+        of_reference(reference_decoder::expand(first, weights, record, out))
+    });
+    let answer =
+        lent.to(|weights, record, out| of_library(petsivola::expand(first, weights, record, out)));
 
     tally.answer(class_of(&expected));
     see_refused(tally, input.degree(), expected == Err(9));
     match expected {
-        Ok(_) => see(tally, input, record.slice()),
-        Err(16) => see_causes(tally, input, record.slice()),
+        Ok(_) => see(tally, input, record),
+        Err(16) => see_causes(tally, input, record),
         Err(_) => {}
     }
     let mut comparison = Comparison::default();
     comparison.answers(&answer, &expected);
-    comparison.lent("out", &out, &out_expected);
-    comparison.lent("weights", &weights_lent, &weights);
-    comparison.lent("record", &record_lent, &record);
+    lent.compare(
+        &mut comparison,
+        ["weights", "record", "out"],
+        &lent_expected,
+    );
     comparison.end("expand", || {
         Inputs::default()
             .number("first byte", usize::from(first))
-            .bytes("weights", weights.slice())
-            .bytes("record", record.slice())
+            .bytes("weights", &input.weights)
+            .bytes("record", record)
             .number("out length", length)
     })
 }

@@ -159,19 +159,9 @@ pub fn damaged_record(
             2 => record[pair] = 0xFF,
             3 => record[pair + 1] = generator.byte(0..=255),
             4 => record[pair + 1] = record[entry],
-            5 => {
-                // A byte less or more, or the length that another number of pairs has.
-                let of_pairs = |pairs: usize| degree + (1 + 2 * pairs) * (rule.field().size() - 1);
-                let length = record.len();
-                let lengths = [
-                    length - 1,
-                    length + 1,
-                    of_pairs(1),
-                    of_pairs(2),
-                    of_pairs(3),
-                ];
-                record.resize(generator.one_of(&lengths), 0);
-            }
+            5 => change_length(generator, record, |pairs| {
+                degree + (1 + 2 * pairs) * (rule.field().size() - 1)
+            }),
             _ => {
                 let other = entry + 1 + 2 * generator.below(k);
                 record.swap(pair, other);
@@ -179,6 +169,20 @@ pub fn damaged_record(
             }
         }
     })
+}
+
+/// Makes a record a byte shorter or longer, or as long as one with another number of pairs.
+fn change_length(
+    generator: &mut Generator,
+    record: &mut Vec<u8>,
+    of_pairs: impl Fn(usize) -> usize,
+) {
+    let length = match generator.below(5) {
+        0 => record.len() - 1,
+        1 => record.len() + 1,
+        pairs => of_pairs(pairs - 1),
+    };
+    record.resize(length, 0);
 }
 
 /// A message of symbols below `q` with changes that aim at both causes of 18.

@@ -1,8 +1,8 @@
 //! What decodings must meet beside their answers.
 
-use reference_decoder::{record, Code};
+use reference_decoder::{code_line, record, Code};
 
-use super::inputs::with_other_deviations;
+use super::inputs::{with_other_deviations, Input};
 use super::Buffers;
 use crate::calls::first_byte::{self, ByDeviations};
 use crate::tally::{Class, Tally};
@@ -45,8 +45,21 @@ pub fn expected() -> Vec<Class> {
     classes
 }
 
-/// Counts the length of the store of a decoding that is accepted but for it.
-pub fn see_room(tally: &mut Tally, code: &Code, length: usize) {
+/// Counts what a decoding shows: of its store where it is accepted or too short a store is all that is
+/// refused, and the rest where there was an iteration.
+pub fn see(tally: &mut Tally, input: &Input, expected: Result<(u8, u8), u16>, buffers: &Buffers) {
+    if !matches!(expected, Ok(_) | Err(4)) {
+        return;
+    }
+    let code = code_line(&input.line).expect("an accepted code line");
+    see_room(tally, &code, input.lengths[2]);
+    if let Ok((_, t @ 1..)) = expected {
+        see_iterations(tally, &code, t, buffers);
+    }
+}
+
+/// Counts the length of the store.
+fn see_room(tally: &mut Tally, code: &Code, length: usize) {
     let needed = code.store_length();
     for (names, met) in [
         (EXACT_STORE, length == needed),
@@ -61,7 +74,7 @@ pub fn see_room(tally: &mut Tally, code: &Code, length: usize) {
 }
 
 /// Counts what a decoding with at least one iteration shows.
-pub fn see(tally: &mut Tally, code: &Code, t: u8, buffers: &Buffers) {
+fn see_iterations(tally: &mut Tally, code: &Code, t: u8, buffers: &Buffers) {
     let degrees = code.checks.iter().map(|check| check.weights.len());
     let costs = &buffers.costs.slice()[..code.frame_length()];
     first_byte::see(tally, code.first);
