@@ -43,7 +43,16 @@ fn rests_with(
     let d = weights.len();
     let l = side(rules::size(first));
     let n = d * l;
-    let sum = lines::lines(first, l, weights, costs, table, rows, &mut lines[..n], shifts);
+    let sum = lines::lines(
+        first,
+        l,
+        weights,
+        costs,
+        table,
+        rows,
+        &mut lines[..n],
+        shifts,
+    );
     lines::shift_all(shifts, sum);
     tables::sent(rules::rule_of(first), d, &lines[..n], rests);
 }
@@ -67,7 +76,16 @@ fn rests_in(
     let p = rules::power(first);
     if p <= 4 {
         let mut lines = [0u8; 512];
-        rests_with(first, weights, costs, weights, rows, &mut lines, rests, shifts);
+        rests_with(
+            first,
+            weights,
+            costs,
+            weights,
+            rows,
+            &mut lines,
+            rests,
+            shifts,
+        );
         return;
     }
     let mut lines = [0u8; 2048];
@@ -85,7 +103,16 @@ fn rests_in(
         );
         return;
     }
-    rests_with(first, weights, costs, weights, rows, &mut lines, rests, shifts);
+    rests_with(
+        first,
+        weights,
+        costs,
+        weights,
+        rows,
+        &mut lines,
+        rests,
+        shifts,
+    );
 }
 
 // The record: the shifts, then the groups. Products and rests are left in their room.
@@ -196,7 +223,14 @@ fn messages_room(
 }
 
 // The record and the sent costs, with the room that they take.
-pub fn messages_in(first: u8, w: usize, weights: &[u8], costs: &[u8], out: &mut [u8], sent: &mut [u8])
+pub fn messages_in(
+    first: u8,
+    w: usize,
+    weights: &[u8],
+    costs: &[u8],
+    out: &mut [u8],
+    sent: &mut [u8],
+)
     requires { ⌜ Ready first (now weights) (now costs) ⌝ }
     requires { ⌜ w ≤ 64 ⌝ }
     requires { ⌜ (w ≡ sizeOf first) × ((length (now out) ≡ recordLength (ruleFor first) (length (now weights))) × (length (now sent) ≡ length (now weights) * sizeOf first)) ⌝ }

@@ -63,8 +63,8 @@ loop-again c =
       (
         omega arith,
         l .loop .inv .1 .1
-        ∙ pairs-more _ (a .r .now) (l .loop .next) (getD (a .r .now) (a .at) 0) (a .d) (l .loop .low) (omega (arith, known .shared-slice-known .given (l .loop .next))) (omega arith) (c .before .pair-next .ensures) (c .if1 .left)
-        ∙ rw n refl,
+            ∙ pairs-more _ (a .r .now) (l .loop .next) (getD (a .r .now) (a .at) 0) (a .d) (l .loop .low) (omega (arith, known .shared-slice-known .given (l .loop .next))) (omega arith) (c .before .pair-next .ensures) (c .if1 .left)
+            ∙ rw n refl,
       ),
     )
 
