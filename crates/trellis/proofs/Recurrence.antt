@@ -11,7 +11,7 @@ use lib.Bits.{bitXor}
 use Rattle.trellis.specs.Lists.{allTo}
 use Rattle.trellis.specs.Field.{xor, doubled, productIn, product}
 use Rattle.trellis.proofs.Tests.{all-at, each-field}
-use Rattle.trellis.proofs.Xor.{xor-zero}
+use Rattle.trellis.proofs.Xor.{xor-zero, xor-right, xor-assoc}
 
 -- nothing is left to add to 0
 pub product-zero : (n p a : ℕ) → productIn n p a 0 ≡ 0
@@ -30,13 +30,13 @@ product-in (suc k) p a b h = rw (suc-add k p) (halving-more (k + p) p a b (omega
 pub product-step : (p a b : ℕ) → b < 2 ^ p → product p a b ≡ xor (cond (eqb (b % 2) 1) a 0) (product p (doubled p a) (b / 2))
 product-step p a b h = sym (halving-more p p a b h)
 
-module _ (p a b d r : ℕ) (h : b < 2 ^ p) (e : d ≡ doubled p a) (q : r ≡ product p d (b / 2)) where
-  pub product-odd : b % 2 ≡ 1 → bitXor a r ≡ product p a b
-  unfolding xor
-  product-odd o = rw (product-step p a b h, eq-eqb (b % 2) 1 o, q, e)
+-- one turn of a loop that has added s so far: what is left of the recurrence gives the same
+pub product-turn : (p a b s : ℕ) {d r : ℕ} → b < 2 ^ p → d ≡ doubled p a → r ≡ xor s (cond (eqb (b % 2) 1) a 0) → xor s (product p a b) ≡ xor r (product p d (b / 2))
+product-turn p a b s h e o = rw (product-step p a b h, e, o) (sym (xor-assoc s (cond (eqb (b % 2) 1) a 0) (product p (doubled p a) (b / 2))))
 
-  pub product-even : (b % 2 ≡ 1 → ⊥) → r ≡ product p a b
-  product-even o = rw (product-step p a b h, ne-eqb (b % 2) 1 o, q, e) (sym (xor-zero _))
+-- after it nothing is left
+pub product-done : (p a b s : ℕ) → b ≡ 0 → xor s (product p a b) ≡ s
+product-done p a b s z = rw (z, product-zero p p a) (xor-right s)
 
 -- doubling stays in the field: a test of every element of each field
 doubles : ℕ → Bool
