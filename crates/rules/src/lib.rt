@@ -1,11 +1,9 @@
-// The rule that a first code byte stands for: p in its low digit, and by its high digit how many deviations a choice may have. Each function is
-// total, so that every crate above can call it with the byte as it came.
+// The rule that a first code byte stands for: p in its low digit, and by its high digit how many deviations a choice may have and how its costs
+// are joined. Each function is total, so that every crate above can call it with the byte as it came.
 ghost use mathlib.Core.Path.{_≡_};
-ghost use mathlib.Core.Bool.{_||_};
 ghost use Prim.Native.Nat.{_-_, _*_, _≤_};
-ghost use lib.Dec.{eqb};
 ghost use Rattle.trellis.specs.Record.{groupLength};
-ghost use Rattle.trellis.specs.Rules.{ruleFor, powerOf, sizeOf, mostOf, firstOk};
+ghost use Rattle.trellis.specs.Rules.{ruleFor, powerOf, sizeOf, mostOf, greatestOf, firstOk};
 ghost use Rattle.rules.specs.Numbers.{ruleRead};
 
 // The rule as it travels inside the code: q is 2 ^ p, at most k deviations, costs joined to their sum or to their greatest.
@@ -15,21 +13,11 @@ pub struct Rule {
     pub greatest: bool,
 }
 
-// The high digits: 0 for at most two deviations, 2 for at most three.
-fn high_ok(high: u8) -> bool
-    ensures { λ r. ⌜ r ≡ eqb high 0 || eqb high 2 ⌝ }
-{
-    if high == 0 {
-        return true;
-    }
-    high == 2
-}
-
-// Whether the first byte is 02 to 06 or 22 to 26, in hexadecimal; "Refusal 6 covers" all others.
+// Whether the high digit is 0 to 3 and the low digit 2 to 6: no refusal 6.
 pub fn accepted(first: u8) -> bool
     ensures { λ r. ⌜ r ≡ firstOk first ⌝ }
 {
-    if !high_ok(first / 16) {
+    if first / 16 > 3 {
         return false;
     }
     let p = power(first);
@@ -57,7 +45,14 @@ pub fn size(first: u8) -> usize
 fn most(first: u8) -> u8
     ensures { λ r. ⌜ (r ≡ mostOf first) × ((2 ≤ r) × (r ≤ 3)) ⌝ }
 {
-    if first / 16 == 2 { 3 } else { 2 }
+    if first / 16 < 2 { 2 } else { 3 }
+}
+
+// Whether a choice costs the greatest of its columns' costs, and not their sum: an odd high digit.
+fn greatest(first: u8) -> bool
+    ensures { λ r. ⌜ r ≡ greatestOf first ⌝ }
+{
+    first / 16 % 2 == 1
 }
 
 // The bytes of a record behind its shifts: E and k pairs for each a from 1 to q - 1.
@@ -73,6 +68,6 @@ pub fn rule_of(first: u8) -> Rule
     Rule {
         p: power(first),
         k: most(first),
-        greatest: false,
+        greatest: greatest(first),
     }
 }

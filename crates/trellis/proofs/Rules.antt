@@ -1,37 +1,42 @@
--- What an accepted first code byte gives: p is 2 to 6 and k is 2 or 3, and the costs are joined by a join. A first byte 02 to 06 is document
+-- What an accepted first code byte gives: p is 2 to 6 and k is 2 or 3, and sum and greatest are joins. A first byte 02 to 06 is document
 -- 01's rule.
 use mathlib.Core.Path.{_≡_, refl}
-use mathlib.Core.Bool.{Bool, true, false, cond, _&&_, _||_}
+use mathlib.Core.Bool.{Bool, true, false, cond, _&&_}
 use Prim.Native.Nat.{ℕ, zero, suc, _+_, _*_, _/_, _%_, _^_, _≤_, _<_}
 use native.Mathlib.Decide.{ℕ-discrete}
 use native.Mathlib.Omega.{arith}
-use lib.Dec.{T, leb, eqb, leb→le}
+use lib.Dec.{T, leb, ltb, eqb, leb→le}
 use Rattle.trellis.specs.Check.{Rule}
-use Rattle.trellis.specs.Rules.{ruleOf, ruleFor, powerOf, mostOf, firstOk}
+use Rattle.trellis.specs.Rules.{ruleOf, ruleFor, joinOf, powerOf, mostOf, greatestOf, firstOk}
 use Rattle.trellis.proofs.Tests.{of-true}
 use Rattle.trellis.proofs.Sent.{Joins}
-use Rattle.trellis.proofs.Instances.{sum-joins}
+use Rattle.trellis.proofs.Instances.{sum-joins, max-joins}
 
 pub most-some : (f : ℕ) → 2 ≤ mostOf f
-most-some f = go (eqb (f / 16) 2)
+most-some f = go (ltb (f / 16) 2)
   where
-    go : (b : Bool) → 2 ≤ cond b 3 2
+    go : (b : Bool) → 2 ≤ cond b 2 3
     go true = omega arith
     go false = omega arith
 
 pub most-few : (f : ℕ) → mostOf f ≤ 3
-most-few f = go (eqb (f / 16) 2)
+most-few f = go (ltb (f / 16) 2)
   where
-    go : (b : Bool) → cond b 3 2 ≤ 3
+    go : (b : Bool) → cond b 2 3 ≤ 3
     go true = omega arith
     go false = omega arith
 
+-- all that the theory asks of a join of costs holds for the sum and for the greatest
+pub join-joins : (greatest : Bool) → Joins (joinOf greatest)
+join-joins true = max-joins
+join-joins false = sum-joins
+
 pub first-joins : (f : ℕ) → Joins (ruleFor f .join)
-first-joins f = sum-joins
+first-joins f = join-joins (greatestOf f)
 
 pub first-power : (f : ℕ) → firstOk f ≡ true → (2 ≤ powerOf f) × (powerOf f ≤ 6)
 unfolding firstOk
-first-power f e = go (eqb (f / 16) 0 || eqb (f / 16) 2) (leb 2 (powerOf f)) refl (leb (powerOf f) 6) refl e
+first-power f e = go (leb (f / 16) 3) (leb 2 (powerOf f)) refl (leb (powerOf f) 6) refl e
   where
     apart : false ≡ true → ⊥
     apart e = let z : _≡_ {A = ℕ} 0 1 = cc in omega arith

@@ -1,8 +1,8 @@
 -- The rule that a first code byte stands for, and a check as a caller hands it over: this byte, the weights, and the costs column by column.
-use mathlib.Core.Bool.{Bool, cond, _&&_, _||_}
+use mathlib.Core.Bool.{Bool, cond, _&&_}
 use mathlib.Core.List.{List, [], _∷_}
 use Prim.Native.Nat.{ℕ, _+_, _^_, _*_, _/_, _%_, max}
-use lib.Dec.{leb, eqb}
+use lib.Dec.{leb, ltb, eqb}
 use lib.ListN.{take, drop}
 use Rattle.trellis.specs.Lists.{pick}
 use Rattle.trellis.specs.Field.{product}
@@ -23,17 +23,21 @@ powerOf f = f % 16
 abbrev pub sizeOf : ℕ → ℕ
 sizeOf f = 2 ^ powerOf f
 
--- "The number of deviations becomes k, 2 or 3; a first code byte of 22 to 26 hexadecimal means k = 3" (SPEC 4.1)
+-- "The number of deviations becomes k, 2 or 3": high digits 0 and 1 have k = 2, "high digit 2 or 3" has k = 3 (SPEC 4.1)
 abbrev pub mostOf : ℕ → ℕ
-mostOf f = cond (eqb (f / 16) 2) 3 2
+mostOf f = cond (ltb (f / 16) 2) 2 3
 
--- it is 02 to 06 or 22 to 26: "Refusal 6 covers the new first byte" (SPEC 8.2)
+-- "With high digit 1 (k = 2) or 3 (k = 3) a choice costs the greatest of its columns' costs; digits 0 and 2 keep the sum" (SPEC 4.1)
+abbrev pub greatestOf : ℕ → Bool
+greatestOf f = eqb (f / 16 % 2) 1
+
+-- "Refusal 6: high digit above 3, or low digit outside 2 to 6" (SPEC 8.2)
 unfoldable pub firstOk : ℕ → Bool
-firstOk f = (eqb (f / 16) 0 || eqb (f / 16) 2) && (leb 2 (powerOf f) && leb (powerOf f) 6)
+firstOk f = leb (f / 16) 3 && (leb 2 (powerOf f) && leb (powerOf f) 6)
 
--- "A choice costs the sum of its columns' Q", and has at most k deviations (SPEC 2.4)
+-- a choice has at most k deviations, and costs the sum of its columns' costs or the greatest of them (SPEC 2.4)
 abbrev pub ruleFor : ℕ → Rule
-ruleFor f = ruleOf (powerOf f) _+_ (mostOf f)
+ruleFor f = ruleOf (powerOf f) (joinOf (greatestOf f)) (mostOf f)
 
 -- the columns: each weight with the next q costs
 unfoldable pub columnsOf : ℕ → List ℕ → List ℕ → List Column

@@ -1,5 +1,4 @@
 -- The fields one by one.
-use mathlib.Core.Bool.{false}
 use borrow.Author.Needs.{needs}
 use Rattle.rules.specs.declared.Rule.{Rule}
 use Rattle.rules.proofs.rule_of.Statement.{statement}
@@ -11,8 +10,11 @@ power-requires c κs = search needs
 most-requires : tie.Need-most-requires
 most-requires c κs = search needs
 
+greatest-requires : tie.Need-greatest-requires
+greatest-requires c κs = search needs
+
 returns : tie.Need-returns
-returns c = rw (c .before .power .ensures, c .most .ensures .0)
+returns c = rw (c .before .before .power .ensures, c .before .most .ensures .0, c .greatest .ensures)
 
 pub rule-of-spec : {M : Type 1} → statement M
-rule-of-spec = tie.close (tie.spec power-requires most-requires returns)
+rule-of-spec = tie.close (tie.spec power-requires most-requires greatest-requires returns)
