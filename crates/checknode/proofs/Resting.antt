@@ -16,7 +16,7 @@ use Rattle.trellis.specs.Lists.{tab, blocks, part, each, upTo, countFrom}
 use Rattle.trellis.specs.Field.{xor, product}
 use Rattle.trellis.specs.Check.{Column, column, weigh, decision, shift, sent, sentAt, allSent}
 use Rattle.trellis.specs.Record.{recordOf, groupLength, recordLength, group}
-use Rattle.trellis.specs.Rules.{ruleFor, powerOf, sizeOf, mostOf, columnsOf, costsAt}
+use Rattle.trellis.specs.Rules.{ruleFor, powerOf, sizeOf, mostOf, greatestOf, columnsOf, costsAt}
 use Rattle.trellis.specs.Ready.{Ready}
 use Rattle.trellis.proofs.Xor.{xor-lt, xor-comm}
 use Rattle.trellis.proofs.Loops.{length-tab, getD-tab, tab-ext, map-tab, blocks-ext, each-blocks}
@@ -49,6 +49,9 @@ module _ (first : ℕ) (ws cs : List ℕ) (D : Ready first ws cs) where
   abbrev most : ℕ
   most = mostOf first
 
+  abbrev greatest : Bool
+  greatest = greatestOf first
+
   abbrev q : ℕ
   q = 2 ^ p
 
@@ -58,7 +61,7 @@ module _ (first : ℕ) (ws cs : List ℕ) (D : Ready first ws cs) where
   abbrev cols : List Column
   cols = columnsOf (2 ^ p) ws cs
 
-  asked : Asked p most (length ws) false (ruleFor first) cols
+  asked : Asked p most (length ws) greatest (ruleFor first) cols
   unfolding inRange
   asked = record {
     rule = record { size = refl; join = refl; most = refl };
@@ -81,12 +84,12 @@ module _ (first : ℕ) (ws cs : List ℕ) (D : Ready first ws cs) where
       ∙ placed-row (ruleFor first) cols (ready-proper first ws cs D) n (omega (arith, length-columns q ws cs)) (tab (product p (c .weight)) q) (λ x u. getD-tab (product p (c .weight)) q x u) l (omega arith) a k
 
   pub rests-law : (lines rests : List ℕ) {r : List ℕ} → lines ≡ blocks (restsOf p ws cs l) (length ws) → length lines ≡ length ws * l → length rests ≡ length ws * l → length r ≡ length ws * l
-      → r ≡ sentLeaves p most false (length ws) lines rests → Rests first ws cs r
+      → r ≡ sentLeaves p most greatest (length ws) lines rests → Rests first ws cs r
   rests-law lines rests e h k m o =
       record {
         full = m;
         at = λ n a i j. ap (λ y. getD y (n * l + a) 0) o
-            ∙ sent-means p most (length ws) false (ruleFor first) cols asked lines rests (omega arith) (omega arith) (λ n a i j. ap (λ y. getD y (n * l + a) 0) e ∙ line-is n a i j) n a i j;
+            ∙ sent-means p most (length ws) greatest (ruleFor first) cols asked lines rests (omega arith) (omega arith) (λ n a i j. ap (λ y. getD y (n * l + a) 0) e ∙ line-is n a i j) n a i j;
       }
 
   module _ (bytes : (i : ℕ) → getD cs i 0 < 256) where
@@ -99,7 +102,7 @@ module _ (first : ℕ) (ws cs : List ℕ) (D : Ready first ws cs) where
         → r ≡ blocks (λ i. group (ruleFor first) cols (suc i)) (q - 1)
     groups-are rests out S h o =
         let z : drop (groupsLength p most) out ≡ [] = drop-of-length-le out {i = groupsLength p most} (omega arith) in
-        o ∙ groups-mean p most (length ws) false (ruleFor first) cols asked column-bytes rests out (omega (arith, S .full)) (omega arith) (S .at)
+        o ∙ groups-mean p most (length ws) greatest (ruleFor first) cols asked column-bytes rests out (omega (arith, S .full)) (omega arith) (S .at)
         ∙ ap (λ y. each (group (ruleFor first) cols) (countFrom 1 (q - 1)) ++ y) z ∙ append-nil _
         ∙ each-blocks (group (ruleFor first) cols) 1 (q - 1) ∙ blocks-ext (λ j. group (ruleFor first) cols (1 + j)) _ (q - 1) (λ j i. ap (group (ruleFor first) cols) (omega arith))
 

@@ -1,9 +1,11 @@
 -- Where the table is taken p is 6; weights are too few to be taken for it. The arrays have room for 64 rows.
 use mathlib.Core.Path.{_≡_, refl, ap, sym, _∙_}
+use Prim.Native.Nat.{_+_}
 use native.Mathlib.Omega.{arith}
 use borrow.Author.Needs.{needs}
 use Rattle.trellis.specs.Rules.{powerOf, mostOf}
 use Rattle.trellis.proofs.Rules.{most-few}
+use Rattle.trellis.proofs.Records.{expansion-join}
 use Rattle.rules.specs.declared.Rule.{Rule}
 use Rattle.checknode.proofs.expansion.expand_in.Statement.{statement}
 use Rattle.checknode.proofs.expansion.expand_in.Tie as tie
@@ -56,7 +58,8 @@ same-length c = search needs
 returns : tie.Need-returns
 returns c =
     let i = c .before .before .before .before .before .before .before .before .before .before .before .before in
-    c .before .before .before .before .in-room .ensures ∙ rw (power i, pairs i) refl
+    c .before .before .before .before .in-room .ensures
+    ∙ rw (power i, pairs i) (expansion-join _ _ _+_ _ _ _)
 
 slice-aggregate-in-room-4 : tie.Need-slice-aggregate-in-room-4
 slice-aggregate-in-room-4 c = search needs
@@ -77,7 +80,8 @@ same-length-2 c = search needs
 returns-2 : tie.Need-returns-2
 returns-2 c =
     let i = c .before .before .before .before .before .before .before .before .before .before in
-    c .before .before .before .before .in-room2 .ensures ∙ rw (power i, pairs i) refl
+    c .before .before .before .before .in-room2 .ensures
+    ∙ rw (power i, pairs i) (expansion-join _ _ _+_ _ _ _)
 
 pub expand-in-spec : {M : Type 1} → statement M
 expand-in-spec =
