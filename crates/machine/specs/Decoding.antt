@@ -77,7 +77,7 @@ pub record Room (C : Code) (symbols costs store : List ℕ) : Type 0 where
 abbrev pub lastUpdate : Code → List ℕ → ℕ → List Column
 lastUpdate C f m = columnsIn (lastOf (run C f .end) m)
 
--- "all choices for the other columns that depart from at most two hard decisions and, together with that symbol, satisfy the check"
+-- "all choices for the other columns that depart from at most" k "hard decisions and, together with that symbol, satisfy the check"
 pub record Completes (R : Rule) (cs : List Column) (n x : ℕ) (w : List ℕ) : Type 0 where
   pub fits : Fits (R .size) (others n cs) w
   pub few : deviations (others n cs) w ≤ R .most
@@ -114,7 +114,8 @@ pub record Compared (C : Code) (f f′ : List ℕ) (reply reply′ : Reply) (sto
   pub equal : (take (used C) store ≡ take (used C) store′) ↔ Agree C f f′
 
 -- demand 3: any code line, two frames accepted under it on which the machine makes at least one iteration, any decoding of each in buffers
--- long enough, whatever these held before (SPEC 10.3)
+-- long enough, whatever these held before. "Stores are compared only between decodings of the same edition, which the same code line ensures":
+-- the rule of both is that of C (SPEC 10.3)
 abbrev pub Demand-3 : Type 0
 Demand-3 =
     (code : List ℕ) (C : Code) (f f′ : List ℕ) → Accepts code f C → Accepts code f′ C

@@ -1,4 +1,4 @@
--- Document 01's bench table, the cases marked #, two checks of degree 2, and checks with three deviations: what is asked and what is expected.
+-- Document 01's bench table, the cases marked #, two checks of degree 2, and checks of the later editions: what is asked and what is expected.
 use mathlib.Core.List.{List, [], _∷_, map, _++_}
 use Prim.Native.Nat.{ℕ}
 use lib.ListN.{replicate}
@@ -88,4 +88,9 @@ table =
     gives (groupUnder 0x23 threeCheap 7) (0x03 ∷ 0x01 ∷ 0x09 ∷ 0x02 ∷ 0x09 ∷ 0x03 ∷ 0x09 ∷ []) ∷
     -- with two deviations column 0 is sent 100
     gives (groupUnder 0x03 threeCheap 7) (0x09 ∷ 0x00 ∷ 0x64 ∷ 0xFF ∷ 0x00 ∷ []) ∷
+    -- the greatest, first byte 12: 3 by the symbols 3 and 2 of columns 1 and 2 at a = 1, and 5 by 1 and 2 of columns 0 and 2 at a = 3
+    gives (recordUnder 0x12 (columns ((0 ∷ 5 ∷ 7 ∷ 9 ∷ []) ∷ (0 ∷ 4 ∷ 8 ∷ 3 ∷ []) ∷ (0 ∷ 6 ∷ 2 ∷ 10 ∷ []) ∷ [])))
+    (0x00 ∷ 0x00 ∷ 0x00 ∷ 0x03 ∷ 0x01 ∷ 0x05 ∷ 0x02 ∷ 0x04 ∷ 0x02 ∷ 0x02 ∷ 0x05 ∷ 0xFF ∷ 0x00 ∷ 0x03 ∷ 0x01 ∷ 0x05 ∷ 0xFF ∷ 0x00 ∷ []) ∷
+    -- with first byte 33 column 0 is sent the greatest of 1, 1 and 1
+    gives (groupUnder 0x33 threeCheap 7) (0x01 ∷ 0x01 ∷ 0x09 ∷ 0x02 ∷ 0x09 ∷ 0x03 ∷ 0x09 ∷ []) ∷
     []
