@@ -1,6 +1,7 @@
 //! What is timed: checks of every size, codes with frames, and a code with messages.
 
 use reference_decoder::sample::{self, CheckSample, Generator, Size, Style};
+use reference_decoder::Join;
 use simulate::array;
 use simulate::channel::Channel;
 use simulate::code::{Code, Edge};
@@ -115,6 +116,7 @@ pub struct Encodable {
 pub fn encodable() -> Encodable {
     let size = Size {
         k: 2..=2,
+        join: Join::Sum..=Join::Sum,
         ..Size::MOST_CHECKS
     };
     let code = sample::encodable_code(&mut Generator::new(3), &size);

@@ -3,14 +3,14 @@
 
 use bench::{foreign, same, search_engine};
 use reference_decoder::sample::{self, CheckSample, Generator, Style};
-use reference_decoder::{record, Refusal, Rule};
+use reference_decoder::{record, Join, Refusal, Rule};
 
 /// An engine, and from where on and up to where it is compared.
 struct Candidate {
     name: &'static str,
     /// Below this degree the search refuses all, and so may an older library.
     least_degree: usize,
-    /// Above this k the others than the same algorithm refuse all.
+    /// Above this k the others than the same algorithm refuse all, and every check of the Min-Max edition.
     most_deviations: usize,
     check: foreign::Call,
 }
@@ -36,8 +36,9 @@ impl Candidate {
 
     /// Whether it has checks like this one, where they are not refused.
     fn has(&self, check: &CheckSample) -> bool {
-        let few_deviations = |rule: Rule| rule.deviations() <= self.most_deviations;
-        check.degree() >= self.least_degree && Rule::new(check.first).map_or(true, few_deviations)
+        let has_rule =
+            |rule: Rule| rule.deviations() <= self.most_deviations && rule.join() == Join::Sum;
+        check.degree() >= self.least_degree && Rule::new(check.first).map_or(true, has_rule)
     }
 }
 

@@ -1,19 +1,20 @@
 //! One check. Document 01, "One check": "a nonzero weight h_n for each column n, numbered from 0. It
 //! is satisfied when the sum of h_n times x_n is 0." Document 02, §1: "Degree becomes 2 to 32."
-//! Document 02, §3: "The number of deviations becomes k, 2 or 3".
+//! Document 02, §3: "The number of deviations becomes k, 2 or 3". Document 02, §5: "The sent cost, S and E
+//! use the greatest throughout" in the Min-Max edition.
 //!
 //! The sent costs are found by listing every choice with at most k deviations. The choices are
 //! grouped by their set of deviating columns, so that each is listed once: a choice counts for the
 //! cost sent to column n when column n is not one of its deviations. Of the choices of one set that
-//! have the same weighted sum only the cheapest goes on to the sets with one column more. The extra
-//! column is the least of what is sent.
+//! have the same weighted sum only the cheapest goes on to the sets with one column more: neither a sum
+//! nor a greatest cost falls where one of its parts rises. The extra column is the least of what is sent.
 
 use std::ops::RangeInclusive;
 
 use crate::field::{sum, Field};
 use crate::record;
 use crate::refusal::Refusal;
-use crate::rule::Rule;
+use crate::rule::{Join, Rule};
 
 /// Document 02, §1: "Degree becomes 2 to 32."
 pub const DEGREES: RangeInclusive<usize> = 2..=32;
@@ -169,14 +170,14 @@ impl Choices {
         Choices { set: vec![], least }
     }
 
-    /// These choices with one deviation more, in column n. "A choice costs the sum of its columns' Q".
-    fn with_deviation(&self, n: usize, column: &Column) -> Choices {
+    /// These choices with one deviation more, in column n: its cost is joined with theirs.
+    fn with_deviation(&self, join: Join, n: usize, column: &Column) -> Choices {
         let mut more = vec![i32::MAX; self.least.len()];
         for (weighted_sum, cost) in self.least.iter().enumerate() {
             let Some(cost) = cost else { continue };
             for &(change, own) in &column.deviations {
                 let entry = &mut more[weighted_sum ^ usize::from(change)];
-                *entry = (cost + own).min(*entry);
+                *entry = join.with(*cost, own).min(*entry);
             }
         }
         let existing = |&cost: &i32| (cost < i32::MAX).then_some(cost);
@@ -212,7 +213,7 @@ impl Listing<'_> {
         }
         let higher = choices.set.last().map_or(0, |last| last + 1);
         for n in higher..self.columns.len() {
-            self.take(&choices.with_deviation(n, &self.columns[n]));
+            self.take(&choices.with_deviation(self.rule.join(), n, &self.columns[n]));
         }
     }
 

@@ -1,7 +1,7 @@
 //! The code line. Document 01, "Code line as bytes": "p; N as two bytes, high first (1 to 256);
 //! M (1 to 128); scale g (1 to 16); iteration limit I (1 to 255). Then M checks: degree byte, then
 //! for each edge the column (two bytes, high first, below N, rising within the check) and weight."
-//! The first byte is that of document 02, §3: p in its low digit, and k.
+//! The first byte is that of document 02, §3 and §5: p in its low digit, k and the edition in the high one.
 
 use crate::check::DEGREES;
 use crate::field::Field;

@@ -1,4 +1,4 @@
-//! The reference decoder: document 01 (`01-scope.md`) with §1 to §3 of document 02
+//! The reference decoder: document 01 (`01-scope.md`) with §1 to §3 and §5 of document 02
 //! (`02-change-requests.md`) written out once more, in Rust. The proved library is compared with it,
 //! so it is written from the documents alone, without that library's code: the least costs of a check
 //! come from listing the choices, as document 01 defines them, and a message is encoded by solving
@@ -33,4 +33,4 @@ pub use machine::{decode, Outcome};
 pub use program::{frame_line, program};
 pub use record::expand;
 pub use refusal::Refusal;
-pub use rule::Rule;
+pub use rule::{Join, Rule};

@@ -20,7 +20,7 @@ pub enum Refusal {
     ShortStore = 4,
     /// "5, bytes missing or left over"
     CodeBytes = 5,
-    /// "6, p"; document 02, §3: "Refusal 6 covers the new first byte"
+    /// "6, p"; document 02, §5: "Refusal 6 now means: high digit above 3, or low digit outside 2 to 6."
     FieldSize = 6,
     /// "7, N or M out of range"
     ColumnsOrChecks = 7,

@@ -12,7 +12,7 @@ mod encodings;
 mod generator;
 mod inputs;
 
-pub use checks::{check, first_byte, record, weights, CheckSample};
+pub use checks::{check, first_byte, first_byte_with, record, weights, CheckSample};
 pub use codes::{code, frame, noisy_frame, CodeSample, Size};
 pub use costs::{column, column_deciding, columns, Style};
 pub use damage::{

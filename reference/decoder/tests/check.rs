@@ -1,4 +1,4 @@
-//! Document 01, "One check", with document 02, §1 and §3, against other ways to find the least costs.
+//! Document 01, "One check", with document 02, §1, §3 and §5, against other ways to find the least costs.
 
 mod least;
 
@@ -83,7 +83,7 @@ fn small_checks_agree_with_all_combinations() {
     ];
     for style in Style::ALL {
         for (p, degree, count) in sizes {
-            for first in [p, 0x20 + p].repeat(count) {
+            for first in [p, 0x10 + p, 0x20 + p, 0x30 + p].repeat(count) {
                 let sample = sample::check(&mut generator, first, degree..=degree, style);
                 compare(&sample, by_all_combinations);
             }

@@ -1,4 +1,4 @@
-//! Document 01, "Code line as bytes", with the degrees of document 02, §1 and the first byte of §3.
+//! Document 01, "Code line as bytes", with the degrees of document 02, §1 and the first byte of §3 and §5.
 
 use reference_decoder::sample::{self, bytes, Generator, Size};
 use reference_decoder::{code_line, CheckNode, Code};

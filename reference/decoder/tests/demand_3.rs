@@ -1,12 +1,13 @@
 //! Demand 3: when the stores of two decodings are equal. Document 02, §1: "The equality of stores is to
 //! hold for degree 2 as well." Document 02, §3: "Everything about costs, records and equal stores is shown
-//! a single time with k as a parameter".
+//! a single time with k as a parameter". Document 02, §5: "demands 2 and 3 then mean this rule", and
+//! "Stores are compared only between decodings of the same edition, which the same code line ensures."
 
 use std::collections::HashMap;
 
 use reference_decoder::machine::Machine;
 use reference_decoder::sample::{self, bytes, Generator, Size, Style};
-use reference_decoder::{code_line, decode, record, Code};
+use reference_decoder::{code_line, decode, record, Code, Join};
 
 /// One check on three columns, weights 1, scale 16, one iteration.
 const ONE_CHECK: &str = "020003011001 03 000001 000101 000201";
@@ -139,15 +140,24 @@ fn few_cheap_symbols(generator: &mut Generator, code: &Code) -> Vec<u8> {
     frame
 }
 
+/// Each k with each edition.
+const RULES: [(usize, Join); 4] = [
+    (2, Join::Sum),
+    (2, Join::Greatest),
+    (3, Join::Sum),
+    (3, Join::Greatest),
+];
+
 #[test]
 fn stores_are_equal_exactly_when_the_last_updates_agree() {
     let mut generator = Generator::new(42);
-    for k in 2..=3 {
+    for (k, join) in RULES {
         let mut with_different_iterations = 0;
         for (columns, degree) in [(3..=4, 3..=3), (2..=4, 2..=3), (2..=4, 2..=2)] {
             let size = Size {
                 p: 2..=2,
                 k: k..=k,
+                join: join..=join,
                 columns,
                 checks: 1..=3,
                 degree,
@@ -165,14 +175,17 @@ fn stores_are_equal_exactly_when_the_last_updates_agree() {
 #[test]
 fn stores_of_three_deviations_are_equal_exactly_when_the_last_updates_agree() {
     let mut generator = Generator::new(43);
-    let size = Size {
-        p: 3..=3,
-        k: 3..=3,
-        columns: 4..=4,
-        checks: 1..=2,
-        degree: 4..=4,
-        limit: 1..=3,
-    };
-    let met = compare_stores(&mut generator, &size, few_cheap_symbols);
-    assert!(met.equal > 100 && met.with_three_pairs > 1_000, "{met:?}");
+    for join in [Join::Sum, Join::Greatest] {
+        let size = Size {
+            p: 3..=3,
+            k: 3..=3,
+            join: join..=join,
+            columns: 4..=4,
+            checks: 1..=2,
+            degree: 4..=4,
+            limit: 1..=3,
+        };
+        let met = compare_stores(&mut generator, &size, few_cheap_symbols);
+        assert!(met.equal > 100 && met.with_three_pairs > 1_000, "{met:?}");
+    }
 }

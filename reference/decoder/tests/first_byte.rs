@@ -1,16 +1,20 @@
 //! Document 02, §3: "a first code byte of 22 to 26 hexadecimal means k = 3 with p in its low digit.
-//! Check and expansion take this byte in place of p." "Refusal 6 covers the new first byte": every byte
-//! there is, in each call that takes one.
+//! Check and expansion take this byte in place of p." Document 02, §5: "A first byte with high digit 1 (k
+//! = 2) or 3 (k = 3) selects" the Min-Max edition, and "Refusal 6 now means: high digit above 3, or low
+//! digit outside 2 to 6." Every byte there is, in each call that takes one.
 
+use reference_decoder::check::Messages;
 use reference_decoder::{
-    check, code_line, decode, encode, expand, product, Outcome, Refusal, Rule,
+    check, code_line, decode, encode, expand, product, Join, Outcome, Refusal, Rule,
 };
 
-/// p and k of a first byte, none where it is refused by 6.
-fn meaning(first: u8) -> Option<(u8, usize)> {
+/// p, k and the edition of a first byte, none where it is refused by 6.
+fn meaning(first: u8) -> Option<(u8, usize, Join)> {
     match first {
-        0x02..=0x06 => Some((first, 2)),
-        0x22..=0x26 => Some((first - 0x20, 3)),
+        0x02..=0x06 => Some((first, 2, Join::Sum)),
+        0x12..=0x16 => Some((first - 0x10, 2, Join::Greatest)),
+        0x22..=0x26 => Some((first - 0x20, 3, Join::Sum)),
+        0x32..=0x36 => Some((first - 0x30, 3, Join::Greatest)),
         _ => None,
     }
 }
@@ -18,7 +22,7 @@ fn meaning(first: u8) -> Option<(u8, usize)> {
 /// Every byte, with q and the bytes of a record for each a where it is accepted.
 fn first_bytes() -> impl Iterator<Item = (u8, Option<(usize, usize)>)> {
     (0..=u8::MAX).map(|first| {
-        let sizes = meaning(first).map(|(p, k)| (1 << p, 1 + 2 * k));
+        let sizes = meaning(first).map(|(p, k, _)| (1 << p, 1 + 2 * k));
         (first, sizes)
     })
 }
@@ -32,11 +36,11 @@ fn code(first: u8) -> Vec<u8> {
 fn the_rule() {
     for first in 0..=u8::MAX {
         let rule = Rule::new(first);
-        let found = rule.map(|rule| (rule.field().p(), rule.deviations()));
+        let found = rule.map(|rule| (rule.field().p(), rule.deviations(), rule.join()));
         assert_eq!(found, meaning(first).ok_or(Refusal::FieldSize));
     }
     let accepted = (0..=u8::MAX).filter(|&first| meaning(first).is_some());
-    assert_eq!(accepted.count(), 10);
+    assert_eq!(accepted.count(), 20);
 }
 
 #[test]
@@ -138,6 +142,27 @@ fn in_encode() {
     }
 }
 
+/// Symbol 1 of column 0 and symbol 2 of column 1 cost 4 and 3, and make 3 together: column 2 is sent their
+/// sum, or the greater of them.
+#[test]
+fn the_edition_of_a_check() {
+    for first in 0..=u8::MAX {
+        let Some((p, _, join)) = meaning(first) else {
+            continue;
+        };
+        let q = 1 << p;
+        let mut costs = vec![9; 3 * q];
+        (costs[0], costs[q], costs[2 * q]) = (0, 0, 0);
+        (costs[1], costs[q + 2]) = (4, 3);
+        let messages = Messages::new(Rule::new(first).unwrap(), &[1; 3], &costs);
+        let expected = match join {
+            Join::Sum => 7,
+            Join::Greatest => 4,
+        };
+        assert_eq!(messages.sent[2][3], expected);
+    }
+}
+
 /// The product keeps p.
 #[test]
 fn in_product() {
@@ -153,7 +178,7 @@ fn in_product() {
 /// 6 stands between 5 and 7.
 #[test]
 fn its_place_in_a_code_line() {
-    for first in [0x00, 0x12, 0x21, 0x27, 0x32, 0x42, 0xFF] {
+    for first in [0x00, 0x11, 0x17, 0x21, 0x27, 0x31, 0x37, 0x42, 0xFF] {
         let mut line = code(first);
         assert_eq!(code_line(&line[..5]), Err(Refusal::CodeBytes));
         assert_eq!(code_line(&line[..6]), Err(Refusal::FieldSize));

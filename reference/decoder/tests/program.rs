@@ -51,8 +51,19 @@ fn three_deviations() {
     let printed = |first: &str| output(format!("{first}{rest}\n{frame}\n"));
     assert_eq!(printed("03"), "01030501060001\n");
     assert_eq!(printed("23"), "00020501060101\n");
-    assert_eq!(printed("13"), "0600\n");
     assert_eq!(printed("43"), "0600\n");
+}
+
+/// Document 02, §5: one frame under one code in both editions, with k = 2 and with k = 3.
+#[test]
+fn both_editions() {
+    let rest = "00050208030400000200010400030700040204000005000201000305000404";
+    let frame = "0E635DB200544FA40059177016702D87008338BB2AAD62E600062329575D7B811346003245783264";
+    let printed = |first: &str| output(format!("{first}{rest}\n{frame}\n"));
+    assert_eq!(printed("03"), "01030400000002\n");
+    assert_eq!(printed("13"), "00020000000000\n");
+    assert_eq!(printed("33"), "00020000000000\n");
+    assert_eq!(printed("17"), "0600\n");
 }
 
 #[test]

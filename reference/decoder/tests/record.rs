@@ -1,4 +1,4 @@
-//! Document 01, "Record", at the degrees of document 02, §1 and with the pairs of §3.
+//! Document 01, "Record", at the degrees of document 02, §1, with the pairs of §3 and in both editions of §5.
 
 use std::collections::HashMap;
 
@@ -79,7 +79,7 @@ fn records_are_equal_exactly_when_shifts_and_sent_costs_are() {
         vec![1, 2, 3],
         vec![3, 1, 1, 2],
     ] {
-        for first in [0x02, 0x22] {
+        for first in [0x02, 0x12, 0x22, 0x32] {
             let repeated = compare_records(first, &weights, || {
                 let costs = sample::columns(&mut generator, 4, weights.len(), Style::NearZero);
                 costs.into_iter().map(|cost| cost % 2).collect()
@@ -89,28 +89,32 @@ fn records_are_equal_exactly_when_shifts_and_sent_costs_are() {
     }
 }
 
+/// The cost of symbol x in a column with one cheap symbol.
+fn cost(x: usize, cheap: usize) -> u8 {
+    match x {
+        0 => 0,
+        _ if x == cheap => 1,
+        _ => 9,
+    }
+}
+
 /// The same where a third deviation counts: a column has at most one cheap symbol, 1, 2 or 4.
 #[test]
 fn records_of_three_deviations_are_equal_exactly_when_shifts_and_sent_costs_are() {
     let mut generator = Generator::new(13);
-    let mut of_three = 0;
-    let repeated = compare_records(0x23, &[1; 5], || {
-        let cheap = [0; 5].map(|_| generator.one_of(&[0, 1, 2, 4]));
-        of_three += usize::from([1, 2, 4].iter().all(|symbol| cheap.contains(symbol)));
-        let cost = |cheap: usize| {
-            move |x: usize| match x {
-                0 => 0,
-                _ if x == cheap => 1,
-                _ => 9,
-            }
-        };
-        let columns = cheap.iter();
-        columns.flat_map(|&cheap| (0..8).map(cost(cheap))).collect()
-    });
-    assert!(
-        repeated > 1_000 && of_three > 1_000,
-        "{repeated}, {of_three}"
-    );
+    for first in [0x23, 0x33] {
+        let mut of_three = 0;
+        let repeated = compare_records(first, &[1; 5], || {
+            let cheap = [0; 5].map(|_| generator.one_of(&[0, 1, 2, 4]));
+            of_three += usize::from([1, 2, 4].iter().all(|symbol| cheap.contains(symbol)));
+            let column = |cheap: usize| (0..8).map(move |x| cost(x, cheap));
+            cheap.into_iter().flat_map(column).collect()
+        });
+        assert!(
+            repeated > 1_000 && of_three > 1_000,
+            "{repeated}, {of_three}"
+        );
+    }
 }
 
 #[test]

@@ -39,7 +39,9 @@ fn check_6_9_11_12_13_4() {
     };
     let (weights, costs) = ([1, 2, 3], [0; 12]);
     let without_zero = [0, 9, 9, 9, 9, 9, 9, 9, 0, 9, 9, 9];
-    for first in [0x00, 0x01, 0x07, 0x12, 0x21, 0x27, 0xFF] {
+    for first in [
+        0x00, 0x01, 0x07, 0x11, 0x17, 0x21, 0x27, 0x31, 0x37, 0x42, 0xFF,
+    ] {
         assert_eq!(number(first, &weights, &costs, 18), 6);
         assert_eq!(number(first, &[1], &costs, 18), 6);
     }
@@ -101,7 +103,9 @@ fn expand_6_9_11_16_2() {
     };
     let weights = [1, 2, 3];
     let record = bytes("010203 0900FF020A FFFF00FF00 000101FF00");
-    for first in [0x00, 0x01, 0x07, 0x12, 0x21, 0x27, 0xFF] {
+    for first in [
+        0x00, 0x01, 0x07, 0x11, 0x17, 0x21, 0x27, 0x31, 0x37, 0x42, 0xFF,
+    ] {
         assert_eq!(number(first, &weights, &record, 12), 6);
         assert_eq!(number(first, &[1], &record, 12), 6);
     }

@@ -53,7 +53,7 @@ fn under_six_bytes_is_5_before_6() {
 #[test]
 fn the_first_byte_is_6_before_7() {
     for first in [
-        "00", "01", "07", "08", "12", "20", "21", "27", "28", "32", "42", "FF",
+        "00", "01", "07", "08", "10", "11", "17", "20", "21", "27", "30", "31", "37", "42", "FF",
     ] {
         assert_eq!(refused_code(&with(0, first)), 6);
         assert_eq!(refused_code(&with(0, &format!("{first}0000"))), 6);

@@ -6,7 +6,7 @@ use std::collections::BTreeSet;
 use reference_decoder::encode::has_encoding_form;
 use reference_decoder::record::has_accepted_form;
 use reference_decoder::sample::{self, Generator, Size, Style};
-use reference_decoder::{code_line, decode, program, Outcome, Refusal, Rule};
+use reference_decoder::{code_line, decode, program, Join, Outcome, Refusal, Rule};
 
 #[test]
 fn a_seed_gives_the_same_samples() {
@@ -22,9 +22,22 @@ fn first_bytes_spread_over_their_ranges() {
         let draws = (0..200).map(|_| sample::first_byte(&mut generator, 2..=p, k..=3));
         draws.collect::<BTreeSet<u8>>()
     };
-    assert_eq!(drawn(3, 2), BTreeSet::from([0x02, 0x03, 0x22, 0x23]));
-    assert_eq!(drawn(4, 3), BTreeSet::from([0x22, 0x23, 0x24]));
-    assert_eq!(drawn(6, 2).len(), 10);
+    let of_digits = |digits: &[u8], p: u8| {
+        let bytes = digits
+            .iter()
+            .flat_map(|digit| (2..=p).map(move |p| 16 * digit + p));
+        bytes.collect::<BTreeSet<u8>>()
+    };
+    assert_eq!(drawn(3, 2), of_digits(&[0, 1, 2, 3], 3));
+    assert_eq!(drawn(4, 3), of_digits(&[2, 3], 4));
+    assert_eq!(drawn(6, 2), of_digits(&[0, 1, 2, 3], 6));
+    let mut drawn = |join| {
+        let draws =
+            (0..200).map(|_| sample::first_byte_with(&mut generator, 2..=4, 2..=3, join..=join));
+        draws.collect::<BTreeSet<u8>>()
+    };
+    assert_eq!(drawn(Join::Sum), of_digits(&[0, 2], 4));
+    assert_eq!(drawn(Join::Greatest), of_digits(&[1, 3], 4));
 }
 
 /// Each of the 256 first bytes, and those that are accepted among them.
@@ -80,11 +93,15 @@ fn codes_are_accepted_and_their_words_satisfy_them() {
                 checks_on_two_columns += usize::from(check.weights.len() == 2);
             }
             assert!(size.columns.contains(&code.n) && size.checks.contains(&code.m));
-            sizes.insert((code.field().p(), code.rule().deviations()));
+            sizes.insert((
+                code.field().p(),
+                code.rule().deviations(),
+                code.rule().join(),
+            ));
             of_two_columns += usize::from(code.n == 2);
         }
     }
-    assert!((2..=6).all(|p| sizes.contains(&(p, 2)) && sizes.contains(&(p, 3))));
+    assert_eq!(sizes.len(), 5 * 2 * 2, "{sizes:?}");
     assert!(of_two_columns > 0 && checks_on_two_columns > 100);
 }
 
@@ -198,7 +215,7 @@ fn encodable_codes_are_accepted_and_spread_over_their_ranges() {
     for bound in most.into_iter().chain(least) {
         assert!(met.contains(&bound), "{bound:?}");
     }
-    let mut first_bytes = (0x02..=0x06).chain(0x22..=0x26);
+    let mut first_bytes = (0..=3).flat_map(|digit| (2..=6).map(move |p| 16 * digit + p));
     assert!(first_bytes.all(|first| met.contains(&("first", first))));
     assert!((2..=32).all(|degree| met.contains(&("degree", degree))));
 }

@@ -133,7 +133,7 @@ fn the_expansion_of_a_record_is_the_sent_costs() {
 
 /// With a third deviation no sent cost is greater. With two others or one it is the same, and over four
 /// elements too: three different deviations there add up to 0, and where two are equal the third alone
-/// is cheaper.
+/// costs no more.
 #[test]
 fn a_third_deviation_only_makes_costs_less() {
     let mut generator = Generator::new(3);
@@ -141,7 +141,7 @@ fn a_third_deviation_only_makes_costs_less() {
     for style in Style::ALL.repeat(100) {
         let first = sample::first_byte(&mut generator, 2..=5, 3..=3);
         let sample = sample::check(&mut generator, first, 2..=8, style);
-        let [two, three] = [first & 0x0F, first]
+        let [two, three] = [first & 0x1F, first]
             .map(|first| Messages::new(rule(first), &sample.weights, &sample.costs));
         assert_eq!(
             (&two.decisions, &two.shifts),
@@ -168,7 +168,7 @@ fn where_no_third_deviation_helps_the_records_differ_by_unused_pairs() {
         let first = sample::first_byte(&mut generator, 2..=6, 3..=3);
         let sample = sample::check(&mut generator, first, 2..=3, style);
         let CheckSample { weights, costs, .. } = &sample;
-        let [two, three] = [first & 0x0F, first].map(|first| {
+        let [two, three] = [first & 0x1F, first].map(|first| {
             let mut record = vec![0; record::length(rule(first), weights.len())];
             check(first, weights, costs, &mut record).expect("an accepted check");
             record

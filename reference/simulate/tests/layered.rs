@@ -5,7 +5,7 @@ mod common;
 
 use reference_decoder::check::Messages;
 use reference_decoder::sample::{self, Generator, Size, Style};
-use reference_decoder::{decode, Outcome as Decoded, Rule};
+use reference_decoder::{decode, Join, Outcome as Decoded, Rule};
 use simulate::decoder::{Decoder, Outcome};
 use simulate::layered::{CheckRule, Layered};
 use simulate::library::Library;
@@ -34,7 +34,10 @@ fn document_01s_rule_decodes_as_the_reference() {
     let mut generator = Generator::new(1);
     let mut found = [0, 0];
     for round in 0..400 {
-        let size = [Size::SMALL, Size::MEDIUM][round % 2].clone();
+        let size = Size {
+            join: Join::Sum..=Join::Sum,
+            ..[Size::SMALL, Size::MEDIUM][round % 2].clone()
+        };
         let (sample, read, code) = common::random_code(&mut generator, &size);
         let style = generator.one_of(&Style::ALL);
         let wrong = generator.below(code.columns);

@@ -62,10 +62,11 @@ pub fn accepted_or_drawn(generator: &mut Generator, first: u8) -> u8 {
 /// Codes of a few columns with this accepted one.
 pub fn small_codes(first: u8) -> Size {
     let rule = Rule::new(first).expect("an accepted first byte");
-    let (p, k) = (rule.field().p(), rule.deviations());
+    let (p, k, join) = (rule.field().p(), rule.deviations(), rule.join());
     Size {
         p: p..=p,
         k: k..=k,
+        join: join..=join,
         ..Size::SMALL
     }
 }

@@ -3,7 +3,7 @@
 use std::ops::RangeInclusive;
 
 use super::{costs, Generator, Style};
-use crate::rule::Rule;
+use crate::rule::{Join, Rule};
 
 /// The input of one accepted check.
 #[derive(Clone, Debug, PartialEq, Eq)]
@@ -33,13 +33,24 @@ impl CheckSample {
     }
 }
 
-/// An accepted first byte with p and k in the ranges.
+/// An accepted first byte with p and k in the ranges, of either edition.
 pub fn first_byte(
     generator: &mut Generator,
     p: RangeInclusive<u8>,
     k: RangeInclusive<usize>,
 ) -> u8 {
-    let fits = |rule: Rule| p.contains(&rule.field().p()) && k.contains(&rule.deviations());
+    first_byte_with(generator, p, k, Join::BOTH)
+}
+
+/// An accepted first byte with p, k and the edition in the ranges.
+pub fn first_byte_with(
+    generator: &mut Generator,
+    p: RangeInclusive<u8>,
+    k: RangeInclusive<usize>,
+    join: RangeInclusive<Join>,
+) -> u8 {
+    let in_range = |rule: Rule| p.contains(&rule.field().p()) && k.contains(&rule.deviations());
+    let fits = |rule: Rule| in_range(rule) && join.contains(&rule.join());
     let bytes = (0..=u8::MAX).filter(|&first| Rule::new(first).is_ok_and(fits));
     generator.one_of(&bytes.collect::<Vec<u8>>())
 }

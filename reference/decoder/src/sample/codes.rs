@@ -6,7 +6,7 @@ use super::{checks, costs, Generator, Style};
 use crate::check::DEGREES;
 use crate::code::{CheckNode, Code, MOST_EDGES, MOST_SCALE};
 use crate::field::{sum, Field};
-use crate::rule::Rule;
+use crate::rule::{Join, Rule};
 
 /// The ranges from which a code's numbers are taken. A check takes fewer edges than its range says
 /// where the columns or the edge total leave no room for them.
@@ -16,6 +16,8 @@ pub struct Size {
     pub p: RangeInclusive<u8>,
     /// k.
     pub k: RangeInclusive<usize>,
+    /// The edition.
+    pub join: RangeInclusive<Join>,
     /// N, at least 2.
     pub columns: RangeInclusive<usize>,
     /// M.
@@ -31,6 +33,7 @@ impl Size {
     pub const SMALL: Size = Size {
         p: 2..=3,
         k: 2..=3,
+        join: Join::BOTH,
         columns: 2..=8,
         checks: 1..=4,
         degree: 2..=5,
@@ -40,6 +43,7 @@ impl Size {
     pub const MEDIUM: Size = Size {
         p: 2..=6,
         k: 2..=3,
+        join: Join::BOTH,
         columns: 8..=48,
         checks: 2..=16,
         degree: 2..=8,
@@ -49,6 +53,7 @@ impl Size {
     pub const FULL: Size = Size {
         p: 2..=6,
         k: 2..=3,
+        join: Join::BOTH,
         columns: 2..=256,
         checks: 1..=128,
         degree: 2..=32,
@@ -58,6 +63,7 @@ impl Size {
     pub const MOST_CHECKS: Size = Size {
         p: 6..=6,
         k: 2..=3,
+        join: Join::BOTH,
         columns: 256..=256,
         checks: 128..=128,
         degree: 8..=8,
@@ -67,11 +73,18 @@ impl Size {
     pub const MOST_DEGREE: Size = Size {
         p: 6..=6,
         k: 2..=3,
+        join: Join::BOTH,
         columns: 256..=256,
         checks: 32..=32,
         degree: 32..=32,
         limit: 1..=3,
     };
+
+    /// A first byte of this size.
+    pub fn first_byte(&self, generator: &mut Generator) -> u8 {
+        let (p, k, join) = (self.p.clone(), self.k.clone(), self.join.clone());
+        checks::first_byte_with(generator, p, k, join)
+    }
 }
 
 /// A code line with a word of its code.
@@ -85,7 +98,7 @@ pub struct CodeSample {
 
 /// An accepted code line, and a word of its code, with numbers in the ranges of the size.
 pub fn code(generator: &mut Generator, size: &Size) -> CodeSample {
-    let first = checks::first_byte(generator, size.p.clone(), size.k.clone());
+    let first = size.first_byte(generator);
     let field = Rule::new(first).expect("an accepted first byte").field();
     let n = generator.between(size.columns.clone());
     let m = generator.between(size.checks.clone());

@@ -46,7 +46,7 @@ fn replace(generator: &mut Generator, bytes: &mut [u8], value: u8) {
 /// with p in the low digit and a wrong high digit, and every other.
 fn damaged_first_byte(generator: &mut Generator) -> u8 {
     match generator.below(3) {
-        0 => generator.one_of(&[0x00, 0x01, 0x07, 0x08, 0x20, 0x21, 0x27, 0x28, 0xFF]),
+        0 => 16 * generator.byte(0..=3) + generator.one_of(&[0, 1, 7, 8, 15]),
         1 => 16 * generator.byte(0..=15) + generator.byte(2..=6),
         _ => generator.byte(0..=255),
     }

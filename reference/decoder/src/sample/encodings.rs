@@ -10,7 +10,7 @@ use crate::rule::Rule;
 /// higher one", with numbers in the ranges of the size. There are fewer checks than the range says
 /// where N leaves no room for them.
 pub fn encodable_code(generator: &mut Generator, size: &Size) -> Code {
-    let first = checks::first_byte(generator, size.p.clone(), size.k.clone());
+    let first = size.first_byte(generator);
     let p = Rule::new(first)
         .expect("an accepted first byte")
         .field()

@@ -2,6 +2,7 @@
 //! deviations: three ways to find it.
 
 use reference_decoder::sample::CheckSample;
+use reference_decoder::Rule;
 
 /// One of the ways: a check, and the columns.
 pub type Method = fn(&CheckSample, &[usize]) -> Vec<i32>;
@@ -18,7 +19,7 @@ pub fn by_all_combinations(sample: &CheckSample, columns: &[usize]) -> Vec<i32> 
             let costs = &sample.costs[n * q..(n + 1) * q];
             deviations += usize::from(Some(x) != costs.iter().position(|&cost| cost == 0));
             sum ^= usize::from(rule.field().product(sample.weights[n], x as u8));
-            cost += i32::from(costs[x]);
+            cost = rule.join().with(cost, i32::from(costs[x]));
         }
         if deviations <= rule.deviations() {
             least[sum] = least[sum].min(cost);
@@ -44,7 +45,7 @@ pub fn column_after_column(sample: &CheckSample, columns: &[usize]) -> Vec<i32> 
             for (before, known) in least[..counts - deviates].iter().enumerate() {
                 let known = known.iter().enumerate();
                 for (sum, cost) in known.filter_map(|(sum, cost)| cost.map(|cost| (sum, cost))) {
-                    let cost = cost + i32::from(cost_of_x);
+                    let cost = rule.join().with(cost, i32::from(cost_of_x));
                     let entry = &mut next[before + deviates][sum ^ term];
                     *entry = Some(entry.map_or(cost, |known| known.min(cost)));
                 }
@@ -74,31 +75,27 @@ pub fn by_deviations(sample: &CheckSample, columns: &[usize]) -> Vec<i32> {
         changes.push(deviations.map(change).collect::<Vec<_>>());
     }
     let mut least = vec![i32::MAX; q];
-    choose(
-        &changes,
-        sample.rule().deviations(),
-        (hard_sum, 0),
-        &mut least,
-    );
+    choose(sample.rule(), &changes, 0, (hard_sum, 0), &mut least);
     least
 }
 
-/// Takes a choice's weighted sum and cost, and all choices that deviate in later columns too, in at most
-/// so many of them.
+/// Takes the weighted sum and cost of a choice with so many deviations, and all choices that deviate in
+/// later columns too, in at most k with these.
 fn choose(
+    rule: Rule,
     later: &[Vec<(usize, i32)>],
-    deviations_left: usize,
+    deviations: usize,
     (sum, cost): (usize, i32),
     least: &mut [i32],
 ) {
     least[sum] = least[sum].min(cost);
-    if deviations_left == 0 {
+    if deviations == rule.deviations() {
         return;
     }
     for (place, column) in later.iter().enumerate() {
         for &(change, own) in column {
-            let choice = (sum ^ change, cost + own);
-            choose(&later[place + 1..], deviations_left - 1, choice, least);
+            let choice = (sum ^ change, rule.join().with(cost, own));
+            choose(rule, &later[place + 1..], deviations + 1, choice, least);
         }
     }
 }

@@ -2,7 +2,7 @@
 
 use reference_decoder::check::accept_costs;
 use reference_decoder::sample::{self, CodeSample, Generator, Size, Style};
-use reference_decoder::{code_line, Code};
+use reference_decoder::{code_line, Code, Join};
 
 use crate::calls::first_byte;
 use crate::lent::{length_around, length_enough};
@@ -11,6 +11,7 @@ use crate::lent::{length_around, length_enough};
 const LONG: Size = Size {
     p: 2..=3,
     k: 2..=3,
+    join: Join::BOTH,
     columns: 6..=10,
     checks: 3..=6,
     degree: 2..=5,
