@@ -146,7 +146,7 @@ impl Row {
             }
             Engine::Sweeps => {
                 // Its tables are kept from call to call.
-                let mut sweeps = sweeps::Engine::new(self.p, k);
+                let mut sweeps = sweeps::Engine::<false>::new(self.p, k);
                 Contender::new(inputs, lent, move |input: &CheckSample, out| {
                     sweeps.check(&input.weights, &input.costs, out)
                 })

@@ -106,7 +106,7 @@ fn contender<'a>(engine: Engine, job: &'a Job, line: &'a [u8]) -> Contender<'a, 
         Engine::Proved => Contender::new(&job.frames, lent, decode_by(line, proved)),
         Engine::Sweeps => {
             let plain = Decoded::lent(&job.code, 0);
-            let mut layered = Layered::new(&job.code, SCALE, LIMIT, Sweeps::new(2));
+            let mut layered = Layered::new(&job.code, SCALE, LIMIT, Sweeps::<false>::new(2));
             Contender::new(&job.frames, plain, move |frame, out| {
                 let outcome = layered.decode(frame);
                 (out.status, out.t) = (u8::from(!outcome.found), outcome.iterations);

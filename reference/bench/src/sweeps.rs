@@ -1,7 +1,8 @@
 //! The textbook engine for one check: forward and backward sweeps over the trellis. Document 02, §7:
 //! "For one check it keeps, for each partial sum and each count of deviations up to k, the least cost
 //! over the columns before n, and the same over the columns after n, and joins the two sweeps for
-//! column n." The work is some d q² (k + 1)(k + 2) / 2 joins.
+//! column n." The work is some d q² (k + 1)(k + 2) / 2 joins. GREATEST is whether a choice costs the
+//! greatest of its columns' costs, and not their sum.
 
 use simulate::field::Field;
 use simulate::layered::{hard_decision, CheckRule};
@@ -14,7 +15,7 @@ type Costs = Vec<Vec<u16>>;
 
 /// The sweeps, with their tables kept from call to call.
 #[derive(Clone, Debug)]
-pub struct Sweeps {
+pub struct Sweeps<const GREATEST: bool> {
     /// k.
     deviations: usize,
     /// Over the columns before n, for each n.
@@ -24,9 +25,9 @@ pub struct Sweeps {
     next: Costs,
 }
 
-impl Sweeps {
+impl<const GREATEST: bool> Sweeps<GREATEST> {
     /// The sweeps for choices with at most so many deviations.
-    pub fn new(deviations: usize) -> Sweeps {
+    pub fn new(deviations: usize) -> Self {
         let costs = vec![Vec::new(); deviations + 1];
         Sweeps {
             deviations,
@@ -37,7 +38,7 @@ impl Sweeps {
     }
 }
 
-impl CheckRule for Sweeps {
+impl<const GREATEST: bool> CheckRule for Sweeps<GREATEST> {
     fn send(&mut self, q: usize, terms: &[u8], brought: &[u8], sent: &mut [u8]) {
         let columns = terms.chunks_exact(q).zip(brought.chunks_exact(q));
         let degree = brought.len() / q;
@@ -47,14 +48,14 @@ impl CheckRule for Sweeps {
         // Nothing is asked over the columns before or after all of them, so no sweep takes its last.
         for (n, (terms, costs)) in columns.clone().enumerate().take(degree - 1) {
             let (known, next) = self.before.split_at_mut(n + 1);
-            step(q, terms, costs, &known[n], &mut next[0]);
+            step::<GREATEST>(q, terms, costs, &known[n], &mut next[0]);
         }
         start(q, &mut self.after);
         let columns = columns.zip(sent.chunks_exact_mut(q)).enumerate();
         for (n, ((terms, costs), sent)) in columns.rev() {
-            join(terms, &self.before[n], &self.after, sent);
+            join::<GREATEST>(terms, &self.before[n], &self.after, sent);
             if n > 0 {
-                step(q, terms, costs, &self.after, &mut self.next);
+                step::<GREATEST>(q, terms, costs, &self.after, &mut self.next);
                 std::mem::swap(&mut self.after, &mut self.next);
             }
         }
@@ -70,8 +71,23 @@ fn start(q: usize, costs: &mut Costs) {
     costs[0][0] = 0;
 }
 
+/// The cost of two parts of a choice together.
+fn joined<const GREATEST: bool>(one: u16, other: u16) -> u16 {
+    if GREATEST {
+        one.max(other)
+    } else {
+        one + other
+    }
+}
+
 /// One column more: from the costs over some columns to those over these and this one.
-fn step(q: usize, terms: &[u8], costs: &[u8], known: &Costs, next: &mut Costs) {
+fn step<const GREATEST: bool>(
+    q: usize,
+    terms: &[u8],
+    costs: &[u8],
+    known: &Costs,
+    next: &mut Costs,
+) {
     let decision = hard_decision(costs);
     for (count, next) in next.iter_mut().enumerate() {
         next.clear();
@@ -84,7 +100,8 @@ fn step(q: usize, terms: &[u8], costs: &[u8], known: &Costs, next: &mut Costs) {
             };
             for (sum, &earlier) in earlier.iter().enumerate() {
                 let least = &mut next[sum ^ usize::from(term)];
-                *least = (earlier + u16::from(cost)).min(*least).min(NONE);
+                let cost = joined::<GREATEST>(earlier, u16::from(cost));
+                *least = cost.min(*least).min(NONE);
             }
         }
     }
@@ -92,14 +109,14 @@ fn step(q: usize, terms: &[u8], costs: &[u8], known: &Costs, next: &mut Costs) {
 
 /// "joins the two sweeps for column n": the cost sent at x is the least over the sums and counts
 /// before and after n that make h_n times x with at most k deviations.
-fn join(terms: &[u8], before: &Costs, after: &Costs, sent: &mut [u8]) {
+fn join<const GREATEST: bool>(terms: &[u8], before: &Costs, after: &Costs, sent: &mut [u8]) {
     for (sent, &term) in sent.iter_mut().zip(terms) {
         let mut least = NONE;
         for (count, before) in before.iter().enumerate() {
             for after in &after[..after.len() - count] {
                 for (sum, &before) in before.iter().enumerate() {
                     let other = sum ^ usize::from(term);
-                    least = (before + after[other]).min(least);
+                    least = joined::<GREATEST>(before, after[other]).min(least);
                 }
             }
         }
@@ -110,18 +127,18 @@ fn join(terms: &[u8], before: &Costs, after: &Costs, sent: &mut [u8]) {
 /// The sweeps as a call on one check that writes the same record as document 01's check. The input
 /// is an accepted one.
 #[derive(Clone, Debug)]
-pub struct Engine {
+pub struct Engine<const GREATEST: bool> {
     field: Field,
-    sweeps: Sweeps,
+    sweeps: Sweeps<GREATEST>,
     /// h_n times x, column by column.
     terms: Vec<u8>,
     /// The sent costs, column by column.
     sent: Vec<u8>,
 }
 
-impl Engine {
+impl<const GREATEST: bool> Engine<GREATEST> {
     /// The engine for p and k.
-    pub fn new(p: u8, deviations: usize) -> Engine {
+    pub fn new(p: u8, deviations: usize) -> Self {
         Engine {
             field: Field::new(p),
             sweeps: Sweeps::new(deviations),

@@ -10,35 +10,37 @@ struct Candidate {
     name: &'static str,
     /// Below this degree the search refuses all, and so may an older library.
     least_degree: usize,
-    /// Above this k the others than the same algorithm refuse all, and every check of the Min-Max edition.
-    most_deviations: usize,
+    /// The rules that it has; all but the same algorithm have k = 2 with the sum alone.
+    has_rule: fn(Rule) -> bool,
     check: foreign::Call,
 }
 
 impl Candidate {
     /// The engines that this machine can run.
     fn all() -> Vec<Candidate> {
-        let candidate = |name, least_degree, most_deviations, check| Candidate {
+        let candidate = |name, least_degree, check| Candidate {
             name,
             least_degree,
-            most_deviations,
+            has_rule: |rule| rule.deviations() == 2 && rule.join() == Join::Sum,
             check,
         };
+        let same = Candidate {
+            has_rule: |_| true,
+            ..candidate("same", 0, same::check)
+        };
         let mut all = vec![
-            candidate("same", 0, 3, same::check),
-            candidate("search", 3, 2, search_engine::check),
-            candidate("SSE2", 0, 2, foreign::check_sse2),
+            same,
+            candidate("search", 3, search_engine::check),
+            candidate("SSE2", 0, foreign::check_sse2),
         ];
-        all.extend(foreign::check_avx2().map(|check| candidate("AVX2", 0, 2, check)));
-        all.extend(foreign::old_library().map(|old| candidate("old", 3, 2, old.check)));
+        all.extend(foreign::check_avx2().map(|check| candidate("AVX2", 0, check)));
+        all.extend(foreign::old_library().map(|old| candidate("old", 3, old.check)));
         all
     }
 
     /// Whether it has checks like this one, where they are not refused.
     fn has(&self, check: &CheckSample) -> bool {
-        let has_rule =
-            |rule: Rule| rule.deviations() <= self.most_deviations && rule.join() == Join::Sum;
-        check.degree() >= self.least_degree && Rule::new(check.first).map_or(true, has_rule)
+        check.degree() >= self.least_degree && Rule::new(check.first).map_or(true, self.has_rule)
     }
 }
 
@@ -67,10 +69,10 @@ fn record_length(check: &CheckSample) -> usize {
 #[test]
 fn every_first_byte_and_degree_with_ties() {
     let mut generator = Generator::new(1);
-    for first in (0x02..=0x06).chain(0x22..=0x26) {
+    for first in (0..=u8::MAX).filter(|&first| Rule::new(first).is_ok()) {
         for degree in 2..=32 {
             for style in Style::ALL {
-                for _ in 0..4 {
+                for _ in 0..2 {
                     let check = sample::check(&mut generator, first, degree..=degree, style);
                     compare(&mut generator, &check, record_length(&check));
                 }

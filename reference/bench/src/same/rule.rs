@@ -26,15 +26,17 @@ pub struct Rule {
 }
 
 impl Rule {
-    /// The rule of a first byte, or refusal 6. Document 02, §3: "a first code byte of 22 to 26 hexadecimal
-    /// means k = 3 with p in its low digit".
+    /// The rule of a first byte, or refusal 6. Document 02, §5: "high digit above 3, or low digit outside 2
+    /// to 6".
     pub fn of(first: u8) -> Result<Rule, Refusal> {
-        let k = match first >> 4 {
-            0 => 2,
-            2 => 3,
+        let (k, greatest) = match first >> 4 {
+            0 => (2, false),
+            1 => (2, true),
+            2 => (3, false),
+            3 => (3, true),
             _ => return Err(6),
         };
-        Rule::new(first & 0x0F, k, false)
+        Rule::new(first & 0x0F, k, greatest)
     }
 
     /// A rule, or refusal 6.
