@@ -8,9 +8,10 @@
 
 #include "petsivola.h"
 
-/* The code: p = 2, k = 2, N = 3, M = 1, g = 16, I = 1, and one check on columns 0, 1, 2 with weights
- * 1. With FIRST = 0x22, for k = 3, all else below stays as it is. */
-enum { FIRST = 0x02, COLUMNS = 3, CHECKS = 1, EDGES = 3 };
+/* The code: p = 2, k = 2 and the sum, N = 3, M = 1, g = 16, I = 1, and one check on columns 0, 1, 2
+ * with weights 1. With PETSIVOLA_FIRST(2, 3, 0), for k = 3, or PETSIVOLA_FIRST(2, 2, 1), for Min-Max,
+ * all else below stays as it is. */
+enum { FIRST = PETSIVOLA_FIRST(2, 2, 0), COLUMNS = 3, CHECKS = 1, EDGES = 3 };
 
 static const uint8_t code[PETSIVOLA_CODE_LENGTH(CHECKS, EDGES)] = {
     FIRST, 0, COLUMNS, CHECKS, 16, 1,

@@ -10,10 +10,10 @@
 
 #include "petsivola.h"
 
-/* The code: p = 4, k = 2, N = 12, M = 6, g = 14, I = 20. Check m, counted from 0, contains column
- * 6 + m and no higher one, which is what petsivola_encode asks for; each line below ends with that
- * column. */
-enum { FIRST = 0x04, P = 4, Q = 16, COLUMNS = 12, CHECKS = 6, EDGES = 23 };
+/* The code: p = 4, k = 2 and the sum, N = 12, M = 6, g = 14, I = 20. Check m, counted from 0, contains
+ * column 6 + m and no higher one, which is what petsivola_encode asks for; each line below ends with
+ * that column. */
+enum { P = 4, FIRST = PETSIVOLA_FIRST(P, 2, 0), Q = 16, COLUMNS = 12, CHECKS = 6, EDGES = 23 };
 
 static const uint8_t code[PETSIVOLA_CODE_LENGTH(CHECKS, EDGES)] = {
     FIRST, 0, COLUMNS, CHECKS, 14, 20,

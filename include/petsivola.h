@@ -17,10 +17,15 @@
  * The result is one number: PETSIVOLA_NUMBER(result) says what happened, PETSIVOLA_VALUE(result) is
  * the product, the bytes written or the iterations t; it is 0 on a refusal.
  *
- * The first byte of a code line, "first" below, gives the field and the number of deviations: 02 to
- * 06 hexadecimal is p = 2 to 6 with k = 2, 22 to 26 is p = 2 to 6 with k = 3. The field has q = 2^p
- * elements, and what a check sends is the least cost over choices that depart from at most k hard
- * decisions.
+ * The first byte of a code line, "first" below, gives the field, the number of deviations and the
+ * edition. Its low hexadecimal digit is p, 2 to 6: the field has q = 2^p elements. What a check sends
+ * is the least cost over choices that depart from at most k hard decisions, and the high digit says
+ * what k is and what a choice costs:
+ *
+ *   0   k = 2, the sum of its columns' costs
+ *   1   k = 2, the greatest of its columns' costs (Min-Max)
+ *   2   k = 3, the sum
+ *   3   k = 3, the greatest
  */
 #ifndef PETSIVOLA_H
 #define PETSIVOLA_H
@@ -48,8 +53,8 @@ enum petsivola_number {
     PETSIVOLA_SHORT_STORE = 4,      /* record buffer or store too short */
     /* by the code line's writer */
     PETSIVOLA_CODE_BYTES = 5,       /* bytes missing or left over */
-    PETSIVOLA_FIELD_SIZE = 6,       /* first byte not 02 to 06 or 22 to 26 hexadecimal; in the
-                                       product: p not 2 to 6 */
+    PETSIVOLA_FIELD_SIZE = 6,       /* first byte with a high digit above 3 or a low digit not 2
+                                       to 6; in the product: p not 2 to 6 */
     PETSIVOLA_COLUMNS_CHECKS = 7,   /* N not 1 to 256, or M not 1 to 128 */
     PETSIVOLA_SCALE_LIMIT = 8,      /* g not 1 to 16, or I not 1 to 255 */
     PETSIVOLA_DEGREE = 9,           /* degree not 2 to 32, or more than 1,024 edges */
@@ -72,9 +77,17 @@ enum petsivola_number {
     PETSIVOLA_MESSAGE = 18          /* message length is not N - M, or a symbol not below q */
 };
 
-/* q and k, then lengths in elements, as constant expressions for constant arguments. */
+/* All below are constant expressions for constant arguments.
+ *
+ * The first byte for p 2 to 6, k 2 or 3, and greatest 1 for Min-Max or 0 for the sum; then what a
+ * first byte stands for: q, k, and 1 or 0 for the edition. */
+#define PETSIVOLA_FIRST(p, k, greatest) \
+    ((uint8_t)(((k) == 3 ? 0x20 : 0) | ((greatest) ? 0x10 : 0) | (p)))
 #define PETSIVOLA_Q(first) ((size_t)1 << ((first) & 15))
 #define PETSIVOLA_DEVIATIONS(first) (2 + (size_t)((first) >> 5 & 1))
+#define PETSIVOLA_GREATEST(first) ((first) >> 4 & 1)
+
+/* Lengths in elements; they are the same in both editions. */
 #define PETSIVOLA_RECORD_LENGTH(first, d) PETSIVOLA_STORE_LENGTH(first, 1, d)
 #define PETSIVOLA_EXPANSION_LENGTH(first, d) ((size_t)(d) * PETSIVOLA_Q(first))
 #define PETSIVOLA_FRAME_LENGTH(first, n) ((size_t)(n) * PETSIVOLA_Q(first))
@@ -94,7 +107,7 @@ enum petsivola_number {
 #define PETSIVOLA_MOST_CODE PETSIVOLA_CODE_LENGTH(128, 1024)           /*  3,206 */
 #define PETSIVOLA_MOST_LINE ((size_t)32768)                            /* digits */
 
-/* Decodes one frame: the layered trellis extended min-sum decoder.
+/* Decodes one frame: the layered decoder with the trellis extended min-sum rule, or with Min-Max.
  *
  *   code     the code line: first, N (two bytes, high first), M, g, I, then M checks: the degree, 2
  *            to 32, then for each edge the column (two bytes, high first, rising in the check) and
@@ -118,7 +131,8 @@ uint32_t petsivola_decode(const uint8_t *code, size_t code_len,
 /* Encodes one message: N - M symbols become the N symbols that decoding looks for.
  *
  *   code     a code line as for petsivola_decode, of this form: N is above M, and check m, counted
- *            from 0, contains column N - M + m and no higher one. k, g and I do not matter.
+ *            from 0, contains column N - M + m and no higher one. k, the edition, g and I do not
+ *            matter.
  *   message  N - M symbols, each 0 to q - 1: PETSIVOLA_MESSAGE_LENGTH(N, M), exactly
  *   symbols  gets the message and behind it M symbols with which every check is satisfied; no others
  *            behind this message satisfy them all: at least N
