@@ -5,7 +5,8 @@
 
 use petsivola::{decode, lengths};
 
-/// The code line: p = 2 with k = 2, N = 3, M = 1, g = 16, I = 1, then one check of degree 3 with all weights 1.
+/// The code line: p = 2, k = 2 and the sum, N = 3, M = 1, g = 16, I = 1, then one check of degree 3 with all
+/// weights 1.
 const CODE: [u8; 16] = [2, 0, 3, 1, 16, 1, 3, 0, 0, 1, 0, 1, 1, 0, 2, 1];
 
 /// The frame: four costs for each of the three columns.

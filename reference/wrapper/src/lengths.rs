@@ -1,7 +1,9 @@
-//! How long the slices are, by a code line's first byte: 02 to 06 hexadecimal for p = 2 to 6 with k = 2,
-//! 22 to 26 for the same with k = 3. The functions answer none for another first byte, or when N is not
-//! above M where a message's length is asked for; a number past every accepted one gives a length that
-//! is right or, where that passes the greatest number, the greatest number.
+//! How long the slices are, by a code line's first byte, whose [`Rule`] they depend on; they are the same
+//! in both editions. The functions answer none for a first byte that is refused, or when N is not above M
+//! where a message's length is asked for; a number past every accepted one gives a length that is right
+//! or, where that passes the greatest number, the greatest number.
+
+use crate::rule::Rule;
 
 /// "p is 2 to 6, q = 2^p": q at its greatest.
 pub const MOST_ELEMENTS: usize = 64;
@@ -35,32 +37,18 @@ const fn entry(deviations: usize) -> usize {
     1 + 2 * deviations
 }
 
-/// q and k. Document 02, §3: "a first code byte of 22 to 26 hexadecimal means k = 3 with p in its low
-/// digit".
-const fn rule(first: u8) -> Option<(usize, usize)> {
-    let deviations = match first >> 4 {
-        0 => 2,
-        2 => 3,
-        _ => return None,
-    };
-    match first & 0x0F {
-        p @ 2..=6 => Some((1 << p, deviations)),
-        _ => None,
-    }
-}
-
 /// q, the number of elements.
 pub const fn field(first: u8) -> Option<usize> {
-    match rule(first) {
-        Some((q, _)) => Some(q),
+    match Rule::of(first) {
+        Some(rule) => Some(rule.elements()),
         None => None,
     }
 }
 
 /// k, the most deviations of a choice.
 pub const fn deviations(first: u8) -> Option<usize> {
-    match rule(first) {
-        Some((_, deviations)) => Some(deviations),
+    match Rule::of(first) {
+        Some(rule) => Some(rule.deviations()),
         None => None,
     }
 }
@@ -94,9 +82,10 @@ pub const fn message(columns: usize, checks: usize) -> Option<usize> {
 
 /// The used part of a store: "as many bytes as the M record lengths add up to".
 pub const fn store(first: u8, checks: usize, edges: usize) -> Option<usize> {
-    match rule(first) {
-        Some((q, deviations)) => {
-            let entries = checks.saturating_mul(entry(deviations) * (q - 1));
+    match Rule::of(first) {
+        Some(rule) => {
+            let of_check = entry(rule.deviations()) * (rule.elements() - 1);
+            let entries = checks.saturating_mul(of_check);
             Some(edges.saturating_add(entries))
         }
         None => None,
@@ -122,7 +111,7 @@ mod tests {
         assert_eq!(message(2, 2), None);
         assert_eq!(message(2, 3), None);
         // Two checks, of degree 3 and 4.
-        for first in [0x03, 0x23] {
+        for first in [0x03, 0x13, 0x23, 0x33] {
             let both = record(first, 3).zip(record(first, 4)).map(|(a, b)| a + b);
             assert_eq!(store(first, 2, 7), both);
         }
@@ -148,7 +137,7 @@ mod tests {
     #[test]
     fn no_number_panics() {
         for first in 0..=u8::MAX {
-            let accepted = matches!(first, 0x02..=0x06 | 0x22..=0x26);
+            let accepted = Rule::of(first).is_some();
             assert_eq!(field(first).is_some(), accepted);
             assert_eq!(deviations(first).is_some(), accepted);
             for number in [0, 1, usize::MAX / 64 + 1, usize::MAX] {
@@ -162,8 +151,11 @@ mod tests {
     #[test]
     fn q_and_k_of_each_accepted_first_byte() {
         for p in 2..=6 {
-            assert_eq!(field(p).zip(deviations(p)), Some((1 << p, 2)));
-            assert_eq!(field(0x20 + p).zip(deviations(0x20 + p)), Some((1 << p, 3)));
+            for (digit, k) in [(0x00, 2), (0x10, 2), (0x20, 3), (0x30, 3)] {
+                let first = digit + p;
+                assert_eq!(field(first).zip(deviations(first)), Some((1 << p, k)));
+                assert_eq!(record(first, 4), record(first ^ 0x10, 4));
+            }
         }
     }
 }

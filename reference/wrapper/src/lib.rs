@@ -6,9 +6,9 @@
 //! [`Refusal`]. Elements past those that a call
 //! fills keep their old content. No call panics, whatever its arguments.
 //!
-//! The first byte of a code line, which `check` and `expand` take too, gives the field and the number of
-//! deviations: 02 to 06 hexadecimal is p = 2 to 6 with k = 2, 22 to 26 the same with k = 3. [`lengths`]
-//! has the lengths that follow from it. `product` takes p alone.
+//! The first byte of a code line, which `check` and `expand` take too, gives the field, the number of
+//! deviations and the edition, sum or Min-Max: a [`Rule`] reads and composes it. [`lengths`] has the lengths
+//! that follow from it. `product` takes p alone.
 //!
 //! | call | fills | refusals, in order |
 //! |---|---|---|
@@ -42,9 +42,11 @@ mod answer;
 pub mod lengths;
 mod library;
 mod refusal;
+mod rule;
 
 pub use answer::Outcome;
 pub use refusal::Refusal;
+pub use rule::{Edition, Rule};
 
 /// The product of two elements of the field with 2^p elements. Order: "Product: 6, 11."
 pub fn product(p: u8, a: u8, b: u8) -> Result<u8, Refusal> {

@@ -17,7 +17,7 @@ pub enum Refusal {
     ShortStore,
     /// "5, bytes missing or left over"
     CodeBytes,
-    /// "6, p"; document 02, §3: "Refusal 6 covers the new first byte"
+    /// "6, p"; document 02, §5: "Refusal 6 now means: high digit above 3, or low digit outside 2 to 6."
     FieldSize,
     /// "7, N or M out of range"
     ColumnsOrChecks,
@@ -102,7 +102,9 @@ impl Refusal {
             Refusal::ShortCosts => "the cost buffer is too short",
             Refusal::ShortStore => "the record buffer or store is too short",
             Refusal::CodeBytes => "bytes of the code line are missing or left over",
-            Refusal::FieldSize => "the first byte is not 02 to 06 or 22 to 26, or p is not 2 to 6",
+            Refusal::FieldSize => {
+                "the high digit of the first byte is above 3, or p, its low digit, is not 2 to 6"
+            }
             Refusal::ColumnsOrChecks => "N is not 1 to 256, or M is not 1 to 128",
             Refusal::ScaleOrLimit => "g is not 1 to 16, or I is 0",
             Refusal::Degree => "a degree is not 2 to 32, or there are more than 1,024 edges",
@@ -172,7 +174,7 @@ mod tests {
     fn the_text_has_the_number_and_the_cause() {
         assert_eq!(
             Refusal::FieldSize.to_string(),
-            "refused by 6: the first byte is not 02 to 06 or 22 to 26, or p is not 2 to 6"
+            "refused by 6: the high digit of the first byte is above 3, or p, its low digit, is not 2 to 6"
         );
         assert_eq!(
             Refusal::Degree.to_string(),

@@ -1,7 +1,7 @@
 //! `product`, `check` and `expand` on the documents' own values and on inputs that no caller means. The
 //! comparison with the reference decoder is in the package `compare`.
 
-use petsivola::{check, expand, lengths, product, Refusal};
+use petsivola::{check, expand, lengths, product, Refusal, Rule};
 
 /// "Columns 0 5 7 9 / 0 4 8 3 / 0 6 2 10: record 000000 040105FF00 020207FF00 030107FF00."
 const COSTS: [u8; 12] = [0, 5, 7, 9, 0, 4, 8, 3, 0, 6, 2, 10];
@@ -122,14 +122,31 @@ fn check_and_expand_with_three_deviations() {
     assert_eq!(answer, Err(Refusal::ShortStore));
 }
 
+/// Document 02, §5, worked out by hand: at a = 1 symbols 3 of column 1 and 2 of column 2 cost 3 together,
+/// and column 1 alone costs 3 at a = 3, where symbols 1 and 2 of the others cost 5.
+#[test]
+fn check_and_expand_of_the_min_max_edition() {
+    let expected = [0, 0, 0, 3, 1, 5, 2, 4, 2, 2, 5, 255, 0, 3, 1, 5, 255, 0];
+    let (mut record, mut sent) = ([0xA5; 25], [0xA5; 13]);
+    assert_eq!(check(0x12, &[1; 3], &COSTS, &mut record), Ok(18));
+    assert_eq!(record[..18], expected);
+    assert_eq!(record[18..], [0xA5; 7]);
+    assert_eq!(expand(0x12, &[1; 3], &expected, &mut sent), Ok(12));
+    assert_eq!(sent, [0, 3, 2, 3, 0, 5, 2, 5, 0, 4, 5, 3, 0xA5]);
+    // With k = 3 each a has an unused pair more.
+    assert_eq!(check(0x32, &[1; 3], &COSTS, &mut record), Ok(24));
+    let (pairs, _) = expected[3..].as_chunks::<5>();
+    for (entry, of_two) in record[3..24].chunks_exact(7).zip(pairs) {
+        assert_eq!(entry, [&of_two[..], &[255, 0]].concat());
+    }
+    assert_eq!(record[24], 0xA5);
+}
+
 /// Of every first byte; the product takes p alone.
 #[test]
 fn empty_slices_are_answered() {
     for first in 0..=u8::MAX {
-        let refusal = match first {
-            0x02..=0x06 | 0x22..=0x26 => Refusal::Degree,
-            _ => Refusal::FieldSize,
-        };
+        let refusal = Rule::try_from(first).map_or_else(|refusal| refusal, |_| Refusal::Degree);
         assert_eq!(check(first, &[], &[], &mut []), Err(refusal));
         assert_eq!(expand(first, &[], &[], &mut []), Err(refusal));
         let expected = match first {

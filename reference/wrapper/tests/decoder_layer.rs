@@ -1,10 +1,15 @@
 //! `line` and `decode` on the documents' own values and on inputs that no caller means. The comparison
 //! with the reference decoder is in the package `compare`.
 
-use petsivola::{decode, lengths, line, Outcome, Refusal};
+use petsivola::{decode, lengths, line, Edition, Outcome, Refusal, Rule};
 
 const CODE: [u8; 16] = [2, 0, 3, 1, 16, 1, 3, 0, 0, 1, 0, 1, 1, 0, 2, 1];
 const FRAME: [u8; 12] = [5, 0, 9, 7, 0, 4, 8, 3, 0, 6, 2, 10];
+
+/// A code of five columns under two checks of degree 4, g = 8, I = 3, without its first byte.
+const TWO_CHECKS: [u8; 31] = [
+    0, 5, 2, 8, 3, 4, 0, 0, 2, 0, 1, 4, 0, 3, 7, 0, 4, 2, 4, 0, 0, 5, 0, 2, 1, 0, 3, 5, 0, 4, 4,
+];
 
 #[test]
 fn line_reads_two_digits_a_byte() {
@@ -72,20 +77,17 @@ fn decode_with_two_columns() {
     assert_eq!(store[17], 0xA5);
 }
 
-/// Document 02, §3: a frame of five columns under two checks of degree 4, with k = 2 and with k = 3,
-/// which saves it. The values come from a separate calculation.
+/// Document 02, §3: a frame under two checks with k = 2 and with k = 3, which saves it. The values come from
+/// a separate calculation.
 #[test]
 fn decode_with_three_deviations() {
-    let rest = [
-        0, 5, 2, 8, 3, 4, 0, 0, 2, 0, 1, 4, 0, 3, 7, 0, 4, 2, 4, 0, 0, 5, 0, 2, 1, 0, 3, 5, 0, 4, 4,
-    ];
     let frame = [
         0, 32, 233, 178, 178, 19, 153, 169, 143, 17, 26, 158, 0, 243, 237, 187, 187, 0, 179, 141,
         179, 199, 13, 186, 14, 0, 157, 84, 168, 247, 202, 115, 80, 30, 144, 91, 233, 209, 0, 224,
     ];
     let answer = |first: u8, room: usize| {
         let (mut symbols, mut costs, mut store) = ([0xA5; 5], [0xA5A5; 40], vec![0xA5; room]);
-        let code = [&[first], &rest[..]].concat();
+        let code = [&[first], &TWO_CHECKS[..]].concat();
         let outcome = decode(&code, &frame, &mut symbols, &mut costs, &mut store)?;
         Ok((outcome, symbols, store[..4].to_vec()))
     };
@@ -97,6 +99,32 @@ fn decode_with_three_deviations() {
     let expected = (Outcome::Found(2), [5, 1, 6, 1, 1], vec![3, 5, 4, 1]);
     assert_eq!(answer(0x23, three), Ok(expected));
     assert_eq!(answer(0x23, three - 1), Err(Refusal::ShortStore));
+}
+
+/// Document 02, §5: a frame that the sum loses and the greatest finds with either k. The values come from a
+/// separate calculation.
+#[test]
+fn decode_of_the_min_max_edition() {
+    let frame = [
+        14, 99, 93, 178, 0, 84, 79, 164, 0, 89, 23, 112, 22, 112, 45, 135, 0, 131, 56, 187, 42,
+        173, 98, 230, 0, 6, 35, 41, 87, 93, 123, 129, 19, 70, 0, 50, 69, 120, 50, 100,
+    ];
+    let answer = |deviations: u8, edition: Edition| {
+        let first = Rule::new(3, deviations, edition).map_or(0, Rule::first);
+        let (mut symbols, mut costs) = ([0xA5; 5], [0xA5A5; 40]);
+        let mut store = vec![0xA5; lengths::store(first, 2, 8)?];
+        let code = [&[first], &TWO_CHECKS[..]].concat();
+        let outcome = decode(&code, &frame, &mut symbols, &mut costs, &mut store).ok()?;
+        Some((outcome, symbols, store[..9].to_vec()))
+    };
+    let (outcome, symbols, _) = answer(2, Edition::Sum).expect("an accepted frame");
+    assert_eq!((outcome, symbols), (Outcome::NotFound(3), [4, 0, 0, 0, 2]));
+    let store = vec![4, 7, 7, 3, 22, 1, 24, 2, 30];
+    let expected = (Outcome::Found(2), [0; 5], store);
+    assert_eq!(answer(2, Edition::Greatest), Some(expected));
+    let store = vec![4, 7, 7, 3, 22, 1, 24, 255, 0];
+    let expected = (Outcome::Found(2), [0; 5], store);
+    assert_eq!(answer(3, Edition::Greatest), Some(expected));
 }
 
 /// "Degree 2 and 33: 9. Degree 3 and 32 pass. g 16 passes, 17 gives 8." Document 02, §1: "the bench
