@@ -21,14 +21,14 @@ pub fn tally() -> Tally {
     // The program's own buffers are long enough, so 2, 3 and 4 are never printed.
     expected.extend((5..=15).map(Class::Refused));
     expected.extend([LEAST_COLUMNS, MOST_COLUMNS].map(Class::Seen));
-    expected.extend(DEVIATIONS.map(Class::Seen));
+    expected.extend(RULES.map(Class::Seen));
     Tally::new("the program decode", expected)
 }
 
 const LEAST_COLUMNS: &str = "N 2";
 const MOST_COLUMNS: &str = "N 256";
-/// An input with an accepted code line, by its k.
-const DEVIATIONS: [&str; 2] = ["k 2", "k 3"];
+/// An input with an accepted code line, by the high digit of its first byte.
+const RULES: [&str; 4] = ["k 2", "k 2, Min-Max", "k 3", "k 3, Min-Max"];
 
 /// Compares the program on document 01's example, on checks of two columns, on every first byte and on
 /// inputs made for one rule each.
@@ -102,8 +102,8 @@ fn compare(
 ) -> Result<(), Difference> {
     let expected = reference_decoder::program(input);
     count(&expected, tally);
-    if let Some(deviations) = deviations(input) {
-        tally.seen(DEVIATIONS[deviations - 2], true);
+    if let Some(first) = first_byte(input) {
+        tally.seen(RULES[usize::from(first >> 4)], true);
     }
     let printed = printed(program.output(inputs::in_pieces(input, generator)))?;
     if printed == expected {
@@ -114,13 +114,13 @@ fn compare(
     }
 }
 
-/// k of an input's code line, where it is accepted.
-fn deviations(input: &[u8]) -> Option<usize> {
+/// The first byte of an input's code line, where it is accepted.
+fn first_byte(input: &[u8]) -> Option<u8> {
     let text = input.split(|&byte| byte == b'\n').next()?;
     let mut bytes = vec![0; text.len() / 2];
     let length = reference_decoder::line(text, &mut bytes).ok()?;
     let code = code_line(&bytes[..length]).ok()?;
-    Some(code.rule().deviations())
+    Some(code.first)
 }
 
 /// What the program printed.

@@ -16,7 +16,7 @@ pub fn random(generator: &mut Generator, size: &Size, frames: usize) -> Vec<u8> 
 }
 
 /// Document 01's example, and inputs each made for one rule of its section "Program" or for document 02,
-/// §1 and §3.
+/// §1, §3 and §5.
 pub fn chosen() -> Vec<Vec<u8>> {
     let mut inputs = vec![lines(&[CODE, FRAME])];
     inputs.extend(few_columns());
@@ -46,15 +46,19 @@ fn few_columns() -> Vec<Vec<u8>> {
     ]
 }
 
-/// Document 02, §3, "Three deviations": a frame that is found with three deviations and not with two, under
-/// its code with every first byte there is, and document 01's example with each.
+/// Document 02, §3, "Three deviations", and §5, "Min-Max edition": a frame that is found with three deviations
+/// and not with two, and one that is found by the greatest and not by the sum, under their code with every
+/// first byte there is, and document 01's example with each.
 fn first_bytes() -> Vec<Vec<u8>> {
     let rest = b"00050208030400000200010400030700040204000005000201000305000404";
-    let frame = b"0020E9B2B21399A98F111A9E00F3EDBBBB00B38DB3C70DBA0E009D54A8F7CA73501E905BE9D100E0";
+    let by_three =
+        b"0020E9B2B21399A98F111A9E00F3EDBBBB00B38DB3C70DBA0E009D54A8F7CA73501E905BE9D100E0";
+    let by_greatest =
+        b"0E635DB200544FA40059177016702D87008338BB2AAD62E600062329575D7B811346003245783264";
     let mut inputs = Vec::new();
     for first in 0..=u8::MAX {
         let with_first = |rest: &[u8]| [&hexadecimal(&[first]), rest].concat();
-        inputs.push(lines(&[&with_first(rest), frame]));
+        inputs.push(lines(&[&with_first(rest), by_three, by_greatest]));
         inputs.push(lines(&[&with_first(&CODE[2..]), FRAME]));
     }
     inputs

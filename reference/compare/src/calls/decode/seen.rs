@@ -4,7 +4,7 @@ use reference_decoder::{code_line, record, Code};
 
 use super::inputs::{with_other_deviations, Input};
 use super::Buffers;
-use crate::calls::first_byte::{self, ByDeviations};
+use crate::calls::first_byte::{self, ByDeviations, ByEdition};
 use crate::tally::{Class, Tally};
 
 const LEAST_COLUMNS: ByDeviations = ["N 2, k 2", "N 2, k 3"];
@@ -20,7 +20,13 @@ const STORE_SHORT_BY_ONE: ByDeviations =
     ["k 2, 4 by one byte of room", "k 3, 4 by one byte of room"];
 /// Document 02, §3: "4 and 16 use the new length".
 const STORE_OF_OTHER_LENGTH: ByDeviations = ["k 2, a store for k 3", "k 3, 4 by a store for k 2"];
-const THREE_PAIRS: &str = "3 pairs used in a store";
+const THREE_PAIRS: ByEdition = [
+    "3 pairs used in a store",
+    "3 pairs used in a store, Min-Max",
+];
+const FOUND: ByEdition = ["sum, found later", "Min-Max, found later"];
+const NOT_FOUND: ByEdition = ["sum, not found", "Min-Max, not found"];
+const LONGEST: ByEdition = ["sum, t 255", "Min-Max, t 255"];
 
 /// The classes of answers, and all that must be seen.
 pub fn expected() -> Vec<Class> {
@@ -39,8 +45,9 @@ pub fn expected() -> Vec<Class> {
         STORE_SHORT_BY_ONE,
         STORE_OF_OTHER_LENGTH,
     ];
-    let seen = by_deviations.into_iter().flatten();
-    let seen = seen.chain(first_byte::names()).chain([THREE_PAIRS]);
+    let by_edition = [THREE_PAIRS, FOUND, NOT_FOUND, LONGEST];
+    let seen = by_deviations.into_iter().chain(by_edition).flatten();
+    let seen = seen.chain(first_byte::names());
     classes.extend(seen.map(Class::Seen));
     classes
 }
@@ -53,8 +60,9 @@ pub fn see(tally: &mut Tally, input: &Input, expected: Result<(u8, u8), u16>, bu
     }
     let code = code_line(&input.line).expect("an accepted code line");
     see_room(tally, &code, input.lengths[2]);
-    if let Ok((_, t @ 1..)) = expected {
+    if let Ok((status, t @ 1..)) = expected {
         see_iterations(tally, &code, t, buffers);
+        see_edition(tally, &code, (status, t), buffers);
     }
 }
 
@@ -90,7 +98,19 @@ fn see_iterations(tally: &mut Tally, code: &Code, t: u8, buffers: &Buffers) {
     ] {
         first_byte::see_by_deviations(tally, code.rule(), names, met);
     }
-    tally.seen(THREE_PAIRS, has_three_pairs(code, buffers.store.slice()));
+}
+
+/// Counts what such a decoding shows of its edition.
+fn see_edition(tally: &mut Tally, code: &Code, (status, t): (u8, u8), buffers: &Buffers) {
+    let three_pairs = has_three_pairs(code, buffers.store.slice());
+    for (names, met) in [
+        (THREE_PAIRS, three_pairs),
+        (FOUND, status == 0),
+        (NOT_FOUND, status == 1),
+        (LONGEST, t == 255),
+    ] {
+        first_byte::see_by_edition(tally, code.rule(), names, met);
+    }
 }
 
 /// Whether some a of the store's records uses three pairs.
