@@ -4,7 +4,7 @@ use simulate::chart::{Axis, Chart, Point, Series, Stroke, COLOURS};
 
 use crate::checks::{Row, DEGREES, PS};
 use crate::engines::Engine;
-use crate::targets::{OF_C, OF_RUST, OF_TWO};
+use crate::targets::{OF_C, OF_RUST, OF_SUM, OF_TWO};
 
 /// Whose times are drawn, and how.
 const TIMES: [(Engine, Stroke); 3] = [
@@ -61,25 +61,64 @@ pub fn three_by_two(rows: &[Row]) -> Chart {
     ratio(rows, title, of_row, level)
 }
 
+/// The proved library's time per check of the Min-Max edition by that with the sum, dashed with k = 3.
+pub fn min_max_by_sum(rows: &[Row]) -> Chart {
+    let level = (OF_SUM, format!("target: at most {OF_SUM:.1}"));
+    let title = "Time per check: proved library, Min-Max by sum";
+    let lines = [
+        Line {
+            name: ", k = 2",
+            stroke: Stroke::Solid,
+            ratio: &|row| row.min_max_by_sum(2),
+        },
+        Line {
+            name: ", k = 3",
+            stroke: Stroke::Dashed,
+            ratio: &|row| row.min_max_by_sum(3),
+        },
+    ];
+    ratios(rows, title, &lines, level)
+}
+
 /// A ratio against d, for every p.
-fn ratio(
-    rows: &[Row],
-    title: &str,
-    ratio: impl Fn(&Row) -> f64 + Copy,
-    level: (f64, String),
-) -> Chart {
-    let high = rows.iter().map(ratio).fold(1.25 * level.0, f64::max);
+fn ratio(rows: &[Row], title: &str, ratio: impl Fn(&Row) -> f64, level: (f64, String)) -> Chart {
+    let line = Line {
+        name: "",
+        stroke: Stroke::Solid,
+        ratio: &ratio,
+    };
+    ratios(rows, title, &[line], level)
+}
+
+/// A ratio that is drawn for every p.
+struct Line<'a> {
+    /// Its name in the legend, behind p.
+    name: &'a str,
+    stroke: Stroke,
+    ratio: &'a dyn Fn(&Row) -> f64,
+}
+
+/// Ratios against d, each for every p.
+fn ratios(rows: &[Row], title: &str, lines: &[Line], level: (f64, String)) -> Chart {
+    let all = lines.iter().flat_map(|line| rows.iter().map(line.ratio));
+    let high = all.fold(1.25 * level.0, f64::max);
     let step = if high <= 2.0 {
         0.25
     } else {
         (high / 8.0).ceil()
     };
-    let of_p = |(p, colour)| series(rows, format!("p = {p}"), p, colour, Stroke::Solid, ratio);
+    let of_line = |line: &Line| {
+        let of_p = |(p, colour)| {
+            let name = format!("p = {p}{}", line.name);
+            series(rows, name, p, colour, line.stroke, line.ratio)
+        };
+        PS.into_iter().zip(COLOURS).map(of_p).collect::<Vec<_>>()
+    };
     Chart {
         title: title.to_string(),
         x: degrees(),
         y: Axis::linear("ratio", 0.0, (high / step).ceil() * step, step),
-        series: PS.into_iter().zip(COLOURS).map(of_p).collect(),
+        series: lines.iter().flat_map(of_line).collect(),
         level: Some(level),
     }
 }

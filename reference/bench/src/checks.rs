@@ -1,13 +1,17 @@
-//! The times of one check, with k = 2 and with k = 3, and of one expansion by p and d.
+//! The times of one check, with k = 2 and with k = 3 and in both editions, and of one expansion by p and d.
+
+mod expansions;
 
 use std::fmt::Debug;
 
+use petsivola::Edition;
 use reference_decoder::sample::CheckSample;
 
 use crate::engines::{Engine, Results};
 use crate::inputs::{self, Costs};
 use crate::timing::{race, Contender, Rules, Times};
 use crate::{foreign, same, search_engine, sweeps};
+use expansions::Packed;
 
 /// Every p.
 pub const PS: [u8; 5] = [2, 3, 4, 5, 6];
@@ -35,22 +39,29 @@ const DEVIATING: [Engine; 5] = [
     Engine::ProvedTwo,
     Engine::RustTwo,
 ];
-/// Who expands records.
-const EXPANDING: [Engine; 3] = [Engine::Proved, Engine::Rust, Engine::Old];
+/// Who makes checks of the Min-Max edition, and beside them with the sum.
+const JOINING: [Engine; 4] = [
+    Engine::Proved,
+    Engine::Rust,
+    Engine::ProvedSum,
+    Engine::RustSum,
+];
+/// Every k.
+pub const DEVIATIONS: [usize; 2] = [2, 3];
 
-/// The results of checks and expansions are bytes: the buffers are filled with A5 beforehand, and
-/// every byte is compared. Only records of another k have another length.
-const BYTES: Rules<Vec<u8>> = Rules {
-    spoil: |buffer| buffer.fill(0xA5),
-    agree: |one, other| one == other || one.len() != other.len(),
-    units: |_| 1,
-};
-
-/// A check with its record.
-struct Packed {
-    check: CheckSample,
+/// A lent record buffer, with the first byte of the check that fills it.
+#[derive(Clone)]
+struct Lent {
+    first: u8,
     record: Vec<u8>,
 }
+
+/// The buffers are filled with A5 beforehand, and every byte is compared where the first bytes are the same.
+const RECORDS: Rules<Lent> = Rules {
+    spoil: |lent| lent.record.fill(0xA5),
+    agree: |one, other| one.first != other.first || one.record == other.record,
+    units: |_| 1,
+};
 
 /// The times for one size.
 pub struct Row {
@@ -62,6 +73,8 @@ pub struct Row {
     pub check: Results,
     /// The checks with k = 3, and beside them with k = 2.
     pub three: Results,
+    /// The checks of the Min-Max edition, with k = 2 and with k = 3, and beside them with the sum.
+    pub min_max: [Results; 2],
     /// The expansions.
     pub expand: Results,
 }
@@ -74,6 +87,7 @@ impl Row {
             degree,
             check: Results::default(),
             three: Results::default(),
+            min_max: Default::default(),
             expand: Results::default(),
         }
     }
@@ -88,121 +102,109 @@ impl Row {
         self.degree << self.p
     }
 
-    /// Measures so many checks of one round with k = 2 and their expansions, and as many of another round
-    /// with k = 3.
-    pub fn measure(&mut self, costs: Costs, [two, three]: [usize; 2], count: usize) {
+    /// The proved library's time for a check of the Min-Max edition with this k by that with the sum.
+    pub fn min_max_by_sum(&self, k: usize) -> f64 {
+        self.min_max[k - 2].ratio(Engine::Proved, Engine::ProvedSum)
+    }
+
+    /// Measures so many checks of the first round with k = 2 and their expansions, and as many of each other
+    /// round with k = 3, and of the Min-Max edition with either k.
+    pub fn measure(&mut self, costs: Costs, rounds: [usize; 4], count: usize) {
         let checks = |round| inputs::checks(self.p, self.degree, costs, round, count);
-        let (inputs, others) = (checks(two), checks(three));
+        let [two, three, min_max @ ..] = rounds;
+        let inputs = checks(two);
+        let min_max = min_max.map(|round| (checks(round), round));
+        let others = checks(three);
         let records = self.race_checks(&inputs, two);
         self.race_deviations(&others, three);
+        for (k, (inputs, round)) in DEVIATIONS.into_iter().zip(min_max) {
+            self.race_editions(k, &inputs, round);
+        }
         let packed = inputs.into_iter().zip(records);
         let packed = packed.map(|(check, record)| Packed { check, record });
-        self.race_expansions(&packed.collect::<Vec<_>>(), two);
+        let (engines, times) = expansions::race_of(self.p, &packed.collect::<Vec<_>>(), two);
+        self.expand.append(&engines, times);
     }
 
     /// One round of checks with k = 2. Answers their records.
     fn race_checks(&mut self, inputs: &[CheckSample], round: usize) -> Vec<Vec<u8>> {
         let engines = Engine::present(CHECKING);
-        let contender = |&engine| self.checking(engine, 2, inputs);
+        let contender = |&engine| self.checking(engine, 2, Edition::Sum, inputs);
         let mut contenders: Vec<_> = engines.iter().map(contender).collect();
-        let times = race(&mut contenders, round, &BYTES);
-        let records = contenders[0].outputs().to_vec();
+        let times = race(&mut contenders, round, &RECORDS);
+        let records = contenders[0].outputs().iter();
+        let records = records.map(|lent| lent.record.clone()).collect();
         self.check.append(&engines, times);
         records
     }
 
     /// One round of checks with k = 3.
     fn race_deviations(&mut self, inputs: &[CheckSample], round: usize) {
-        let mut contenders = DEVIATING.map(|engine| self.checking(engine, 3, inputs));
-        let times = race(&mut contenders, round, &BYTES);
+        let mut contenders = DEVIATING.map(|engine| self.checking(engine, 3, Edition::Sum, inputs));
+        let times = race(&mut contenders, round, &RECORDS);
         self.three.append(&DEVIATING, times);
     }
 
-    /// An engine on some checks with this k; a few are always on checks with k = 2.
+    /// One round of checks of the Min-Max edition.
+    fn race_editions(&mut self, k: usize, inputs: &[CheckSample], round: usize) {
+        let mut contenders =
+            JOINING.map(|engine| self.checking(engine, k, Edition::Greatest, inputs));
+        let times = race(&mut contenders, round, &RECORDS);
+        self.min_max[k - 2].append(&JOINING, times);
+    }
+
+    /// An engine on some checks with this k and edition; a few always have k = 2, or the sum.
     fn checking<'a>(
         &self,
         engine: Engine,
         k: usize,
+        edition: Edition,
         inputs: &'a [CheckSample],
-    ) -> Contender<'a, CheckSample, Vec<u8>> {
-        let k = match engine {
-            Engine::ProvedTwo | Engine::RustTwo => 2,
-            _ => k,
+    ) -> Contender<'a, CheckSample, Lent> {
+        let (k, edition) = match engine {
+            Engine::ProvedTwo | Engine::RustTwo => (2, edition),
+            Engine::ProvedSum | Engine::RustSum => (k, Edition::Sum),
+            _ => (k, edition),
         };
-        let lent = vec![0; self.record_length(k)];
-        let first = inputs::first_byte(self.p, k);
+        let lent = Lent {
+            first: inputs::first_byte(self.p, k, edition),
+            record: vec![0; self.record_length(k)],
+        };
         match engine {
-            Engine::Proved | Engine::ProvedTwo => {
-                Contender::new(inputs, lent, check_by(first, petsivola::check))
+            Engine::Proved | Engine::ProvedTwo | Engine::ProvedSum => {
+                Contender::new(inputs, lent, check_by(petsivola::check))
             }
-            Engine::Rust | Engine::RustTwo => {
-                Contender::new(inputs, lent, check_by(first, same::check))
+            Engine::Rust | Engine::RustTwo | Engine::RustSum => {
+                Contender::new(inputs, lent, check_by(same::check))
             }
-            Engine::Search => Contender::new(inputs, lent, check_by(first, search_engine::check)),
-            Engine::Sse2 => Contender::new(inputs, lent, check_by(first, foreign::check_sse2)),
+            Engine::Search => Contender::new(inputs, lent, check_by(search_engine::check)),
+            Engine::Sse2 => Contender::new(inputs, lent, check_by(foreign::check_sse2)),
             Engine::Avx2 => {
                 let check = foreign::check_avx2().expect("AVX2 is present");
-                Contender::new(inputs, lent, check_by(first, check))
+                Contender::new(inputs, lent, check_by(check))
             }
             Engine::Sweeps => {
                 // Its tables are kept from call to call.
                 let mut sweeps = sweeps::Engine::<false>::new(self.p, k);
-                Contender::new(inputs, lent, move |input: &CheckSample, out| {
-                    sweeps.check(&input.weights, &input.costs, out)
+                Contender::new(inputs, lent, move |input: &CheckSample, lent| {
+                    sweeps.check(&input.weights, &input.costs, &mut lent.record)
                 })
             }
             Engine::Old => {
                 let old = foreign::old_library().expect("the old library is present");
-                Contender::new(inputs, lent, check_by(first, old.check))
+                Contender::new(inputs, lent, check_by(old.check))
             }
         }
-    }
-
-    /// One round of expansions.
-    fn race_expansions(&mut self, packed: &[Packed], round: usize) {
-        let engines = Engine::present(EXPANDING);
-        let lent = vec![0; self.plain_length()];
-        let contender = |&engine| expanding(engine, self.p, packed, lent.clone());
-        let mut contenders: Vec<_> = engines.iter().map(contender).collect();
-        let times = race(&mut contenders, round, &BYTES);
-        self.expand.append(&engines, times);
     }
 }
 
 /// A check as a call on one input.
 fn check_by<E: Debug>(
-    first: u8,
     check: impl Fn(u8, &[u8], &[u8], &mut [u8]) -> Result<usize, E>,
-) -> impl FnMut(&CheckSample, &mut Vec<u8>) {
-    move |input, out| {
-        check(first, &input.weights, &input.costs, out).expect("an accepted check");
-    }
-}
-
-/// An engine on some records.
-fn expanding(
-    engine: Engine,
-    p: u8,
-    packed: &[Packed],
-    lent: Vec<u8>,
-) -> Contender<'_, Packed, Vec<u8>> {
-    match engine {
-        Engine::Proved => Contender::new(packed, lent, expand_by(p, petsivola::expand)),
-        Engine::Old => {
-            let old = foreign::old_library().expect("the old library is present");
-            Contender::new(packed, lent, expand_by(p, old.expand))
-        }
-        _ => Contender::new(packed, lent, expand_by(p, same::expand)),
-    }
-}
-
-/// An expansion as a call on one input.
-fn expand_by<E: Debug>(
-    p: u8,
-    expand: impl Fn(u8, &[u8], &[u8], &mut [u8]) -> Result<usize, E>,
-) -> impl FnMut(&Packed, &mut Vec<u8>) {
-    move |input, out| {
-        expand(p, &input.check.weights, &input.record, out).expect("an accepted record");
+) -> impl FnMut(&CheckSample, &mut Lent) {
+    move |input, lent| {
+        let (weights, costs) = (&input.weights, &input.costs);
+        check(lent.first, weights, costs, &mut lent.record).expect("an accepted check");
     }
 }
 
@@ -214,7 +216,8 @@ pub fn table(costs: Costs, rounds: usize) -> Vec<Row> {
     for round in 0..rounds {
         eprintln!("check, {costs:?} costs, round {} of {rounds}", round + 1);
         for row in &mut rows {
-            row.measure(costs, [round, rounds + round], COUNT << (6 - row.p));
+            let races = [0, 1, 2, 3].map(|race| race * rounds + round);
+            row.measure(costs, races, COUNT << (6 - row.p));
         }
     }
     rows
@@ -237,8 +240,11 @@ fn race_growth(costs: Costs, round: usize) -> Vec<Times> {
     let p = 6;
     let [single, double] = [16, 32].map(|degree| inputs::checks(p, degree, costs, round, COUNT));
     let inputs: Vec<_> = single.into_iter().zip(double).collect();
-    let lent = vec![0; 32 + 5 * 63];
-    let mut checks = [0; 2].map(|_| check_by(p, petsivola::check));
+    let lent = Lent {
+        first: p,
+        record: vec![0; 32 + 5 * 63],
+    };
+    let mut checks = [0; 2].map(|_| check_by(petsivola::check));
     let [first, second] = &mut checks;
     let mut contenders = [
         Contender::new(
@@ -251,7 +257,7 @@ fn race_growth(costs: Costs, round: usize) -> Vec<Times> {
     // The two work on different checks.
     let rules = Rules {
         agree: |_, _| true,
-        ..BYTES
+        ..RECORDS
     };
     race(&mut contenders, round, &rules)
 }

@@ -24,6 +24,10 @@ pub enum Engine {
     ProvedTwo,
     /// The same algorithm in Rust with k = 2, beside others with k = 3.
     RustTwo,
+    /// The proved library with the sum, beside others of the Min-Max edition.
+    ProvedSum,
+    /// The same algorithm in Rust with the sum, beside others of the Min-Max edition.
+    RustSum,
 }
 
 impl Engine {
@@ -39,6 +43,8 @@ impl Engine {
             Engine::Old => "old",
             Engine::ProvedTwo => "proved, k = 2",
             Engine::RustTwo => "Rust, k = 2",
+            Engine::ProvedSum => "proved, sum",
+            Engine::RustSum => "Rust, sum",
         }
     }
 

@@ -1,5 +1,6 @@
 //! What is timed: checks of every size, codes with frames, and a code with messages.
 
+use petsivola::{Edition, Rule};
 use reference_decoder::sample::{self, CheckSample, Generator, Size, Style};
 use reference_decoder::Join;
 use simulate::array;
@@ -22,15 +23,13 @@ pub enum Costs {
     Uniform,
 }
 
-/// The first byte for p and k, 2 or 3.
-pub fn first_byte(p: u8, k: usize) -> u8 {
-    match k {
-        2 => p,
-        _ => 0x20 + p,
-    }
+/// The first byte for p, k, 2 or 3, and an edition.
+pub fn first_byte(p: u8, k: usize, edition: Edition) -> u8 {
+    let rule = Rule::new(p, k as u8, edition);
+    rule.expect("p 2 to 6 and k 2 or 3").first()
 }
 
-/// The checks of one size in one round; they serve for every k.
+/// The checks of one size in one round; they serve for every k and both editions.
 pub fn checks(p: u8, degree: usize, costs: Costs, round: usize, count: usize) -> Vec<CheckSample> {
     let size = u64::from(p) * 64 + degree as u64;
     let mut generator = Generator::new(round as u64 * 512 + size);

@@ -94,6 +94,7 @@ fn write(directory: &Path, text: &str, channel: &[checks::Row]) -> io::Result<()
         ("ratio-to-rust.svg", charts::ratio_to_rust(channel)),
         ("ratio-to-c.svg", charts::ratio_to_c(channel)),
         ("three-by-two.svg", charts::three_by_two(channel)),
+        ("min-max-by-sum.svg", charts::min_max_by_sum(channel)),
     ];
     for (name, chart) in charts {
         fs::write(directory.join(name), chart.svg())?;

@@ -1,12 +1,13 @@
 //! The Markdown document that a run writes.
 
 mod deviations;
+mod editions;
+mod older;
 
 use crate::checks::Row;
 use crate::decoding::{self, LIMIT, SCALE};
 use crate::encoding;
 use crate::engines::{Engine, Results};
-use crate::foreign;
 use crate::targets::Target;
 
 /// The measurements of a run.
@@ -35,10 +36,11 @@ impl Report<'_> {
             targets(self.targets),
             self.checks(),
             deviations::section(self.channel, self.uniform),
+            editions::section(self.channel, self.uniform),
             self.expansions(),
             self.decodings(),
             self.encodings(),
-            self.old_library(),
+            older::section(self),
         ];
         parts.concat().trim_end().to_string() + "\n"
     }
@@ -69,7 +71,7 @@ impl Report<'_> {
     fn checks(&self) -> String {
         let [channel, uniform] = self.growth;
         format!(
-            "## Time per check\n\nWith k = 2. Costs are quantised symbols of a noisy channel, as a decoder's first \
+            "## Time per check\n\nWith k = 2 and the sum. Costs are quantised symbols of a noisy channel, as a decoder's first \
              iteration brings them. Times in microseconds, then ratios.\n\n{}{}\
              ![Time per check](time-per-check.svg)\n\n![Ratio to Rust](ratio-to-rust.svg)\n\n\
              ![Ratio to C](ratio-to-c.svg)\n\n\
@@ -152,40 +154,6 @@ impl Report<'_> {
             "## Encoding\n\nRandom messages of N - M symbols. The time is that of a whole call, with the \
              reading of the code line and all tests; symbols per second count the N that it writes.\n\n{}",
             table(&head, [cells].into_iter())
-        )
-    }
-
-    /// The proved library beside an older one, where one takes part.
-    fn old_library(&self) -> String {
-        if foreign::old_library().is_none() {
-            return String::new();
-        }
-        let pair = |results: &Results| {
-            [
-                micros(results.median(Engine::Proved)),
-                micros(results.median(Engine::Old)),
-                quotient(results, Engine::Proved, Engine::Old),
-            ]
-        };
-        let checks = self.channel.iter().zip(self.uniform).map(|(row, uniform)| {
-            let mut cells = vec![row.p.to_string(), row.degree.to_string()];
-            cells.extend(pair(&row.check));
-            cells.push(quotient(&uniform.check, Engine::Proved, Engine::Old));
-            cells.push(quotient(&row.expand, Engine::Proved, Engine::Old));
-            cells
-        });
-        let codes = self.codes.iter().map(|row| {
-            let mut cells = vec![row.job.name.to_string()];
-            cells.extend(pair(&row.decode));
-            cells
-        });
-        let sizes = ["p", "d", "new, µs", "old, µs", "new / old"];
-        let others = ["uniform costs, new / old", "expansion, new / old"];
-        let code = ["code", "new, µs an iteration", "old, µs", "new / old"];
-        format!(
-            "## The library beside an older one\n\nChecks in the same races, then iterations.\n\n{}{}",
-            table(&[&sizes[..], &others].concat(), checks),
-            table(&code, codes)
         )
     }
 }

@@ -10,6 +10,8 @@ pub const OF_RUST: f64 = 1.0;
 pub const OF_C: f64 = 2.5;
 /// The most that a check with k = 3 may take of the time with k = 2.
 pub const OF_TWO: f64 = 2.0;
+/// The most that a check of the Min-Max edition may take of the time with the sum.
+pub const OF_SUM: f64 = 1.1;
 /// The least that the sweeps may take of the time of a check with k = 3, where this is asked.
 pub const BY_SWEEPS: f64 = 8.0;
 
@@ -49,6 +51,7 @@ pub fn targets(checks: &[&checks::Row], codes: &[decoding::Row]) -> Vec<Target> 
         ),
     ];
     targets.extend(targets_of_three(checks, &large));
+    targets.push(of_min_max(checks));
     targets.push(target_of_decoding(codes));
     targets
 }
@@ -69,6 +72,22 @@ fn targets_of_three(checks: &[&checks::Row], large: &[&checks::Row]) -> [Target;
             ratios(large, by_sweeps),
         ),
     ]
+}
+
+/// The target of checks of the Min-Max edition, with both k.
+pub fn of_min_max(checks: &[&checks::Row]) -> Target {
+    let of_k = |k| {
+        let numbers = ratios(checks, |row| row.min_max_by_sum(k)).into_iter();
+        numbers.map(move |(ratio, place)| (ratio, format!("k = {k}, {place}")))
+    };
+    let numbers = checks::DEVIATIONS.into_iter().flat_map(of_k);
+    at_most(
+        format!(
+            "check of the Min-Max edition: at most {OF_SUM:.1} times the same check with the sum"
+        ),
+        OF_SUM,
+        numbers.collect(),
+    )
 }
 
 /// The target of iterations.

@@ -1,30 +1,35 @@
-//! The document of a run: every measured size is in it, with both k.
+//! The document of a run: every measured size is in it, with both k and in both editions.
 
 use bench::checks::Row;
 use bench::inputs::{self, Costs};
 use bench::report::Report;
-use bench::{charts, encoding};
+use bench::{charts, encoding, targets};
 
 /// A size, measured on a few checks.
 fn row(p: u8, degree: usize) -> Row {
     let mut row = Row::new(p, degree);
-    row.measure(Costs::Channel, [0, 1], 8);
+    row.measure(Costs::Channel, [0, 1, 2, 3], 8);
     row
 }
 
-#[test]
-fn every_size_stands_in_it_with_both_k() {
-    let rows = [row(2, 3), row(3, 4)];
+/// The document of these sizes alone.
+fn markdown(rows: &[Row]) -> String {
     let report = Report {
-        channel: &rows,
-        uniform: &rows,
+        channel: rows,
+        uniform: rows,
         growth: [1.0, 1.0],
         codes: &[],
         encoding: &encoding::measure(inputs::encodable(), 1),
         targets: &[],
         rounds: 1,
     };
-    let text = report.markdown();
+    report.markdown()
+}
+
+#[test]
+fn every_size_stands_in_it_with_both_k() {
+    let rows = [row(2, 3), row(3, 4)];
+    let text = markdown(&rows);
     let (_, section) = text.split_once("## Three deviations").expect("the section");
     let (section, _) = section.split_once("\n## ").expect("another section");
     for size in ["| 2 | 3 | ", "| 3 | 4 | "] {
@@ -36,6 +41,35 @@ fn every_size_stands_in_it_with_both_k() {
     assert!(section.contains("| k = 3, sweeps / proved |"));
     let svg = charts::three_by_two(&rows).svg();
     assert!(svg.contains("target: at most 2.0"));
+}
+
+#[test]
+fn every_size_stands_in_it_in_both_editions() {
+    let rows = [row(2, 3), row(3, 4)];
+    let text = markdown(&rows);
+    let (_, section) = text
+        .split_once("## Min-Max beside the sum")
+        .expect("the section");
+    let (section, _) = section.split_once("\n## ").expect("another section");
+    for size in ["| 2 | 3 | ", "| 3 | 4 | "] {
+        let of_size = section.lines().filter(|line| line.starts_with(size));
+        let cells = of_size.map(|line| line.matches(" | ").count() + 1);
+        // With k = 2 and with k = 3, costs from the channel and uniform.
+        assert_eq!(cells.collect::<Vec<_>>(), [9; 4]);
+    }
+    assert!(section.contains("| proved, Min-Max / sum |"));
+    let chart = charts::min_max_by_sum(&rows);
+    assert_eq!(chart.series.len(), 10);
+    assert!(chart.svg().contains("target: at most 1.1"));
+}
+
+#[test]
+fn the_target_of_min_max_is_over_both_k() {
+    let rows = [row(2, 3), row(3, 4)];
+    let rows: Vec<&Row> = rows.iter().collect();
+    let found = targets::of_min_max(&rows);
+    assert_eq!(found.measured, 4);
+    assert!(found.worst.1.starts_with("k = "));
 }
 
 #[test]

@@ -61,6 +61,6 @@ fn ratios(rows: &[Row]) -> String {
 }
 
 /// p and d.
-fn size(row: &Row) -> [String; 2] {
+pub fn size(row: &Row) -> [String; 2] {
     [row.p.to_string(), row.degree.to_string()]
 }
