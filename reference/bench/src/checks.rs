@@ -153,7 +153,20 @@ impl Row {
         self.min_max[k - 2].append(&JOINING, times);
     }
 
-    /// An engine on some checks with this k and edition; a few always have k = 2, or the sum.
+    /// What an engine is lent for a check with this k and edition; a few always have k = 2, or the sum.
+    fn lent(&self, engine: Engine, k: usize, edition: Edition) -> Lent {
+        let (k, edition) = match engine {
+            Engine::ProvedTwo | Engine::RustTwo => (2, edition),
+            Engine::ProvedSum | Engine::RustSum => (k, Edition::Sum),
+            _ => (k, edition),
+        };
+        Lent {
+            first: inputs::first_byte(self.p, k, edition),
+            record: vec![0; self.record_length(k)],
+        }
+    }
+
+    /// An engine on some checks with this k and edition.
     fn checking<'a>(
         &self,
         engine: Engine,
@@ -161,15 +174,7 @@ impl Row {
         edition: Edition,
         inputs: &'a [CheckSample],
     ) -> Contender<'a, CheckSample, Lent> {
-        let (k, edition) = match engine {
-            Engine::ProvedTwo | Engine::RustTwo => (2, edition),
-            Engine::ProvedSum | Engine::RustSum => (k, Edition::Sum),
-            _ => (k, edition),
-        };
-        let lent = Lent {
-            first: inputs::first_byte(self.p, k, edition),
-            record: vec![0; self.record_length(k)],
-        };
+        let lent = self.lent(engine, k, edition);
         match engine {
             Engine::Proved | Engine::ProvedTwo | Engine::ProvedSum => {
                 Contender::new(inputs, lent, check_by(petsivola::check))
