@@ -1,5 +1,6 @@
 //! The times of decoding by code: per iteration, and coded bits per second.
 
+use petsivola::Edition;
 use simulate::code::Code;
 use simulate::decoder::Decoder;
 use simulate::layered::Layered;
@@ -80,7 +81,7 @@ impl Row<'_> {
 
 /// Measures one code, with all its frames in each round.
 pub fn measure(job: &Job, rounds: usize) -> Row<'_> {
-    let line = job.code.line(2, SCALE, LIMIT);
+    let line = job.code.line(2, Edition::Sum, SCALE, LIMIT);
     let engines = Engine::present(DECODING);
     let contender = |&engine| contender(engine, job, &line);
     let mut contenders: Vec<_> = engines.iter().map(contender).collect();

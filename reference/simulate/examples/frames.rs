@@ -8,16 +8,19 @@
 use std::path::Path;
 use std::{fs, io};
 
+use petsivola::Edition;
 use reference_decoder::line::hexadecimal;
 use reference_decoder::sample::Generator;
 use simulate::array;
 use simulate::channel::Channel;
 use simulate::encoder::Encoder;
-use simulate::plan::{COSTS_PER_NAT, LIMIT, PROVED_G};
+use simulate::plan::{COSTS_PER_NAT, LIMIT};
 use simulate::quantiser::Quantiser;
 
 /// The files, without what follows the dot.
 const FILES: &str = concat!(env!("CARGO_MANIFEST_DIR"), "/../../examples/gf32-248-137");
+/// g, the best one of the simulation.
+const SCALE: u8 = 8;
 /// How many frames.
 const FRAMES: usize = 12;
 /// The Eb/N0.
@@ -33,7 +36,7 @@ fn main() -> io::Result<()> {
         costs_per_nat: COSTS_PER_NAT,
     };
     let mut generator = Generator::new(SEED);
-    let mut input = text(&code.line(2, PROVED_G, LIMIT));
+    let mut input = text(&code.line(2, Edition::Sum, SCALE, LIMIT));
     let mut sent = Vec::new();
     for _ in 0..FRAMES {
         let word = encoder.random_word(&mut generator);

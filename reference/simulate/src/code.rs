@@ -1,8 +1,9 @@
 //! A code as a list of checks, and its code line. Document 01, "Code line as bytes": "p; N as two
 //! bytes, high first (1 to 256); M (1 to 128); scale g (1 to 16); iteration limit I (1 to 255). Then
 //! M checks: degree byte, then for each edge the column (two bytes, high first, below N, rising
-//! within the check) and weight." Document 02, §3: "a first code byte of 22 to 26 hexadecimal means k = 3
-//! with p in its low digit".
+//! within the check) and weight." The first byte is that of document 02, §3 and §5.
+
+use petsivola::{Edition, Rule};
 
 use crate::field::Field;
 
@@ -63,10 +64,10 @@ impl Code {
         })
     }
 
-    /// The code line with k, 2 or 3, scale g and iteration limit I.
-    pub fn line(&self, deviations: usize, g: u8, limit: u8) -> Vec<u8> {
-        let high_digit = if deviations == 3 { 0x20 } else { 0 };
-        let mut line = vec![high_digit + self.p()];
+    /// The code line with k, 2 or 3, an edition, scale g and iteration limit I.
+    pub fn line(&self, deviations: usize, edition: Edition, g: u8, limit: u8) -> Vec<u8> {
+        let rule = Rule::new(self.p(), byte(deviations), edition);
+        let mut line = vec![rule.expect("p is 2 to 6, and k 2 or 3").first()];
         line.extend(two_bytes(self.columns));
         line.extend([byte(self.checks.len()), g, limit]);
         for check in &self.checks {
@@ -82,7 +83,7 @@ impl Code {
 
 /// A number of a code line that takes one byte.
 fn byte(number: usize) -> u8 {
-    u8::try_from(number).expect("M is at most 128 and a degree at most 32")
+    u8::try_from(number).expect("M is at most 128, and a degree and k less")
 }
 
 /// "two bytes, high first".

@@ -1,5 +1,5 @@
-//! The simulation: frame error rates over BPSK and white noise, with the decoder called
-//! through the static library, with k = 2 beside the Trellis Min-Max rule of source document 003, and with
+//! The simulation: frame error rates over BPSK and white noise, with the decoder called through the static
+//! library, with k = 2 in both editions beside the Trellis Min-Max rule of source document 003, and with
 //! k = 3 beside k = 2 under codes with long checks.
 
 #![forbid(unsafe_code)]

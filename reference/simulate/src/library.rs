@@ -1,5 +1,7 @@
 //! The proved decoder, called through the static library.
 
+use petsivola::Edition;
+
 use crate::code::Code;
 use crate::decoder::{Decoder, Outcome};
 
@@ -12,10 +14,10 @@ pub struct Library {
 }
 
 impl Library {
-    /// A decoder of the code with k, 2 or 3, scale g and iteration limit I.
-    pub fn new(code: &Code, deviations: usize, g: u8, limit: u8) -> Library {
+    /// A decoder of the code with k, 2 or 3, an edition, scale g and iteration limit I.
+    pub fn new(code: &Code, deviations: usize, edition: Edition, g: u8, limit: u8) -> Library {
         Library {
-            line: code.line(deviations, g, limit),
+            line: code.line(deviations, edition, g, limit),
             symbols: vec![0; code.columns],
             costs: vec![0; code.frame_length()],
             store: vec![0; code.store_length(deviations)],

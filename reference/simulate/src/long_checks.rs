@@ -1,6 +1,7 @@
 //! Codes with long checks, with k = 2 and with k = 3 on the same frames. Document 02, §3: "Long checks of
 //! degree 24 and more lose frames that a third deviation would save."
 
+use petsivola::Edition;
 use reference_decoder::sample::Generator;
 
 use crate::code::Code;
@@ -77,7 +78,7 @@ pub fn run(
 /// The proved decoder with k and g.
 fn setup(k: usize, g: u8) -> Setup {
     Setup {
-        rule: Rule::Proved(k),
+        rule: Rule::Proved(k, Edition::Sum),
         g,
         costs_per_nat: COSTS_PER_NAT,
     }
@@ -87,6 +88,6 @@ fn setup(k: usize, g: u8) -> Setup {
 fn of_deviations(counts: &[Count], k: usize) -> Vec<Count> {
     let counts = counts.iter().copied();
     counts
-        .filter(|count| count.setup.rule == Rule::Proved(k))
+        .filter(|count| count.setup.rule == Rule::Proved(k, Edition::Sum))
         .collect()
 }

@@ -1,6 +1,9 @@
-//! What a run simulates: a curve over Eb/N0, a sweep over g, a sweep over the cost scale, a sweep over g by
-//! column weight, and long checks with two and with three deviations.
+//! What a run simulates: a sweep over g, a curve over Eb/N0 with each rule at its best g, a sweep over the cost
+//! scale, a sweep over g by column weight, and long checks with two and with three deviations.
 
+use std::ops::RangeInclusive;
+
+use petsivola::Edition;
 use reference_decoder::sample::Generator;
 
 use crate::long_checks::{self, LongChecks, Trials};
@@ -13,23 +16,25 @@ use crate::weights;
 pub const LIMIT: u8 = 15;
 /// The cost scale where it is not swept.
 pub const COSTS_PER_NAT: f64 = 8.0;
-/// g of the proved decoder where it is not swept.
-pub const PROVED_G: u8 = 8;
-/// g of the baseline where it is not swept: its best one in the sweep.
-pub const MIN_MAX_G: u8 = 6;
-/// The swept g.
-const GS: [u8; 5] = [6, 8, 10, 12, 16];
+/// The rules of the curve, of the sweep over g and of the sweep over the cost scale.
+pub const RULES: [Rule; 3] = [
+    Rule::Proved(2, Edition::Sum),
+    Rule::Proved(2, Edition::Greatest),
+    Rule::TrellisMinMax,
+];
+/// The swept g of each rule. Where g is not swept, each has its best one in the sweep.
+const GS: [RangeInclusive<u8>; 3] = [5..=11, 7..=13, 4..=10];
 /// The swept scales.
 const SCALES: [f64; 5] = [1.0, 2.0, 4.0, 8.0, 16.0];
 
 /// The trials of a run.
 #[derive(Clone, Debug, PartialEq)]
 pub struct Plan {
-    /// Both rules over Eb/N0.
+    /// Every rule over Eb/N0.
     pub curve: Vec<(f64, Stop)>,
-    /// Both rules with every g.
+    /// Every rule with every g.
     pub scaling: Vec<(f64, Stop)>,
-    /// Both rules with every cost scale.
+    /// Every rule with every cost scale.
     pub costs: Vec<(f64, Stop)>,
     /// The proved rule with every g, once for each code of [`weights::codes`].
     pub weights: Vec<(f64, Stop)>,
@@ -42,10 +47,10 @@ pub struct Plan {
 /// What a run counted.
 #[derive(Clone, Debug, PartialEq)]
 pub struct Results {
-    /// The curve.
-    pub curve: Vec<Count>,
     /// The sweep over g.
     pub scaling: Vec<Count>,
+    /// The curve.
+    pub curve: Vec<Count>,
     /// The sweep over the cost scale.
     pub costs: Vec<Count>,
     /// The sweep over g by column weight.
@@ -67,6 +72,8 @@ const CURVE: [Size1; 7] = [
     (3.0, 100, 6_000),
     (3.25, 100, 8_000),
 ];
+/// The sweep over g.
+const SCALING: [Size1; 2] = [(2.5, 1_000, 1_000), (2.75, 500, 500)];
 /// The sweep over g by column weight.
 const WEIGHTS: [Size1; 3] = [
     (1.5, 1_000, 1_000),
@@ -112,7 +119,7 @@ impl Plan {
         let stops = |list: &[Size1]| list.iter().map(stop).collect();
         Plan {
             curve: stops(&CURVE),
-            scaling: stops(&[(2.5, 300, 300), (2.75, 300, 300)]),
+            scaling: stops(&SCALING),
             costs: stops(&[(2.5, 300, 300)]),
             weights: stops(&WEIGHTS),
             long_checks: LONG_CHECKS.map(|(sweep, curve)| Trials {
@@ -123,35 +130,32 @@ impl Plan {
         }
     }
 
-    /// Runs every trial.
+    /// Runs every trial. The seeds of their frames are drawn in the order of the document, in which the sweep
+    /// over g stands behind the curve.
     pub fn run(&self, scene: &Scene, progress: &mut Progress) -> Results {
         let mut seeds = Generator::new(self.seed);
-        let mut stage = |name: &str, trials: &[(f64, Stop)], setups: Vec<Setup>| {
+        let mut seeds_of =
+            |trials: &[(f64, Stop)]| -> Vec<u64> { trials.iter().map(|_| seeds.bits()).collect() };
+        let of_curve = seeds_of(&self.curve);
+        let of_scaling = seeds_of(&self.scaling);
+        let of_costs = seeds_of(&self.costs);
+        let mut stage = |name: &str, trials: &[(f64, Stop)], seeds: &[u64], setups: &[Setup]| {
             progress.stage(name);
-            let mut counts = Vec::new();
-            for &(decibels, stop) in trials {
-                counts.extend(scene.trial(decibels, &setups, stop, seeds.bits(), progress));
-            }
-            counts
+            let trials = trials.iter().zip(seeds);
+            let trial =
+                |(&(decibels, stop), &seed)| scene.trial(decibels, setups, stop, seed, progress);
+            trials.flat_map(trial).collect::<Vec<Count>>()
         };
-        let both = |proved_g, min_max_g, costs_per_nat| {
-            [(Rule::Proved(2), proved_g), (Rule::MinMax, min_max_g)].map(|(rule, g)| Setup {
-                rule,
-                g,
-                costs_per_nat,
-            })
-        };
-        let default = both(PROVED_G, MIN_MAX_G, COSTS_PER_NAT);
-        let over_g = GS.map(|g| both(g, g, COSTS_PER_NAT));
-        let over_scale = SCALES.map(|scale| both(PROVED_G, MIN_MAX_G, scale));
+        let scaling = stage("sweep over g", &self.scaling, &of_scaling, &over_g());
+        let best = RULES.map(|rule| (rule, best_g(&scaling, rule)));
+        let curve = stage("curve", &self.curve, &of_curve, &at(best, COSTS_PER_NAT));
+        let over_scale = SCALES.map(|scale| at(best, scale)).concat();
+        let name = "sweep over the cost scale";
+        let costs = stage(name, &self.costs, &of_costs, &over_scale);
         let results = Results {
-            curve: stage("curve", &self.curve, default.to_vec()),
-            scaling: stage("sweep over g", &self.scaling, over_g.concat()),
-            costs: stage(
-                "sweep over the cost scale",
-                &self.costs,
-                over_scale.concat(),
-            ),
+            scaling,
+            curve,
+            costs,
             weights: self.by_weight(&mut seeds, progress),
             long_checks: self.with_long_checks(&mut seeds, progress),
         };
@@ -178,4 +182,34 @@ impl Plan {
             })
             .collect()
     }
+}
+
+/// Every rule with each of its swept g.
+fn over_g() -> Vec<Setup> {
+    let of_rule = |(rule, gs): (Rule, RangeInclusive<u8>)| gs.map(move |g| (rule, g));
+    let setups = RULES.into_iter().zip(GS).flat_map(of_rule);
+    setups
+        .flat_map(|setup| at([setup], COSTS_PER_NAT))
+        .collect()
+}
+
+/// Rules, each with a g, with one cost scale.
+fn at<const N: usize>(rules: [(Rule, u8); N], costs_per_nat: f64) -> [Setup; N] {
+    rules.map(|(rule, g)| Setup {
+        rule,
+        g,
+        costs_per_nat,
+    })
+}
+
+/// The g with which a rule made the fewest frame errors in the whole sweep, the smallest where several are
+/// equal.
+pub fn best_g(scaling: &[Count], rule: Rule) -> u8 {
+    let of_rule = || scaling.iter().filter(|count| count.setup.rule == rule);
+    let errors = |g: u8| -> usize {
+        let of_g = of_rule().filter(|count| count.setup.g == g);
+        of_g.map(|count| count.tally.frame_errors()).sum()
+    };
+    let gs = of_rule().map(|count| count.setup.g);
+    gs.min_by_key(|&g| (errors(g), g)).expect("a swept rule")
 }

@@ -4,9 +4,11 @@ mod curves;
 mod long_checks;
 mod weights;
 
+use petsivola::Edition;
+
 use crate::chart::{Chart, Stroke, COLOURS};
 use crate::encoder::Encoder;
-use crate::plan::{Plan, Results, COSTS_PER_NAT, LIMIT, MIN_MAX_G, PROVED_G};
+use crate::plan::{best_g, Plan, Results, COSTS_PER_NAT, LIMIT, RULES};
 use crate::trial::{Count, Rule};
 use curves::Line;
 pub use long_checks::chart as chart_of_long_checks;
@@ -16,15 +18,15 @@ pub fn markdown(plan: &Plan, encoder: &Encoder, results: &Results) -> String {
     let parts = [
         head(plan, encoder),
         format!(
-            "## Frame error rate against Eb/N0\n\nCosts per nat {COSTS_PER_NAT}; g = {PROVED_G} for \
-             the proved decoder and {MIN_MAX_G} for Trellis Min-Max, see the sweep over g.\n\n\
-             ![Frame error rate](frame-error-rate.svg)\n\n"
+            "## Frame error rate against Eb/N0\n\nCosts per nat {COSTS_PER_NAT}, each rule at its best g of the \
+             sweep below.\n\n![Frame error rate](frame-error-rate.svg)\n\n"
         ),
         table(&results.curve),
         distances(&results.curve),
         format!(
-            "## Sweep over g\n\nWhat a check sends is scaled by g/16. Costs per nat \
-             {COSTS_PER_NAT}.\n\n"
+            "## Sweep over g\n\nWhat a check sends is scaled by g/16. Costs per nat {COSTS_PER_NAT}. Fewest \
+             frame errors at all Eb/N0 together: {}.\n\n",
+            best(&results.scaling)
         ),
         table(&results.scaling),
         "## Sweep over the cost scale\n\nThe costs per nat of the quantiser; costs above 255 are cut \
@@ -45,9 +47,10 @@ fn head(plan: &Plan, encoder: &Encoder) -> String {
          Code, where no other is named: over GF(32), 248 symbols, {} of them free, 124 checks of degree 8, \
          column weight 4. \
          Random words, never the all-zero word, over BPSK and white noise. Iteration limit {LIMIT}. \
-         The proved decoder is called through the static library. The baseline is the Trellis Min-Max \
-         rule of source document 003 in Rust, in the same layered schedule, with the same quantiser, on \
-         the same frames.\n\n\
+         The proved decoder is called through the static library. Its choices cost the sum of their columns' \
+         costs, or in the Min-Max edition the greatest of them. The baseline is the Trellis Min-Max rule of \
+         source document 003, which approximates that edition, in Rust, in the same layered schedule, with the \
+         same quantiser, on the same frames.\n\n\
          A frame error is a frame not found, or found wrong: found means that the decisions satisfy \
          every check. Symbol errors count all symbols of a frame. The interval holds the frame \
          error rate with a confidence of 95 percent.\n\n",
@@ -90,29 +93,36 @@ fn table(counts: &[Count]) -> String {
     table + "\n"
 }
 
-/// The curve as a chart.
-pub fn chart(curve: &[Count]) -> Chart {
-    let line = |(rule, g, colour, stroke)| Line {
-        name: format!("{}, g = {g}", name(rule)),
-        colour,
-        stroke,
-        counts: of_rule(curve, rule),
-    };
-    let lines = [
-        (Rule::Proved(2), PROVED_G, COLOURS[0], Stroke::Solid),
-        (Rule::MinMax, MIN_MAX_G, COLOURS[1], Stroke::Dashed),
-    ];
-    let title = "(248,137) code over GF(32), BPSK, white noise";
-    curves::chart(title, &lines.map(line))
+/// The best g of each rule.
+fn best(scaling: &[Count]) -> String {
+    let of_rule = |rule| format!("g = {} for {}", best_g(scaling, rule), name(rule));
+    RULES.map(of_rule).join(", ")
 }
 
-/// How far apart the two rules of the curve are.
+/// The curve as a chart.
+pub fn chart(curve: &[Count]) -> Chart {
+    let strokes = [Stroke::Solid, Stroke::Solid, Stroke::Dashed];
+    let styles = COLOURS.into_iter().zip(strokes);
+    let line = |(rule, (colour, stroke))| {
+        let counts = of_rule(curve, rule);
+        let g = counts[0].setup.g;
+        Line {
+            name: format!("{}, g = {g}", name(rule)),
+            colour,
+            stroke,
+            counts,
+        }
+    };
+    let lines: Vec<Line> = RULES.into_iter().zip(styles).map(line).collect();
+    let title = "(248,137) code over GF(32), BPSK, white noise";
+    curves::chart(title, &lines)
+}
+
+/// How far apart the rules of the curve are.
 fn distances(curve: &[Count]) -> String {
-    let rules = [Rule::Proved(2), Rule::MinMax].map(|rule| of_rule(curve, rule));
-    curves::distances(
-        ["proved", "Trellis Min-Max"],
-        rules.each_ref().map(Vec::as_slice),
-    )
+    let lines = RULES.map(|rule| (name(rule), of_rule(curve, rule)));
+    let lines = lines.each_ref();
+    curves::distances(&lines.map(|(name, counts)| (name.as_str(), counts.as_slice())))
 }
 
 /// The counts with one rule.
@@ -124,8 +134,9 @@ fn of_rule(counts: &[Count], rule: Rule) -> Vec<Count> {
 /// The rule in a table or a legend.
 fn name(rule: Rule) -> String {
     match rule {
-        Rule::Proved(k) => format!("proved, k = {k}"),
-        Rule::MinMax => "Trellis Min-Max".to_string(),
+        Rule::Proved(k, Edition::Sum) => format!("proved, k = {k}"),
+        Rule::Proved(k, Edition::Greatest) => format!("proved Min-Max, k = {k}"),
+        Rule::TrellisMinMax => "Trellis Min-Max".to_string(),
     }
 }
 

@@ -1,5 +1,6 @@
 //! Several decoders on the same frames at one noise.
 
+use petsivola::Edition;
 use reference_decoder::sample::Generator;
 
 use crate::channel::Channel;
@@ -16,10 +17,10 @@ use crate::tally::Tally;
 /// The rule for one check.
 #[derive(Clone, Copy, Debug, PartialEq, Eq)]
 pub enum Rule {
-    /// Document 01 with this k, 2 or 3, by the proved library.
-    Proved(usize),
-    /// The Trellis Min-Max rule of source document 003.
-    MinMax,
+    /// The documents' rule with this k, 2 or 3, in this edition, by the proved library.
+    Proved(usize, Edition),
+    /// The Trellis Min-Max rule of source document 003, which approximates the Min-Max edition.
+    TrellisMinMax,
 }
 
 /// A decoder under test.
@@ -121,8 +122,10 @@ impl Scene {
     /// The decoder of a setup.
     fn decoder(&self, setup: Setup) -> Box<dyn Decoder + '_> {
         match setup.rule {
-            Rule::Proved(k) => Box::new(Library::new(&self.code, k, setup.g, self.limit)),
-            Rule::MinMax => Box::new(Layered::new(&self.code, setup.g, self.limit, MinMax)),
+            Rule::Proved(k, edition) => {
+                Box::new(Library::new(&self.code, k, edition, setup.g, self.limit))
+            }
+            Rule::TrellisMinMax => Box::new(Layered::new(&self.code, setup.g, self.limit, MinMax)),
         }
     }
 }

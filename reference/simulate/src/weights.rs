@@ -1,6 +1,8 @@
 //! The sweep over g by column weight: codes of weight 2, 3 and 4. A column gets what each of its checks
 //! sends added, so a scale that is right for one column weight need not be right for another.
 
+use petsivola::Edition;
+
 use crate::array;
 use crate::code::Code;
 use crate::cyclic::{self, Size};
@@ -29,7 +31,7 @@ pub fn codes() -> [Code; 3] {
 /// The proved decoder with every g from 6 to 16 on the same frames.
 pub fn sweep(code: Code, decibels: f64, stop: Stop, seed: u64, progress: &mut Progress) -> Sweep {
     let setup = |g| Setup {
-        rule: Rule::Proved(2),
+        rule: Rule::Proved(2, Edition::Sum),
         g,
         costs_per_nat: COSTS_PER_NAT,
     };

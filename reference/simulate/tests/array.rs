@@ -1,5 +1,6 @@
 //! The (248,137) code against its description.
 
+use petsivola::Edition;
 use reference_decoder::code_line;
 use simulate::array;
 use simulate::encoder::Encoder;
@@ -46,8 +47,13 @@ fn blocks_are_as_described() {
 #[test]
 fn the_code_line_is_accepted() {
     let code = array::code();
-    for (deviations, first) in [(2, 0x05), (3, 0x25)] {
-        let read = code_line(&code.line(deviations, 8, 15)).unwrap();
+    for (deviations, edition, first) in [
+        (2, Edition::Sum, 0x05),
+        (2, Edition::Greatest, 0x15),
+        (3, Edition::Sum, 0x25),
+        (3, Edition::Greatest, 0x35),
+    ] {
+        let read = code_line(&code.line(deviations, edition, 8, 15)).unwrap();
         assert_eq!(
             (read.first, read.n, read.m, read.g, read.limit),
             (first, 248, 124, 8, 15)

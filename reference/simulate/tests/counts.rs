@@ -2,11 +2,11 @@
 
 use simulate::array;
 use simulate::decoder::Outcome;
-use simulate::plan::{Plan, LIMIT};
+use simulate::plan::{best_g, Plan, LIMIT, RULES};
 use simulate::progress::Progress;
 use simulate::report;
 use simulate::tally::Tally;
-use simulate::trial::{Rule, Scene, Setup, Stop};
+use simulate::trial::{Count, Scene, Setup, Stop};
 
 #[test]
 fn frames_are_counted_once() {
@@ -55,7 +55,7 @@ fn the_same_seed_gives_the_same_counts() {
         errors: 2,
         frames: 3,
     };
-    let setups = [Rule::Proved(2), Rule::MinMax].map(|rule| Setup {
+    let setups = RULES.map(|rule| Setup {
         rule,
         g: 8,
         costs_per_nat: 8.0,
@@ -65,26 +65,68 @@ fn the_same_seed_gives_the_same_counts() {
     assert_ne!(trial(1), trial(2));
 }
 
+/// Frame errors of both Eb/N0 count together, of the rule alone, and of equal g the smallest is best.
+#[test]
+fn the_best_g_of_a_sweep() {
+    let count = |rule, decibels, g, errors| Count {
+        decibels,
+        setup: Setup {
+            rule,
+            g,
+            costs_per_nat: 8.0,
+        },
+        tally: Tally {
+            frames: 100,
+            not_found: errors,
+            ..Tally::default()
+        },
+    };
+    let [sum, greatest, _] = RULES;
+    let scaling = [
+        count(sum, 2.5, 7, 30),
+        count(sum, 2.5, 8, 31),
+        count(sum, 2.5, 9, 33),
+        count(greatest, 2.5, 9, 5),
+        count(greatest, 2.5, 10, 4),
+        count(sum, 2.75, 7, 20),
+        count(sum, 2.75, 8, 14),
+        count(sum, 2.75, 9, 12),
+        count(greatest, 2.75, 9, 9),
+        count(greatest, 2.75, 10, 9),
+    ];
+    assert_eq!(
+        RULES[..2]
+            .iter()
+            .map(|&rule| best_g(&scaling, rule))
+            .collect::<Vec<_>>(),
+        [8, 10]
+    );
+}
+
 #[test]
 fn the_document_has_every_trial() {
     let scene = Scene::new(array::code(), LIMIT);
     let plan = Plan::sized(0.000_01, 1);
     let results = plan.run(&scene, &mut Progress::start());
-    assert_eq!(results.curve.len(), 2 * plan.curve.len());
-    assert_eq!(results.scaling.len(), 10 * plan.scaling.len());
-    assert_eq!(results.costs.len(), 10 * plan.costs.len());
+    for count in results.curve.iter().chain(&results.costs) {
+        let best = best_g(&results.scaling, count.setup.rule);
+        assert_eq!(count.setup.g, best);
+    }
+    assert_eq!(results.curve.len(), 3 * plan.curve.len());
+    assert_eq!(results.scaling.len(), 3 * 7 * plan.scaling.len());
+    assert_eq!(results.costs.len(), 3 * 5 * plan.costs.len());
     assert_eq!(results.weights.len(), plan.weights.len());
     let long = results.long_checks.iter().map(|code| code.curve.len());
     assert!(long.eq(plan.long_checks.iter().map(|code| 2 * code.curve.len())));
     let text = report::markdown(&plan, &scene.encoder, &results);
-    let rows = text
-        .lines()
-        .filter(|line| line.contains("| proved, k = 2 |"));
-    assert_eq!(rows.count(), 7 + 5 * 2 + 5 + (6 + 5));
-    let rows = text
-        .lines()
-        .filter(|line| line.contains("| proved, k = 3 |"));
-    assert_eq!(rows.count(), 6 + 5);
+    let rows = |rule: &str| {
+        let cell = format!("| {rule} |");
+        text.lines().filter(|line| line.contains(&cell)).count()
+    };
+    assert_eq!(rows("proved, k = 2"), 7 + 7 * 2 + 5 + (6 + 5));
+    assert_eq!(rows("proved Min-Max, k = 2"), 7 + 7 * 2 + 5);
+    assert_eq!(rows("Trellis Min-Max"), 7 + 7 * 2 + 5);
+    assert_eq!(rows("proved, k = 3"), 6 + 5);
     let rows = text
         .lines()
         .filter(|line| line.matches(" of 1 |").count() == 3);
@@ -93,7 +135,7 @@ fn the_document_has_every_trial() {
         report::chart(&results.curve),
         report::chart_of_long_checks(&results.long_checks),
     ];
-    for (chart, lines) in charts.iter().zip([2, 4]) {
+    for (chart, lines) in charts.iter().zip([3, 4]) {
         let svg = chart.svg();
         assert!(svg.starts_with("<svg") && svg.ends_with("</svg>\n"));
         assert_eq!(chart.series.len(), lines);

@@ -1,20 +1,20 @@
-//! The layered schedule with document 01's rule decodes as the reference decoder does, and so does the
+//! The layered schedule with the documents' rule decodes as the reference decoder does, and so does the
 //! library.
 
 mod common;
 
 use reference_decoder::check::Messages;
 use reference_decoder::sample::{self, Generator, Size, Style};
-use reference_decoder::{decode, Join, Outcome as Decoded, Rule};
+use reference_decoder::{decode, Outcome as Decoded, Rule};
 use simulate::decoder::{Decoder, Outcome};
 use simulate::layered::{CheckRule, Layered};
 use simulate::library::Library;
 
-/// Document 01's rule with the k of a code, by the reference decoder. With q terms a column, the term of
+/// The rule of a code, with its k and edition, by the reference decoder. With q terms a column, the term of
 /// symbol 1 is the weight.
-struct Document01(Rule);
+struct OfDocuments(Rule);
 
-impl CheckRule for Document01 {
+impl CheckRule for OfDocuments {
     fn send(&mut self, q: usize, terms: &[u8], brought: &[u8], sent: &mut [u8]) {
         let weights: Vec<u8> = terms.chunks(q).map(|terms| terms[1]).collect();
         let messages = Messages::new(self.0, &weights, brought);
@@ -30,14 +30,11 @@ fn outcome(decoded: Decoded) -> Outcome {
 }
 
 #[test]
-fn document_01s_rule_decodes_as_the_reference() {
+fn the_documents_rule_decodes_as_the_reference() {
     let mut generator = Generator::new(1);
     let mut found = [0, 0];
     for round in 0..400 {
-        let size = Size {
-            join: Join::Sum..=Join::Sum,
-            ..[Size::SMALL, Size::MEDIUM][round % 2].clone()
-        };
+        let size = [Size::SMALL, Size::MEDIUM][round % 2].clone();
         let (sample, read, code) = common::random_code(&mut generator, &size);
         let style = generator.one_of(&Style::ALL);
         let wrong = generator.below(code.columns);
@@ -49,7 +46,7 @@ fn document_01s_rule_decodes_as_the_reference() {
         let expected = decode(&sample.line, &frame, &mut symbols, &mut costs, &mut store);
         let expected = outcome(expected.unwrap());
 
-        let mut layered = Layered::new(&code, read.g, read.limit, Document01(read.rule()));
+        let mut layered = Layered::new(&code, read.g, read.limit, OfDocuments(read.rule()));
         // A decoder keeps nothing from one frame to the next.
         layered.decode(&sample::frame(&mut generator, &read, style));
         assert_eq!(layered.decode(&frame), expected);
@@ -58,7 +55,9 @@ fn document_01s_rule_decodes_as_the_reference() {
             (&symbols[..], &costs[..])
         );
 
-        let mut library = Library::new(&code, k, read.g, read.limit);
+        let edition = petsivola::Rule::of(read.first).map(petsivola::Rule::edition);
+        let edition = edition.expect("an accepted first byte");
+        let mut library = Library::new(&code, k, edition, read.g, read.limit);
         assert_eq!(library.decode(&frame), expected);
         assert_eq!(library.symbols(), symbols);
         found[usize::from(expected.found)] += 1;

@@ -1,5 +1,6 @@
 //! The codes with long checks, and which frames their trials count.
 
+use petsivola::Edition;
 use reference_decoder::code_line;
 use reference_decoder::sample::Generator;
 use simulate::code::Code;
@@ -28,7 +29,8 @@ fn every_column_and_every_check_is_as_said() {
             .iter()
             .all(|checks| checks.len() == 4));
         for k in [2, 3] {
-            let read = code_line(&code.line(k, 8, 15)).expect("an accepted code line");
+            let read =
+                code_line(&code.line(k, Edition::Sum, 8, 15)).expect("an accepted code line");
             assert_eq!(read.rule().deviations(), k);
         }
     }
@@ -74,7 +76,7 @@ fn the_curve_has_the_best_g_of_each_k() {
     let found = run(1);
     for (k, sweep) in [2, 3].into_iter().zip(&found.sweeps) {
         assert!(sweep.counts.iter().map(|count| count.setup.g).eq(5..=11));
-        let is_k = |rule| rule == Rule::Proved(k);
+        let is_k = |rule| rule == Rule::Proved(k, Edition::Sum);
         assert!(sweep.counts.iter().all(|count| is_k(count.setup.rule)));
         let of_k: Vec<_> = found
             .curve

@@ -1,5 +1,6 @@
 //! The codes of the sweep over g by column weight, and which g is best.
 
+use petsivola::Edition;
 use reference_decoder::code_line;
 use simulate::code::Code;
 use simulate::encoder::Encoder;
@@ -25,7 +26,7 @@ fn every_column_and_every_check_is_as_said() {
         assert!(code.checks.iter().all(|check| check.len() == degree));
         let columns = checks_by_column(code);
         assert!(columns.iter().all(|checks| checks.len() == weight));
-        assert!(code_line(&code.line(2, 16, 255)).is_ok());
+        assert!(code_line(&code.line(2, Edition::Sum, 16, 255)).is_ok());
     }
 }
 
@@ -54,7 +55,7 @@ fn sweep(errors: &[usize]) -> Sweep {
     let count = |(g, &errors)| Count {
         decibels: 2.0,
         setup: Setup {
-            rule: Rule::Proved(2),
+            rule: Rule::Proved(2, Edition::Sum),
             g,
             costs_per_nat: 8.0,
         },

@@ -1,4 +1,4 @@
-//! Frame error rates against Eb/N0: charts, and how far apart two lines of one are.
+//! Frame error rates against Eb/N0: charts, and how far apart the lines of one are.
 
 use crate::chart::{Axis, Chart, Point, Series, Stroke};
 use crate::trial::Count;
@@ -51,20 +51,35 @@ fn point(count: &Count) -> Point {
     }
 }
 
-/// A point with fewer frame errors says too little about the distance of two curves.
+/// A point with fewer frame errors says too little about the distance of curves.
 const ENOUGH_ERRORS: usize = 10;
 
-/// How far a line is before another, at the rates that both reach.
-pub fn distances(names: [&str; 2], lines: [&[Count]; 2]) -> String {
-    let [name, other_name] = names;
+/// Where some lines, the better ones first, fall through the rates that all of them reach, and how far each is
+/// before each later one.
+pub fn distances(lines: &[(&str, &[Count])]) -> String {
+    let pairs = || {
+        let places = 0..lines.len();
+        places.flat_map(|one| (one + 1..lines.len()).map(move |other| (one, other)))
+    };
+    let mut head = String::from("| frame error rate |");
+    for (name, _) in lines {
+        head += &format!(" {name}, dB |");
+    }
+    for (one, other) in pairs() {
+        head += &format!(" gain of {} over {}, dB |", lines[one].0, lines[other].0);
+    }
+    let columns = 1 + lines.len() + pairs().count();
     let mut table = format!(
-        "Between the points, on straight lines in the chart:\n\n\
-         | frame error rate | {name}, dB | {other_name}, dB | gain, dB |\n|---:|---:|---:|---:|\n",
+        "Between the points, on straight lines in the chart:\n\n{head}\n|{}\n",
+        "---:|".repeat(columns)
     );
     for rate in [1e-1, 1e-2, 1e-3] {
-        if let [Some(one), Some(other)] = lines.map(|counts| crossing(counts, rate)) {
-            let gain = other - one;
-            table += &format!("| {rate} | {one:.2} | {other:.2} | {gain:.2} |\n");
+        let crossings = lines.iter().map(|(_, counts)| crossing(counts, rate));
+        if let Some(crossings) = crossings.collect::<Option<Vec<f64>>>() {
+            let gains = pairs().map(|(one, other)| crossings[other] - crossings[one]);
+            let cells = crossings.iter().copied().chain(gains);
+            let cells: Vec<String> = cells.map(|number| format!("{number:.2}")).collect();
+            table += &format!("| {rate} | {} |\n", cells.join(" | "));
         }
     }
     table + "\n"

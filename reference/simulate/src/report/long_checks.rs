@@ -1,5 +1,7 @@
 //! The section about long checks with two and with three deviations.
 
+use petsivola::Edition;
+
 use super::curves::{self, Line};
 use super::{of_rule, rate, table};
 use crate::chart::{Chart, Stroke, COLOURS};
@@ -20,8 +22,8 @@ pub fn section(codes: &[LongChecks]) -> String {
     for code in codes {
         text += &format!("### Degree {}\n\n", degree(code));
         text += &table(&code.curve);
-        let [two, three] = DEVIATIONS.map(|k| of_rule(&code.curve, Rule::Proved(k)));
-        text += &curves::distances(["k = 3", "k = 2"], [&three, &two]);
+        let [two, three] = DEVIATIONS.map(|k| of_rule(&code.curve, Rule::Proved(k, Edition::Sum)));
+        text += &curves::distances(&[("k = 3", &three), ("k = 2", &two)]);
         text += &sweeps(&code.sweeps);
     }
     text
@@ -37,7 +39,7 @@ pub fn chart(codes: &[LongChecks]) -> Chart {
                 name: format!("degree {}, k = {k}, g = {}", degree(code), best_g(sweep)),
                 colour,
                 stroke,
-                counts: of_rule(&code.curve, Rule::Proved(k)),
+                counts: of_rule(&code.curve, Rule::Proved(k, Edition::Sum)),
             })
     });
     let title = "Long checks over GF(64), BPSK, white noise";
