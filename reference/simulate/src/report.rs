@@ -95,7 +95,7 @@ fn table(counts: &[Count]) -> String {
 
 /// The best g of each rule.
 fn best(scaling: &[Count]) -> String {
-    let of_rule = |rule| format!("g = {} for {}", best_g(scaling, rule), name(rule));
+    let of_rule = |rule| format!("g = {} for {}", best_g(scaling, rule), short_name(rule));
     RULES.map(of_rule).join(", ")
 }
 
@@ -120,9 +120,9 @@ pub fn chart(curve: &[Count]) -> Chart {
 
 /// How far apart the rules of the curve are.
 fn distances(curve: &[Count]) -> String {
-    let lines = RULES.map(|rule| (name(rule), of_rule(curve, rule)));
+    let lines = RULES.map(|rule| (short_name(rule), of_rule(curve, rule)));
     let lines = lines.each_ref();
-    curves::distances(&lines.map(|(name, counts)| (name.as_str(), counts.as_slice())))
+    curves::distances(&lines.map(|(name, counts)| (*name, counts.as_slice())))
 }
 
 /// The counts with one rule.
@@ -134,9 +134,17 @@ fn of_rule(counts: &[Count], rule: Rule) -> Vec<Count> {
 /// The rule in a table or a legend.
 fn name(rule: Rule) -> String {
     match rule {
-        Rule::Proved(k, Edition::Sum) => format!("proved, k = {k}"),
-        Rule::Proved(k, Edition::Greatest) => format!("proved Min-Max, k = {k}"),
-        Rule::TrellisMinMax => "Trellis Min-Max".to_string(),
+        Rule::Proved(k, _) => format!("{}, k = {k}", short_name(rule)),
+        Rule::TrellisMinMax => short_name(rule).to_string(),
+    }
+}
+
+/// The rule where k does not matter.
+fn short_name(rule: Rule) -> &'static str {
+    match rule {
+        Rule::Proved(_, Edition::Sum) => "proved",
+        Rule::Proved(_, Edition::Greatest) => "proved Min-Max",
+        Rule::TrellisMinMax => "Trellis Min-Max",
     }
 }
 

@@ -14,8 +14,8 @@ use crate::trial::{Count, Rule};
 pub fn section(codes: &[LongChecks]) -> String {
     let mut text = format!(
         "## Long checks: two and three deviations\n\nCodes over GF(64) with checks of degree 24 and 32 and columns \
-         in four checks; the edges have random weights. The proved decoder with k = 2 and with k = 3 on the same \
-         frames, costs per nat {COSTS_PER_NAT}. In the curves each k has its best g of the sweep below, the \
+         in four checks; the edges have random weights. The proved decoder with the sum, k = 2 and k = 3 on the \
+         same frames, costs per nat {COSTS_PER_NAT}. In the curves each k has its best g of the sweep below, the \
          smallest where several are equal.\n\n![Frame error rate with long checks](long-checks.svg)\n\n"
     );
     text += &shapes(codes);

@@ -9,7 +9,7 @@ use crate::trial::Count;
 pub fn section(sweeps: &[Sweep]) -> String {
     let parts = [
         format!(
-            "## Sweep over g by column weight\n\nThe proved decoder alone with k = 2, costs per nat \
+            "## Sweep over g by column weight\n\nThe proved decoder alone with k = 2 and the sum, costs per nat \
              {COSTS_PER_NAT}. Every g decodes the same frames of a code. The codes of column weight 2 and \
              3 are quasi-cyclic with random weights; the one of weight 4 is the code of the other \
              sections. They differ in field, length and degree too.\n\n"
