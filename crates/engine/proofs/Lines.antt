@@ -28,7 +28,7 @@ module _ (R : Rule) (cs : List Column) (P : Proper R cs) (n : ℕ) (k : n < leng
   c = column cs n
 
   abbrev s : ℕ
-  s = weigh R c (decision c)
+  s = weigh R c (decision c .symbol)
 
   abbrev to : ℕ → ℕ
   to x = xor (getD row x 0) s

@@ -26,10 +26,10 @@ sum-same : (f g : ℕ → ℕ) (n : ℕ) → ((j : ℕ) → j < n → f j ≡ g 
 sum-same f g zero h = refl
 sum-same f g (suc n) h = ap₂ xor (sum-same f g n (λ j l. h j (omega arith))) (h n (omega arith))
 
-decided-sum : (R : Rule) (cs : List Column) → decided R cs ≡ sumTo (λ n. weigh R (column cs n) (decision (column cs n))) (length cs)
+decided-sum : (R : Rule) (cs : List Column) → decided R cs ≡ sumTo (λ n. weigh R (column cs n) (decision (column cs n) .symbol)) (length cs)
 unfolding decided
 decided-sum R [] = refl
-decided-sum R (c ∷ cs) = ap (xor (weigh R c (decision c))) (decided-sum R cs) ∙ sym (sum-front (λ n. weigh R (column (c ∷ cs) n) (decision (column (c ∷ cs) n))) (length cs))
+decided-sum R (c ∷ cs) = ap (xor (weigh R c (decision c .symbol))) (decided-sum R cs) ∙ sym (sum-front (λ n. weigh R (column (c ∷ cs) n) (decision (column (c ∷ cs) n) .symbol)) (length cs))
 
 module _ (f : ℕ) (ws cs : List ℕ) (D : Ready f ws cs) where
   abbrev R : Rule
@@ -41,14 +41,14 @@ module _ (f : ℕ) (ws cs : List ℕ) (D : Ready f ws cs) where
   abbrev pub theColumns : List Column
   theColumns = columnsOf (sizeOf f) ws cs
 
-  pub term-is : (n : ℕ) → n < length ws → weigh R (column theColumns n) (decision (column theColumns n)) ≡ termOf (powerOf f) ws cs n
+  pub term-is : (n : ℕ) → n < length ws → weigh R (column theColumns n) (decision (column theColumns n) .symbol) ≡ termOf (powerOf f) ws cs n
   term-is n h = rw (column-at q ws cs n h)
 
   pub shift-is : (n : ℕ) → n < length ws → shift R theColumns n ≡ xor (sumTo (termOf (powerOf f) ws cs) (length ws)) (termOf (powerOf f) ws cs n)
   shift-is n h =
       let e : length theColumns ≡ length ws = length-columns q ws cs in
       let s = split-decided R theColumns (ready-proper f ws cs D) 0 n (omega arith) in
-      let t : sumTo (λ j. weigh R (column theColumns j) (decision (column theColumns j))) (length theColumns) ≡ sumTo (termOf (powerOf f) ws cs) (length ws) =
+      let t : sumTo (λ j. weigh R (column theColumns j) (decision (column theColumns j) .symbol)) (length theColumns) ≡ sumTo (termOf (powerOf f) ws cs) (length ws) =
       rw e (sum-same _ _ (length ws) (λ j l. term-is j l)) in
       let d : decided R theColumns ≡ sumTo (termOf (powerOf f) ws cs) (length ws) = decided-sum R theColumns ∙ t in
       sym (xor-cancel (termOf (powerOf f) ws cs n) (shift R theColumns n)) ∙ ap (xor (termOf (powerOf f) ws cs n)) (ap (λ y. xor y (shift R theColumns n)) (sym (term-is n h)) ∙ sym s ∙ d) ∙ xor-comm _ _

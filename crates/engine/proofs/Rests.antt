@@ -58,7 +58,7 @@ first-is W Y a C D e =
 decided-append : (R : Rule) (cs ds : List Column) → decided R (cs ++ ds) ≡ xor (decided R cs) (decided R ds)
 unfolding decided
 decided-append R [] ds = sym (xor-zero _)
-decided-append R (c ∷ cs) ds = ap (xor (weigh R c (decision c))) (decided-append R cs ds) ∙ sym (xor-assoc _ _ _)
+decided-append R (c ∷ cs) ds = ap (xor (weigh R c (decision c .symbol))) (decided-append R cs ds) ∙ sym (xor-assoc _ _ _)
 
 op-comm : (op : ℕ → ℕ → ℕ) → Joins op → (a b : ℕ) → op a b ≡ op b a
 op-comm op J a b = ap (op a) (sym (J .right b)) ∙ J .gathers .turn a b 0 ∙ ap (op b) (J .right a)
@@ -77,7 +77,7 @@ unfolding decided
 no-deviation R J none A d = (refl, refl)
 no-deviation R J (more {c = c} {cs = cs} {x = x} {w = w} k f) A d =
     ⊎-elim
-    (λ (e : x ≡ decision c).
+    (λ (e : x ≡ decision c .symbol).
     let r = no-deviation R J f (all-tail R c cs A) (omega arith) in
     (ap₂ (R .join) (ap (costAt c) e ∙ A 0 (omega arith) .free) (r .0) ∙ J .right 0, ap₂ xor (ap (weigh R c) e) (r .1)))
     (λ (e : deviates c x ≡ 1). absurd (omega arith))
@@ -89,7 +89,7 @@ decisions-fit R (c ∷ cs) A = more (A 0 (omega arith) .below) (decisions-fit R 
 
 decisions-none : (cs : List Column) → deviations cs (decisions cs) ≡ 0
 decisions-none [] = refl
-decisions-none (c ∷ cs) = omega (arith, same-symbol c (decision c) refl, decisions-none cs)
+decisions-none (c ∷ cs) = omega (arith, same-symbol c (decision c .symbol) refl, decisions-none cs)
 
 module _ (R : Rule) (meet : ℕ → ℕ → ℕ) (M : Meets (R .join) meet) (p : ℕ) (power : R .size ≡ 2 ^ p) where
   abbrev J : Joins (R .join)
@@ -209,7 +209,7 @@ module _ (R : Rule) (meet : ℕ → ℕ → ℕ) (M : Meets (R .join) meet) (p :
   -- one column
   module _ (c : Column) (S : Sound R c) where
     abbrev z : ℕ
-    z = decision c
+    z = decision c .symbol
 
     one : All R (c ∷ [])
     one zero l = S

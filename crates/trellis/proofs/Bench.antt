@@ -11,5 +11,5 @@ unfolding table recordOf shifts group above extra extraOfAll sentAt leastCost ch
 bench = refl
 
 -- of tied symbols the smallest is the decision
-pub ties : decision (record { weight = 1; costs = 9 ∷ 0 ∷ 0 ∷ 5 ∷ [] }) ≡ 1
+pub ties : decision (record { weight = 1; costs = 9 ∷ 0 ∷ 0 ∷ 5 ∷ [] }) .symbol ≡ 1
 ties = refl

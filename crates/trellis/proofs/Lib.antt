@@ -5,6 +5,7 @@ pub mod Least
 pub mod Xor
 pub mod Total
 pub mod Sent
+pub mod Margins
 pub mod Places
 pub mod Loops
 pub mod Records

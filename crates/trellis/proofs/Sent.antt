@@ -14,7 +14,7 @@ use lib.ListN.{length, getD, set, List·getD-map}
 use lib.Seq.{getD-set-same, getD-set-other}
 use Rattle.trellis.specs.Lists.{put, others, keep, countFrom, upTo}
 use Rattle.trellis.specs.Field.{xor}
-use Rattle.trellis.specs.Check.{column, Rule, Column, Fits, none, more, Allowed, IsLeast, costOf, costAt, weigh, deviates, decision, decisions, decided, shift, sentAt, extra, extraOfAll, deviations, weightedSum, total}
+use Rattle.trellis.specs.Check.{column, blank, Rule, Column, Fits, none, more, Allowed, IsLeast, costOf, costAt, weigh, deviates, decision, decisions, decided, shift, sentAt, extra, extraOfAll, deviations, weightedSum, total}
 use Rattle.trellis.specs.Record.{above}
 use Rattle.trellis.proofs.Lists.{in-upTo, of-upTo, smallest-in, smallest-le}
 use Rattle.trellis.proofs.Least.{least-is, is-least}
@@ -29,8 +29,8 @@ pub record Joins (op : ℕ → ℕ → ℕ) : Type 0 where
 
 -- a column of an accepted check
 pub record Sound (R : Rule) (c : Column) : Type 0 where
-  pub below : decision c < R .size
-  pub free : costAt c (decision c) ≡ 0
+  pub below : decision c .symbol < R .size
+  pub free : costAt c (decision c .symbol) ≡ 0
   pub closed : (x : ℕ) → x < R .size → weigh R c x < R .size
   pub solve : (b : ℕ) → b < R .size → ℕ
   pub solve-below : (b : ℕ) (h : b < R .size) → solve b h < R .size
@@ -54,22 +54,22 @@ xors = record { left = xor-zero; turn = xor-turn; assoc = xor-assoc }
 pub sums : Gathers _+_
 sums = record { left = zero-add; turn = add-left-comm; assoc = add-assoc }
 
-pub same-symbol : (c : Column) (x : ℕ) → x ≡ decision c → deviates c x ≡ 0
-same-symbol c x e = rw e (go (eqb (decision c) (decision c)) (eqb-refl (decision c)))
+pub same-symbol : (c : Column) (x : ℕ) → x ≡ decision c .symbol → deviates c x ≡ 0
+same-symbol c x e = rw e (go (eqb (decision c .symbol) (decision c .symbol)) (eqb-refl (decision c .symbol)))
   where
     go : (b : Bool) → T b → _≡_ {A = ℕ} (cond b 0 1) 0
     go true t = refl
     go false t = absurd t
 
-pub total-zero : (op : ℕ → ℕ → ℕ) → Gathers op → (f : Column → ℕ → ℕ) (cs : List Column) → ((n : ℕ) → n < length cs → f (column cs n) (decision (column cs n)) ≡ 0)
+pub total-zero : (op : ℕ → ℕ → ℕ) → Gathers op → (f : Column → ℕ → ℕ) (cs : List Column) → ((n : ℕ) → n < length cs → f (column cs n) (decision (column cs n) .symbol) ≡ 0)
     → total op f cs (decisions cs) ≡ 0
 total-zero op G f [] h = refl
 total-zero op G f (c ∷ cs) h = rw (h 0 (omega arith), total-zero op G f cs (λ n k. h (suc n) (omega arith))) (G .left 0)
 
-pub deviates-cases : (c : Column) (x : ℕ) → (x ≡ decision c) ⊎ (deviates c x ≡ 1)
-deviates-cases c x = go (eqb x (decision c)) refl
+pub deviates-cases : (c : Column) (x : ℕ) → (x ≡ decision c .symbol) ⊎ (deviates c x ≡ 1)
+deviates-cases c x = go (eqb x (decision c .symbol)) refl
   where
-    go : (b : Bool) → eqb x (decision c) ≡ b → (x ≡ decision c) ⊎ (_≡_ {A = ℕ} (cond b 0 1) 1)
+    go : (b : Bool) → eqb x (decision c .symbol) ≡ b → (x ≡ decision c .symbol) ⊎ (_≡_ {A = ℕ} (cond b 0 1) 1)
     go true e = inl (eqb→eq _ _ (rw e tt))
     go false e = inr refl
 
@@ -77,22 +77,22 @@ pub deviates-small : (c : Column) (x : ℕ) → deviates c x ≤ 1
 deviates-small c x = ⊎-elim (λ e. omega (arith, same-symbol c x e)) (λ e. omega arith) (deviates-cases c x)
 
 -- fewer deviations than columns: a column keeps its decision
-pub undeviated : {q : ℕ} {cs : List Column} {w : List ℕ} → Fits q cs w → deviations cs w < length cs → (n : ℕ) × (n < length cs) × (getD w n 0 ≡ decision (column cs n))
+pub undeviated : {q : ℕ} {cs : List Column} {w : List ℕ} → Fits q cs w → deviations cs w < length cs → (n : ℕ) × (n < length cs) × (getD w n 0 ≡ decision (column cs n) .symbol)
 undeviated none h = absurd (not-suc-le-zero h)
 undeviated (more {c = c} {cs = cs} {x = x} {w = w} k f) h =
     ⊎-elim
-    (λ (e : x ≡ decision c). (0, omega arith, e))
+    (λ (e : x ≡ decision c .symbol). (0, omega arith, e))
     (λ (e : deviates c x ≡ 1). let r = undeviated f (omega arith) in (suc (r .0), omega (arith, r .1), r .2))
     (deviates-cases c x)
 
 -- columns of a list that all deviate are at most the deviations
 pub count-le : {q : ℕ} {cs : List Column} {w : List ℕ} → Fits q cs w → (p : ℕ → Bool) (i : ℕ)
-    → ((j n : ℕ) → n ≡ i + j → j < length cs → T (p n) → getD w j 0 ≡ decision (column cs j) → ⊥) → length (keep p (countFrom i (length cs))) ≤ deviations cs w
+    → ((j n : ℕ) → n ≡ i + j → j < length cs → T (p n) → getD w j 0 ≡ decision (column cs j) .symbol → ⊥) → length (keep p (countFrom i (length cs))) ≤ deviations cs w
 count-le none p i h = omega arith
 count-le (more {c = c} {cs = cs} {x = x} {w = w} k f) p i h =
     go (p i) refl (count-le f p (suc i) (λ j n e l. h (suc j) n (omega arith) (omega arith))) (deviates-cases c x)
   where
-    go : (b : Bool) → p i ≡ b → length (keep p (countFrom (suc i) (length cs))) ≤ deviations cs w → (x ≡ decision c) ⊎ (deviates c x ≡ 1)
+    go : (b : Bool) → p i ≡ b → length (keep p (countFrom (suc i) (length cs))) ≤ deviations cs w → (x ≡ decision c .symbol) ⊎ (deviates c x ≡ 1)
         → length (cond b (i ∷ keep p (countFrom (suc i) (length cs))) (keep p (countFrom (suc i) (length cs)))) ≤ deviates c x + deviations cs w
     go false e ih d = omega arith
     go true e ih (inl d) = absurd (h 0 i (omega arith) (omega arith) (rw e tt) d)
@@ -106,7 +106,7 @@ module _ (R : Rule) (cs : List Column) (P : Proper R cs) (a : ℕ) where
   pub fits-decisions : Fits (R .size) cs (decisions cs)
   fits-decisions = go cs (λ n h. P .sound n h .below)
     where
-      go : (ds : List Column) → ((n : ℕ) → n < length ds → decision (column ds n) < R .size) → Fits (R .size) ds (decisions ds)
+      go : (ds : List Column) → ((n : ℕ) → n < length ds → decision (column ds n) .symbol < R .size) → Fits (R .size) ds (decisions ds)
       go [] h = none
       go (d ∷ ds) h = more (h 0 (omega arith)) (go ds (λ n k. h (suc n) (omega arith)))
 
@@ -118,14 +118,14 @@ module _ (R : Rule) (cs : List Column) (P : Proper R cs) (a : ℕ) where
 
   module _ (n : ℕ) (l : n < length cs) where
     abbrev pub z : ℕ
-    z = decision (column cs n)
+    z = decision (column cs n) .symbol
 
     pub at-decisions : getD (decisions cs) n 0 ≡ z
-    at-decisions = List·getD-map decision cs n _
+    at-decisions = List·getD-map (λ c. decision c .symbol) cs n blank
 
     pub split-decided : decided R cs ≡ xor (weigh R (column cs n) z) (shift R cs n)
     unfolding decided shift
-    split-decided = rw (total-others xor xors (weigh R) fits-decisions n l, others-map decision cs n, at-decisions)
+    split-decided = rw (total-others xor xors (weigh R) fits-decisions n l, others-map (λ c. decision c .symbol) cs n, at-decisions)
 
     module _ (w : List ℕ) (f : Fits (R .size) cs w) (e : getD w n 0 ≡ z) where
       pub cost-others : costOf R cs w ≡ costOf R (others n cs) (others n w)
@@ -204,7 +204,7 @@ module _ (R : Rule) (cs : List Column) (P : Proper R cs) (a : ℕ) where
           record {
             fits = single-fits;
             few = rw (total-others _+_ sums deviates single-fits m j, single-others, ← few-others m j (decisions cs) fits-decisions (at-decisions m j), decisions-few) (omega (arith, P .one, deviates-small (column cs m) (getD single m 0)));
-            sum = unfold symbol in rw (total-others xor xors (weigh R) single-fits m j, single-at, single-others, P .sound m j .solves target target-small, split-decided m j, others-map decision cs m) (xor-assoc _ _ _);
+            sum = unfold symbol in rw (total-others xor xors (weigh R) single-fits m j, single-at, single-others, P .sound m j .solves target target-small, split-decided m j, others-map (λ c. decision c .symbol) cs m) (xor-assoc _ _ _);
           }
 
     -- a choice with one deviation, in a column other than n, is one for the columns other than n
@@ -263,7 +263,7 @@ module _ (R : Rule) (cs : List Column) (P : Proper R cs) (a : ℕ) where
         omega (arith, w .1 .few, count-le (w .1 .fits) (λ n. ltb (extra R cs a) (sentAt R cs n a)) 0 (clash (w .0) (w .1) (w .2)))
       where
         clash : (w : List ℕ) → Allowed R cs goal w → costOf R cs w ≡ extra R cs a
-            → (j n : ℕ) → n ≡ 0 + j → j < length cs → T (ltb (extra R cs a) (sentAt R cs n a)) → getD w j 0 ≡ decision (column cs j) → ⊥
+            → (j n : ℕ) → n ≡ 0 + j → j < length cs → T (ltb (extra R cs a) (sentAt R cs n a)) → getD w j 0 ≡ decision (column cs j) .symbol → ⊥
         clash w h c j n e l t k =
             let s : extra R cs a < sentAt R cs j a = rw (e, zero-add j) at (ltb→lt (extra R cs a) (sentAt R cs n a) t) in
             omega (arith, sent-below j l w h k)

@@ -4,7 +4,7 @@
 use mathlib.Core.Path.{_≡_}
 use mathlib.Core.Bool.{Bool, cond, _&&_}
 use mathlib.Core.List.{List, [], _∷_, map}
-use Prim.Native.Nat.{ℕ, zero, suc, _+_, _≤_, _<_}
+use Prim.Native.Nat.{ℕ, zero, suc, _+_, _-_, _≤_, _<_}
 use lib.Dec.{leb, eqb}
 use lib.ListN.{length, getD}
 use Rattle.trellis.specs.Lists.{upTo, keep, each, others, smallest}
@@ -37,13 +37,25 @@ firstZero [] = 0
 firstZero (zero ∷ l) = 0
 firstZero (suc x ∷ l) = suc (firstZero l)
 
+-- a hard decision: "the symbol and its margin" (SPEC 2.3)
+pub record Decision : Type 0 where
+  pub symbol : ℕ
+  pub margin : ℕ
+
+-- "the least cost among the other symbols less the least cost of all; a tie has margin 0" (SPEC 2.3)
+unfoldable pub marginOf : List ℕ → ℕ
+marginOf l = smallest (others (firstZero l) l) - smallest l
+
 -- "Its hard decision z_n is the smallest symbol of cost 0." (SPEC 2.3)
-abbrev pub decision : Column → ℕ
-decision c = firstZero (c .costs)
+abbrev pub decide : List ℕ → Decision
+decide l = record { symbol = firstZero l; margin = marginOf l }
+
+abbrev pub decision : Column → Decision
+decision c = decide (c .costs)
 
 -- "A deviation is a column whose chosen symbol is not z_n": 1 at such a symbol, else 0 (SPEC 2.4)
 abbrev pub deviates : Column → ℕ → ℕ
-deviates c x = cond (eqb x (decision c)) 0 1
+deviates c x = cond (eqb x (decision c .symbol)) 0 1
 
 -- h times x
 abbrev pub weigh : Rule → Column → ℕ → ℕ
@@ -98,7 +110,7 @@ unfoldable pub leastCost : Rule → List Column → ℕ → ℕ
 leastCost R cs t = smallest (map (costOf R cs) (keep (allowed? R cs t) (choices (R .size) cs)))
 
 abbrev pub decisions : List Column → List ℕ
-decisions = map decision
+decisions = map (λ c. decision c .symbol)
 
 -- "the sum of all h_k times z_k"
 unfoldable pub decided : Rule → List Column → ℕ

@@ -9,4 +9,5 @@ pub mod Rows
 pub mod Rules
 pub mod Ready
 pub mod Reply
+pub mod Margins
 pub mod Bench
