@@ -14,27 +14,41 @@ use Rattle.trellis.specs.Lists.{pick}
 use Rattle.trellis.specs.Check.{shift, sent}
 use Rattle.trellis.specs.Record.{recordOf, recordLength}
 use Rattle.trellis.specs.Reply.{Reply}
-use Rattle.machine.specs.CodeLine.{Code, size, rule, check}
+use Rattle.machine.specs.CodeLine.{good, Code, size, rule, check}
 use Rattle.machine.specs.Machine.{Last, none, made, State, lastOf, columnsIn, Status, found, notFound, run, records, used, recordIn}
-use Rattle.machine.specs.Decoding.{filled, inBuffers, decoding, Decodes, Accepts, Room, lastUpdate, outcome, LeastSent, Kept, Agree, Demand-3}
+use Rattle.machine.specs.Decoding.{Buffers, storeOf, roomFault, admitted, decodingUnder, decoding, Decodes, Accepts, Room, lastUpdate, outcome, LeastSent, Kept, Agree, Demand-3}
 use Rattle.trellis.proofs.Records.{records-equal}
 use Rattle.trellis.proofs.Loops.{blocks-same, blocks-ext}
 use Rattle.machine.proofs.Lines.{GoodCode, parse-good}
 use Rattle.machine.proofs.Literal.{sent-least}
 use Rattle.machine.proofs.Updates.{IsMade, run-reached, last-made, last-proper, last-record, last-length, length-records}
 
+-- with room in the buffers none of 2, 3, 4 and 19 applies
+pub room-passes : (C : Code) (b : Buffers) → Room C b → roomFault C b ≡ 0
+unfolding roomFault
+room-passes C b M =
+    simp (
+      le-ltb (length (b .symbols)) (C .columns) (M .for-symbols),
+      le-ltb (length (b .costs)) (C .columns * size C) (M .for-costs),
+      le-ltb (length (b .store)) (used C) (M .for-store),
+      le-ltb (length (b .margins)) (C .columns) (M .for-margins),
+    )
+
+pub admits : (code f : List ℕ) (b : Buffers) (C : Code) → Accepts code f C → Room C b → admitted code f b ≡ good C
+unfolding admitted
+admits code f b C A M = rw (A .line, A .fits, room-passes C b M)
+
 -- an accepted call with room in its buffers is filled from the run
-pub accepted-call : (code f y c s : List ℕ) (C : Code) → Accepts code f C → Room C y c s → decoding code f y c s ≡ filled C (run C f) y c s
-unfolding decoding inBuffers
-accepted-call code f y c s C A M =
-    simp (A .line, A .fits, le-ltb (length y) (C .columns) (M .for-symbols), le-ltb (length c) (C .columns * size C) (M .for-costs), le-ltb (length s) (used C) (M .for-store))
+pub accepted-call : (code f : List ℕ) (b : Buffers) (C : Code) → Accepts code f C → Room C b → decoding code f b ≡ decodingUnder (good C) f b
+unfolding decoding
+accepted-call code f b C A M = rw (admits code f b C A M)
 
 module _ (C : Code) (G : GoodCode C) (f : List ℕ) (some : 0 < run C f .end .t) where
   abbrev final : State
   final = run C f .end
 
   -- its store's used part is the records
-  pub used-part : (s : List ℕ) → take (used C) (pick (eqb (final .t) 0) s (records C final ++ drop (used C) s)) ≡ records C final
+  pub used-part : (s : List ℕ) → take (used C) (storeOf C final s) ≡ records C final
   used-part s =
       rw (ne-eqb (final .t) 0 (λ e. omega arith))
       (take-at (records C final) (drop (used C) s) (used C) (length-records C G final (run-reached C G f) some))
@@ -53,15 +67,15 @@ module _ (C : Code) (G : GoodCode C) (f : List ℕ) (some : 0 < run C f .end .t)
       sent-least (rule C) (lastUpdate C f m) (last-proper C G final R some m h) n x (omega (arith, last-made C G final R some m h .count)) l
 
   -- what a decoding of it leaves
-  pub kept : (code y c s z P u : List ℕ) (r : Reply) → Accepts code f C → Room C y c s → Decodes code f y c s r z P u → Kept C f r u
-  kept code y c s z P u r A M D =
-      let e = accepted-call code f y c s C A M in
+  pub kept : (code : List ℕ) (b : Buffers) (r : Reply) (o : Buffers) → Accepts code f C → Room C b → Decodes code f b r o → Kept C f r (o .store)
+  kept code b r o A M D =
+      let e = accepted-call code f b C A M in
       let g : r ≡ outcome (run C f .status) (final .t) = D .replies ∙ ap (λ a. a .reply) e in
       record {
         not-refused = ap (λ a. a .refused) g ∙ never (run C f .status);
         replies = g;
         updated = run-updated;
-        used-part = rw (D .store-then, e) (used-part s);
+        used-part = rw (D .store-then, e) (used-part (b .store));
         sent-least = run-least;
       }
     where
@@ -102,10 +116,10 @@ records-agree C G f f′ i i′ = (
         (last-made C G (run C f .end) (run-reached C G f) i m h .same ∙ sym (last-made C G (run C f′ .end) (run-reached C G f′) i′ m h .same))
 
 pub demand-3 : Demand-3
-demand-3 code C f f′ A A′ i i′ y c s y′ c′ s′ M M′ r r′ z P u z′ P′ u′ D D′ =
+demand-3 code C f f′ A A′ i i′ b b′ M M′ r r′ o o′ D D′ =
     let G : GoodCode C = parse-good code C (A .line) in
-    let k = kept C G f i code y c s z P u r A M D in
-    let k′ = kept C G f′ i′ code y′ c′ s′ z′ P′ u′ r′ A′ M′ D′ in
+    let k = kept C G f i code b r o A M D in
+    let k′ = kept C G f′ i′ code b′ r′ o′ A′ M′ D′ in
     let e = records-agree C G f f′ i i′ in
     record {
       one = k;

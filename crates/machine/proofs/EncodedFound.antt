@@ -16,10 +16,11 @@ use Rattle.trellis.proofs.Tests.{all-of, of-true, to-true}
 use Rattle.trellis.proofs.Places.{length-count}
 use Rattle.machine.specs.CodeLine.{good, Code, size, check, columnOf, zeroIn, parse, frameFault}
 use Rattle.machine.specs.Machine.{symbols, satisfied, settled, start, found, notFound, result, go, run, used}
-use Rattle.machine.specs.Decoding.{Room, decoding, inBuffers, filled}
+use Rattle.machine.specs.Decoding.{Buffers, Room, decoding}
 use Rattle.machine.specs.Encoding.{encodeFault, encoding, Codeword, Undisturbed, FoundAtOnce}
 use Rattle.machine.proofs.Lists.{at-upTo}
 use Rattle.machine.proofs.Encoding.{encode-call}
+use Rattle.machine.proofs.Demand.{accepted-call}
 
 -- the first 0 is where nothing before it is 0
 first-at : (l : List ℕ) (x : ℕ) → x < length l → getD l x 0 ≡ 0 → ((y : ℕ) → y < x → 0 < getD l y 0) → firstZero l ≡ x
@@ -69,14 +70,19 @@ module _ (C : Code) (w f : List ℕ) (W : Codeword C w) (U : Undisturbed C w f) 
       at zero = rw settles refl
       at (suc n) = rw settles refl
 
-  pub found-at-once : (code y c s : List ℕ) → parse code ≡ good C → Room C y c s → FoundAtOnce C w f y c s (decoding code f y c s)
-  unfolding decoding inBuffers
-  found-at-once code y c s e R =
-      rw (e, accepts, le-ltb (length y) (C .columns) (R .for-symbols), le-ltb (length c) (C .columns * q) (R .for-costs), le-ltb (length s) (used C) (R .for-store), runs)
-      record { replies = refl; symbols-are = ap (λ z. z ++ drop (C .columns) y) symbols-are; costs-are = refl; store-is = refl }
+  pub found-at-once : (code : List ℕ) (b : Buffers) → parse code ≡ good C → Room C b → FoundAtOnce C w f b (decoding code f b)
+  found-at-once code b e R =
+      rw (accepted-call code f b C (record { line = e; fits = accepts }) R, runs)
+      record {
+        replies = refl;
+        symbols-are = ap (λ z. z ++ drop (C .columns) (b .symbols)) symbols-are;
+        costs-are = refl;
+        store-is = refl;
+        margins-are = refl;
+      }
 
 -- what `encode` writes, given to `decode` undisturbed
 pub encoded-found : (code u out : List ℕ) (C : Code) → parse code ≡ good C → encodeFault C u (length out) ≡ 0
-    → (f : List ℕ) → Undisturbed C (take (C .columns) (encoding code u out .out)) f → (y c s : List ℕ) → Room C y c s
-    → FoundAtOnce C (take (C .columns) (encoding code u out .out)) f y c s (decoding code f y c s)
-encoded-found code u out C e h f U y c s R = found-at-once C _ f (encode-call code u out C e h .front .word) U code y c s e R
+    → (f : List ℕ) → Undisturbed C (take (C .columns) (encoding code u out .out)) f → (b : Buffers) → Room C b
+    → FoundAtOnce C (take (C .columns) (encoding code u out .out)) f b (decoding code f b)
+encoded-found code u out C e h f U b R = found-at-once C _ f (encode-call code u out C e h .front .word) U code b e R

@@ -5,13 +5,13 @@ use Prim.Native.Nat.{ℕ}
 use lib.ListN.{replicate}
 use Rattle.trellis.specs.Lists.{upTo}
 use Rattle.trellis.specs.Field.{xor}
-use Rattle.trellis.specs.Check.{extra, sentAt, leastCost, choices, shift, decided, sent}
+use Rattle.trellis.specs.Check.{extra, sentAt, leastCost, choices, shift, decided, sent, marginOf}
 use Rattle.trellis.specs.Record.{recordOf, shifts, group, above}
-use Rattle.trellis.specs.Reply.{foundIn}
+use Rattle.trellis.specs.Reply.{foundIn, Reply}
 use Rattle.trellis.specs.Rules.{firstOk}
 use Rattle.machine.specs.CodeLine.{Code, edge, good, parse, checks, checkAt, edges, readEdge, frameFault, rule}
-use Rattle.machine.specs.Machine.{scaled, run, go, iteration, update, spread, arriving, outgoing, incoming, message, settled, symbols, records, place, Status, found, notFound}
-use Rattle.machine.specs.Decoding.{decoding, inBuffers, After, lastUpdate}
+use Rattle.machine.specs.Machine.{scaled, run, go, iteration, update, spread, arriving, outgoing, incoming, message, settled, symbols, records, place, Status, found, notFound, margins}
+use Rattle.machine.specs.Decoding.{lending, roomFault, admitted, decoding, After, lastUpdate}
 
 abbrev line : List ℕ
 line = 2 ∷ 0 ∷ 3 ∷ 1 ∷ 16 ∷ 1 ∷ 3 ∷ 0 ∷ 0 ∷ 1 ∷ 0 ∷ 1 ∷ 1 ∷ 0 ∷ 2 ∷ 1 ∷ []
@@ -38,34 +38,39 @@ frame-4 = 5 ∷ 5 ∷ 0 ∷ 5 ∷ 0 ∷ 0 ∷ 0 ∷ 0 ∷ 0 ∷ 0 ∷ 0 ∷ 0 �
 abbrev frame-0 : List ℕ
 frame-0 = 0 ∷ 5 ∷ 7 ∷ 9 ∷ 0 ∷ 4 ∷ 8 ∷ 3 ∷ 0 ∷ 6 ∷ 2 ∷ 9 ∷ []
 
--- a call with buffers of 4, 13 and 19, one too long each
+-- a call with buffers of 4, 13, 19 and 4, one too long each
 abbrev call : List ℕ → After
-call f = decoding line f (7 ∷ 7 ∷ 7 ∷ 7 ∷ []) (replicate 13 7) (replicate 19 7)
+call f = decoding line f (lending (replicate 4 7) (replicate 13 7) (replicate 19 7) (replicate 4 7))
 
--- found after one iteration: symbols 1, 1, 0, the costs, the record; the last element of each buffer as it was
-pub example-1 : (call frame-1 .reply ≡ foundIn 1) × ((call frame-1 .symbols ≡ 1 ∷ 1 ∷ 0 ∷ 7 ∷ [])
-    × ((call frame-1 .costs ≡ 1 ∷ 0 ∷ 7 ∷ 6 ∷ 1 ∷ 0 ∷ 11 ∷ 1 ∷ 0 ∷ 2 ∷ 1 ∷ 13 ∷ 7 ∷ [])
-    × (call frame-1 .store ≡ 0 ∷ 1 ∷ 1 ∷ 4 ∷ 1 ∷ 5 ∷ 255 ∷ 0 ∷ 2 ∷ 2 ∷ 7 ∷ 255 ∷ 0 ∷ 3 ∷ 1 ∷ 7 ∷ 255 ∷ 0 ∷ 7 ∷ [])))
-unfolding decoding inBuffers parse firstOk checks checkAt edges readEdge frameFault place records run go iteration update spread arriving outgoing incoming message settled symbols sent leastCost choices xor recordOf shifts group above extra sentAt shift decided
-example-1 = (refl, (refl, (refl, refl)))
+-- the reply and the four buffers
+abbrev pub Gives : After → Reply → List ℕ → List ℕ → List ℕ → List ℕ → Type 0
+Gives o r y c s v = (o .reply ≡ r) × ((o .buffers .symbols ≡ y) × ((o .buffers .costs ≡ c) × ((o .buffers .store ≡ s) × (o .buffers .margins ≡ v))))
 
--- found at t = 0: the store is untouched
-pub example-0 : (call frame-0 .reply ≡ foundIn 0) × ((call frame-0 .symbols ≡ 0 ∷ 0 ∷ 0 ∷ 7 ∷ []) × ((call frame-0 .costs ≡ frame-0 ++ (7 ∷ [])) × (call frame-0 .store ≡ replicate 19 7)))
-unfolding decoding inBuffers parse firstOk checks checkAt edges readEdge frameFault place records run go iteration update spread arriving outgoing incoming message settled symbols sent leastCost choices xor recordOf shifts group above extra sentAt shift decided
-example-0 = (refl, (refl, (refl, refl)))
+-- found after one iteration: symbols 1, 1, 0, the costs, the record, margins 1, 1, 1; the last element of each buffer as it was
+pub example-1 : Gives (call frame-1) (foundIn 1) (1 ∷ 1 ∷ 0 ∷ 7 ∷ [])
+    (1 ∷ 0 ∷ 7 ∷ 6 ∷ 1 ∷ 0 ∷ 11 ∷ 1 ∷ 0 ∷ 2 ∷ 1 ∷ 13 ∷ 7 ∷ [])
+    (0 ∷ 1 ∷ 1 ∷ 4 ∷ 1 ∷ 5 ∷ 255 ∷ 0 ∷ 2 ∷ 2 ∷ 7 ∷ 255 ∷ 0 ∷ 3 ∷ 1 ∷ 7 ∷ 255 ∷ 0 ∷ 7 ∷ [])
+    (1 ∷ 1 ∷ 1 ∷ 7 ∷ [])
+unfolding decoding admitted roomFault parse firstOk checks checkAt edges readEdge frameFault place records run go iteration update spread arriving outgoing incoming message settled symbols margins marginOf sent leastCost choices xor recordOf shifts group above extra sentAt shift decided
+example-1 = (refl, (refl, (refl, (refl, refl))))
+
+-- found at t = 0: the store is untouched, the margins are the frame's
+pub example-0 : Gives (call frame-0) (foundIn 0) (0 ∷ 0 ∷ 0 ∷ 7 ∷ []) (frame-0 ++ (7 ∷ [])) (replicate 19 7) (5 ∷ 3 ∷ 2 ∷ 7 ∷ [])
+unfolding decoding admitted roomFault parse firstOk checks checkAt edges readEdge frameFault place records run go iteration update spread arriving outgoing incoming message settled symbols margins marginOf sent leastCost choices xor recordOf shifts group above extra sentAt shift decided
+example-0 = (refl, (refl, (refl, (refl, refl))))
 
 -- equal stores and different symbols
-pub equal-stores : (call frame-1 .store ≡ call frame-2 .store) × (call frame-2 .symbols ≡ 3 ∷ 1 ∷ 2 ∷ 7 ∷ [])
-unfolding decoding inBuffers parse firstOk checks checkAt edges readEdge frameFault place records run go iteration update spread arriving outgoing incoming message settled symbols sent leastCost choices xor recordOf shifts group above extra sentAt shift decided
+pub equal-stores : (call frame-1 .buffers .store ≡ call frame-2 .buffers .store) × (call frame-2 .buffers .symbols ≡ 3 ∷ 1 ∷ 2 ∷ 7 ∷ [])
+unfolding decoding admitted roomFault parse firstOk checks checkAt edges readEdge frameFault place records run go iteration update spread arriving outgoing incoming message settled symbols margins marginOf sent leastCost choices xor recordOf shifts group above extra sentAt shift decided
 equal-stores = (refl, refl)
 
 -- equal sent costs and different stores
 abbrev sentIn : List ℕ → List (List ℕ)
 sentIn f = map (λ n. map (sent (rule code) (lastUpdate code f 0) n) (upTo 4)) (upTo 3)
 
-pub equal-sents : (sentIn frame-3 ≡ sentIn frame-4) × ((call frame-3 .store ≡ 0 ∷ 1 ∷ 1 ∷ 0 ∷ 255 ∷ 0 ∷ 255 ∷ 0 ∷ 0 ∷ 255 ∷ 0 ∷ 255 ∷ 0 ∷ 0 ∷ 255 ∷ 0 ∷ 255 ∷ 0 ∷ 7 ∷ [])
-    × (call frame-4 .store ≡ 0 ∷ 2 ∷ 2 ∷ 0 ∷ 255 ∷ 0 ∷ 255 ∷ 0 ∷ 0 ∷ 255 ∷ 0 ∷ 255 ∷ 0 ∷ 0 ∷ 255 ∷ 0 ∷ 255 ∷ 0 ∷ 7 ∷ []))
-unfolding decoding inBuffers parse firstOk checks checkAt edges readEdge frameFault place records run go iteration update spread arriving outgoing incoming message settled symbols sent leastCost choices xor recordOf shifts group above extra sentAt shift decided
+pub equal-sents : (sentIn frame-3 ≡ sentIn frame-4) × ((call frame-3 .buffers .store ≡ 0 ∷ 1 ∷ 1 ∷ 0 ∷ 255 ∷ 0 ∷ 255 ∷ 0 ∷ 0 ∷ 255 ∷ 0 ∷ 255 ∷ 0 ∷ 0 ∷ 255 ∷ 0 ∷ 255 ∷ 0 ∷ 7 ∷ [])
+    × (call frame-4 .buffers .store ≡ 0 ∷ 2 ∷ 2 ∷ 0 ∷ 255 ∷ 0 ∷ 255 ∷ 0 ∷ 0 ∷ 255 ∷ 0 ∷ 255 ∷ 0 ∷ 0 ∷ 255 ∷ 0 ∷ 255 ∷ 0 ∷ 7 ∷ []))
+unfolding decoding admitted roomFault parse firstOk checks checkAt edges readEdge frameFault place records run go iteration update spread arriving outgoing incoming message settled symbols margins marginOf sent leastCost choices xor recordOf shifts group above extra sentAt shift decided
 equal-sents = (refl, (refl, refl))
 
 -- Columns of the two runs below: a cost is scaled down to a whole number; a difference of 257 is capped; of differences below 0 the least is
@@ -139,59 +144,64 @@ abbrev line-2 : List ℕ
 line-2 = 2 ∷ 0 ∷ 2 ∷ 1 ∷ 16 ∷ 3 ∷ 2 ∷ 0 ∷ 0 ∷ 1 ∷ 0 ∷ 1 ∷ 1 ∷ []
 
 abbrev call-2 : After
-call-2 = decoding line-2 (0 ∷ 5 ∷ 7 ∷ 9 ∷ 4 ∷ 0 ∷ 8 ∷ 3 ∷ []) (replicate 3 7) (replicate 9 7) (replicate 18 7)
+call-2 =
+    decoding line-2 (0 ∷ 5 ∷ 7 ∷ 9 ∷ 4 ∷ 0 ∷ 8 ∷ 3 ∷ []) (lending (replicate 3 7) (replicate 9 7) (replicate 18 7) (replicate 3 7))
 
-pub least-code : (call-2 .reply ≡ foundIn 1) × ((call-2 .symbols ≡ 0 ∷ 0 ∷ 7 ∷ []) × ((call-2 .costs ≡ 0 ∷ 1 ∷ 11 ∷ 8 ∷ 0 ∷ 1 ∷ 11 ∷ 8 ∷ 7 ∷ [])
-    × (call-2 .store ≡ 1 ∷ 0 ∷ 4 ∷ 1 ∷ 5 ∷ 255 ∷ 0 ∷ 3 ∷ 1 ∷ 7 ∷ 255 ∷ 0 ∷ 8 ∷ 1 ∷ 9 ∷ 255 ∷ 0 ∷ 7 ∷ [])))
-unfolding decoding inBuffers parse firstOk checks checkAt edges readEdge frameFault place records run go iteration update spread arriving outgoing incoming message settled symbols sent leastCost choices xor recordOf shifts group above extra sentAt shift decided
-least-code = (refl, (refl, (refl, refl)))
+pub least-code : Gives call-2 (foundIn 1) (0 ∷ 0 ∷ 7 ∷ []) (0 ∷ 1 ∷ 11 ∷ 8 ∷ 0 ∷ 1 ∷ 11 ∷ 8 ∷ 7 ∷ [])
+    (1 ∷ 0 ∷ 4 ∷ 1 ∷ 5 ∷ 255 ∷ 0 ∷ 3 ∷ 1 ∷ 7 ∷ 255 ∷ 0 ∷ 8 ∷ 1 ∷ 9 ∷ 255 ∷ 0 ∷ 7 ∷ [])
+    (1 ∷ 1 ∷ 7 ∷ [])
+unfolding decoding admitted roomFault parse firstOk checks checkAt edges readEdge frameFault place records run go iteration update spread arriving outgoing incoming message settled symbols margins marginOf sent leastCost choices xor recordOf shifts group above extra sentAt shift decided
+least-code = (refl, (refl, (refl, (refl, refl))))
 
 -- refusals, in their order
 pub record Case : Type 0 where
   pub code-bytes : List ℕ
   pub frame-bytes : List ℕ
-  pub room : ℕ × (ℕ × ℕ)
+  pub room : ℕ × (ℕ × (ℕ × ℕ))
   pub gives : ℕ
 
 abbrev answerTo : Case → ℕ
-answerTo c = decoding (c .code-bytes) (c .frame-bytes) (replicate (c .room .0) 7) (replicate (c .room .1 .0) 7) (replicate (c .room .1 .1) 7) .reply .number
+answerTo c =
+    decoding (c .code-bytes) (c .frame-bytes)
+    (lending (replicate (c .room .0) 7) (replicate (c .room .1 .0) 7) (replicate (c .room .1 .1 .0) 7) (replicate (c .room .1 .1 .1) 7)) .reply .number
 
-abbrev case : List ℕ → List ℕ → ℕ → ℕ → ℕ → ℕ → Case
-case l f a b c r = record { code-bytes = l; frame-bytes = f; room = (a, (b, c)); gives = r }
+abbrev case : List ℕ → List ℕ → ℕ → ℕ → ℕ → ℕ → ℕ → Case
+case l f a b c d r = record { code-bytes = l; frame-bytes = f; room = (a, (b, (c, d))); gives = r }
 
 abbrev table : List Case
 table =
-    case [] [] 0 0 0 5 ∷
-    case (1 ∷ 0 ∷ 0 ∷ 0 ∷ 0 ∷ []) [] 0 0 0 5 ∷
-    case (1 ∷ 0 ∷ 0 ∷ 0 ∷ 0 ∷ 0 ∷ []) [] 0 0 0 6 ∷
-    case (7 ∷ 0 ∷ 3 ∷ 1 ∷ 16 ∷ 1 ∷ []) [] 0 0 0 6 ∷
-    case (0x37 ∷ 0 ∷ 3 ∷ 1 ∷ 16 ∷ 1 ∷ []) [] 0 0 0 6 ∷
-    case (0x42 ∷ 0 ∷ 3 ∷ 1 ∷ 16 ∷ 1 ∷ []) [] 0 0 0 6 ∷
-    case (2 ∷ 0 ∷ 0 ∷ 1 ∷ 17 ∷ 1 ∷ []) [] 0 0 0 7 ∷
-    case (2 ∷ 1 ∷ 1 ∷ 1 ∷ 16 ∷ 1 ∷ []) [] 0 0 0 7 ∷
-    case (2 ∷ 0 ∷ 3 ∷ 129 ∷ 16 ∷ 1 ∷ []) [] 0 0 0 7 ∷
-    case (2 ∷ 0 ∷ 3 ∷ 1 ∷ 17 ∷ 1 ∷ []) [] 0 0 0 8 ∷
-    case (2 ∷ 0 ∷ 3 ∷ 1 ∷ 16 ∷ 0 ∷ []) [] 0 0 0 8 ∷
-    case (2 ∷ 0 ∷ 3 ∷ 1 ∷ 16 ∷ 1 ∷ []) [] 0 0 0 5 ∷
-    case (2 ∷ 0 ∷ 3 ∷ 1 ∷ 16 ∷ 1 ∷ 0 ∷ []) [] 0 0 0 9 ∷
-    case (2 ∷ 0 ∷ 3 ∷ 1 ∷ 16 ∷ 1 ∷ 1 ∷ []) [] 0 0 0 9 ∷
-    case (2 ∷ 0 ∷ 3 ∷ 1 ∷ 16 ∷ 1 ∷ 2 ∷ []) [] 0 0 0 5 ∷
-    case (2 ∷ 0 ∷ 3 ∷ 1 ∷ 16 ∷ 1 ∷ 33 ∷ []) [] 0 0 0 9 ∷
-    case (2 ∷ 0 ∷ 3 ∷ 1 ∷ 16 ∷ 1 ∷ 3 ∷ 0 ∷ 9 ∷ []) [] 0 0 0 5 ∷
-    case (2 ∷ 0 ∷ 3 ∷ 1 ∷ 16 ∷ 1 ∷ 3 ∷ 0 ∷ 0 ∷ 4 ∷ 0 ∷ 0 ∷ 1 ∷ 0 ∷ 2 ∷ 1 ∷ []) [] 0 0 0 11 ∷
-    case (2 ∷ 0 ∷ 3 ∷ 1 ∷ 16 ∷ 1 ∷ 3 ∷ 0 ∷ 0 ∷ 3 ∷ 0 ∷ 0 ∷ 1 ∷ 0 ∷ 2 ∷ 1 ∷ []) [] 0 0 0 10 ∷
-    case (line ++ (0 ∷ [])) [] 0 0 0 5 ∷
-    case line [] 0 0 0 12 ∷
-    case line (replicate 12 1) 0 0 0 13 ∷
-    case line frame-0 2 0 0 2 ∷
-    case line frame-0 3 11 0 3 ∷
-    case line frame-0 3 12 17 4 ∷
-    case line frame-0 3 12 18 0 ∷
-    case line-2 (replicate 8 0) 2 8 16 4 ∷
-    case line-2 (replicate 8 0) 2 8 17 0 ∷
-    case (2 ∷ 0 ∷ 1 ∷ 1 ∷ 16 ∷ 3 ∷ 2 ∷ 0 ∷ 0 ∷ 1 ∷ 0 ∷ 1 ∷ 1 ∷ []) [] 0 0 0 10 ∷
+    case [] [] 0 0 0 0 5 ∷
+    case (1 ∷ 0 ∷ 0 ∷ 0 ∷ 0 ∷ []) [] 0 0 0 0 5 ∷
+    case (1 ∷ 0 ∷ 0 ∷ 0 ∷ 0 ∷ 0 ∷ []) [] 0 0 0 0 6 ∷
+    case (7 ∷ 0 ∷ 3 ∷ 1 ∷ 16 ∷ 1 ∷ []) [] 0 0 0 0 6 ∷
+    case (0x37 ∷ 0 ∷ 3 ∷ 1 ∷ 16 ∷ 1 ∷ []) [] 0 0 0 0 6 ∷
+    case (0x42 ∷ 0 ∷ 3 ∷ 1 ∷ 16 ∷ 1 ∷ []) [] 0 0 0 0 6 ∷
+    case (2 ∷ 0 ∷ 0 ∷ 1 ∷ 17 ∷ 1 ∷ []) [] 0 0 0 0 7 ∷
+    case (2 ∷ 1 ∷ 1 ∷ 1 ∷ 16 ∷ 1 ∷ []) [] 0 0 0 0 7 ∷
+    case (2 ∷ 0 ∷ 3 ∷ 129 ∷ 16 ∷ 1 ∷ []) [] 0 0 0 0 7 ∷
+    case (2 ∷ 0 ∷ 3 ∷ 1 ∷ 17 ∷ 1 ∷ []) [] 0 0 0 0 8 ∷
+    case (2 ∷ 0 ∷ 3 ∷ 1 ∷ 16 ∷ 0 ∷ []) [] 0 0 0 0 8 ∷
+    case (2 ∷ 0 ∷ 3 ∷ 1 ∷ 16 ∷ 1 ∷ []) [] 0 0 0 0 5 ∷
+    case (2 ∷ 0 ∷ 3 ∷ 1 ∷ 16 ∷ 1 ∷ 0 ∷ []) [] 0 0 0 0 9 ∷
+    case (2 ∷ 0 ∷ 3 ∷ 1 ∷ 16 ∷ 1 ∷ 1 ∷ []) [] 0 0 0 0 9 ∷
+    case (2 ∷ 0 ∷ 3 ∷ 1 ∷ 16 ∷ 1 ∷ 2 ∷ []) [] 0 0 0 0 5 ∷
+    case (2 ∷ 0 ∷ 3 ∷ 1 ∷ 16 ∷ 1 ∷ 33 ∷ []) [] 0 0 0 0 9 ∷
+    case (2 ∷ 0 ∷ 3 ∷ 1 ∷ 16 ∷ 1 ∷ 3 ∷ 0 ∷ 9 ∷ []) [] 0 0 0 0 5 ∷
+    case (2 ∷ 0 ∷ 3 ∷ 1 ∷ 16 ∷ 1 ∷ 3 ∷ 0 ∷ 0 ∷ 4 ∷ 0 ∷ 0 ∷ 1 ∷ 0 ∷ 2 ∷ 1 ∷ []) [] 0 0 0 0 11 ∷
+    case (2 ∷ 0 ∷ 3 ∷ 1 ∷ 16 ∷ 1 ∷ 3 ∷ 0 ∷ 0 ∷ 3 ∷ 0 ∷ 0 ∷ 1 ∷ 0 ∷ 2 ∷ 1 ∷ []) [] 0 0 0 0 10 ∷
+    case (line ++ (0 ∷ [])) [] 0 0 0 0 5 ∷
+    case line [] 0 0 0 0 12 ∷
+    case line (replicate 12 1) 0 0 0 0 13 ∷
+    case line frame-0 2 0 0 0 2 ∷
+    case line frame-0 3 11 0 0 3 ∷
+    case line frame-0 3 12 17 2 4 ∷
+    case line frame-0 3 12 18 2 19 ∷
+    case line frame-0 3 12 18 3 0 ∷
+    case line-2 (replicate 8 0) 2 8 16 2 4 ∷
+    case line-2 (replicate 8 0) 2 8 17 2 0 ∷
+    case (2 ∷ 0 ∷ 1 ∷ 1 ∷ 16 ∷ 3 ∷ 2 ∷ 0 ∷ 0 ∷ 1 ∷ 0 ∷ 1 ∷ 1 ∷ []) [] 0 0 0 0 10 ∷
     []
 
 pub refusals : map answerTo table ≡ map (λ c. c .gives) table
-unfolding decoding inBuffers parse firstOk checks checkAt edges readEdge frameFault place records run go iteration update spread arriving outgoing incoming message settled symbols sent leastCost choices xor recordOf shifts group above extra sentAt shift decided
+unfolding decoding admitted roomFault parse firstOk checks checkAt edges readEdge frameFault place records run go iteration update spread arriving outgoing incoming message settled symbols margins marginOf sent leastCost choices xor recordOf shifts group above extra sentAt shift decided
 refusals = refl

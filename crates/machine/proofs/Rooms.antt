@@ -1,4 +1,4 @@
--- Buffers of 256 symbols, 16,384 costs and a store of 57,472 bytes are long enough for every accepted code line: 1,024 edges in all, and
+-- Buffers of 256 symbols, 16,384 costs, a store of 57,472 bytes and 256 margins are long enough for every accepted code line: 1,024 edges in all, and
 -- at most 441 bytes more for each of at most 128 records.
 use mathlib.Core.Path.{_≡_, ap, _∙_}
 use mathlib.Core.List.{List, [], _∷_}
@@ -12,7 +12,7 @@ use Rattle.trellis.specs.Record.{groupLength, recordLength}
 use Rattle.trellis.proofs.Rules.{most-few}
 use Rattle.machine.specs.CodeLine.{Edge, Code, size, rule}
 use Rattle.machine.specs.Machine.{place, used}
-use Rattle.machine.specs.Decoding.{Room}
+use Rattle.machine.specs.Decoding.{Buffers, Room}
 use Rattle.machine.proofs.Lines.{GoodCode, edgeTotal}
 
 -- a sum over a list, taken from its front
@@ -46,6 +46,11 @@ module _ (C : Code) (G : GoodCode C) where
   pub costs-high : C .columns * size C ≤ 16384
   costs-high = mul-le-mul (G .columns-high) size-high
 
-  pub roomy : (y c s : List ℕ) → length y ≡ 256 → length c ≡ 16384 → length s ≡ 57472 → Room C y c s
-  roomy y c s i j k =
-      record { for-symbols = omega (arith, G .columns-high); for-costs = omega (arith, costs-high); for-store = omega (arith, used-high) }
+  pub roomy : (b : Buffers) → length (b .symbols) ≡ 256 → length (b .costs) ≡ 16384 → length (b .store) ≡ 57472 → length (b .margins) ≡ 256 → Room C b
+  roomy b i j k l =
+      record {
+        for-symbols = omega (arith, G .columns-high);
+        for-costs = omega (arith, costs-high);
+        for-store = omega (arith, used-high);
+        for-margins = omega (arith, G .columns-high);
+      }

@@ -10,57 +10,80 @@ use Rattle.trellis.specs.Lists.{pick, others, put}
 use Rattle.trellis.specs.Check.{Rule, Column, Fits, deviations, weightedSum, costOf, shift, sent}
 use Rattle.trellis.specs.Reply.{Reply, refusal, foundIn, notFoundIn}
 use Rattle.machine.specs.CodeLine.{Read, good, bad, Code, size, rule, check, parse, frameFault}
-use Rattle.machine.specs.Machine.{made, Status, found, notFound, Result, run, symbols, records, used, lastOf, columnsIn}
+use Rattle.machine.specs.Machine.{made, State, Status, found, notFound, run, symbols, margins, records, used, lastOf, columnsIn}
 
--- the reply, and the three buffers afterwards
-pub record After : Type 0 where
-  pub reply : Reply
+-- the four lent buffers of a decoding, in the order of its parameters
+pub record Buffers : Type 0 where
   pub symbols : List ℕ
   pub costs : List ℕ
   pub store : List ℕ
+  pub margins : List ℕ
+
+abbrev pub lending : List ℕ → List ℕ → List ℕ → List ℕ → Buffers
+lending y c s v = record { symbols = y; costs = c; store = s; margins = v }
+
+-- the reply, and the buffers afterwards
+pub record After : Type 0 where
+  pub reply : Reply
+  pub buffers : Buffers
 
 -- "The result is found (0) or not found (1), with t." (SPEC 6.10)
 abbrev pub outcome : Status → ℕ → Reply
 outcome found t = foundIn t
 outcome notFound t = notFoundIn t
 
--- "The symbol buffer then holds the N decisions, the cost buffer .. holds P, N times q of them, and the record store holds the records ..
--- With t = 0 the store is untouched." "Elements past the used part .. keep their old content." (SPEC 7.6.3, 7.1.5)
-abbrev pub filled : Code → Result → List ℕ → List ℕ → List ℕ → After
-filled C r y c s =
+-- "The symbol buffer then holds the N decisions, the cost buffer .. holds P, N times q of them"; "Decoding fills a second lent buffer with N
+-- margins, 16 bits each, from the final P." "Elements past the used part .. keep their old content." (SPEC 7.6.3, 7.1.5)
+abbrev pub holding : Code → List ℕ → List ℕ → Buffers → Buffers
+holding C P store b =
     record {
-      reply = outcome (r .status) (r .end .t);
-      symbols = symbols C (r .end .costs) ++ drop (C .columns) y;
-      costs = r .end .costs ++ drop (C .columns * size C) c;
-      store = pick (eqb (r .end .t) 0) s (records C (r .end) ++ drop (used C) s);
+      symbols = symbols C P ++ drop (C .columns) (b .symbols);
+      costs = P ++ drop (C .columns * size C) (b .costs);
+      store = store;
+      margins = margins C P ++ drop (C .columns) (b .margins);
     }
 
+-- "the record store holds the records .. With t = 0 the store is untouched." (SPEC 7.6.3)
+abbrev pub storeOf : Code → State → List ℕ → List ℕ
+storeOf C end s = pick (eqb (end .t) 0) s (records C end ++ drop (used C) s)
+
+-- 2, 3, 4, in this order; "19, margin buffer shorter than N, after 4"; 0 for none (SPEC 8.4)
+unfoldable pub roomFault : Code → Buffers → ℕ
+roomFault C b =
+    pick (ltb (length (b .symbols)) (C .columns)) 2
+    (pick (ltb (length (b .costs)) (C .columns * size C)) 3
+    (pick (ltb (length (b .store)) (used C)) 4
+    (pick (ltb (length (b .margins)) (C .columns)) 19
+    0)))
+
+-- "Decode: code, 12, 13, 2, 3, 4.", 19: the code, or the number by which decoding refuses (SPEC 8.4)
+abbrev pub admittedUnder : Read Code → List ℕ → Buffers → Read Code
+admittedUnder (bad k) f b = bad k
+admittedUnder (good C) f b =
+    pick (eqb (frameFault C f) 0) (pick (eqb (roomFault C b) 0) (good C) (bad (roomFault C b))) (bad (frameFault C f))
+
+unfoldable pub admitted : List ℕ → List ℕ → Buffers → Read Code
+admitted code f b = admittedUnder (parse code) f b
+
 -- "A refusal returns its number with t = 0; no lent buffer changes." (SPEC 8.1)
-abbrev pub refused : ℕ → List ℕ → List ℕ → List ℕ → After
-refused k y c s = record { reply = refusal k; symbols = y; costs = c; store = s }
+abbrev pub decodingUnder : Read Code → List ℕ → Buffers → After
+decodingUnder (bad k) f b = record { reply = refusal k; buffers = b }
+decodingUnder (good C) f b =
+    record {
+      reply = outcome (run C f .status) (run C f .end .t);
+      buffers = holding C (run C f .end .costs) (storeOf C (run C f .end) (b .store)) b;
+    }
 
--- 2, 3, 4, in this order (SPEC 8.4)
-unfoldable pub inBuffers : Code → List ℕ → List ℕ → List ℕ → List ℕ → After
-inBuffers C f y c s =
-    pick (ltb (length y) (C .columns)) (refused 2 y c s)
-    (pick (ltb (length c) (C .columns * size C)) (refused 3 y c s)
-    (pick (ltb (length s) (used C)) (refused 4 y c s)
-    (filled C (run C f) y c s)))
-
--- "Decode: code, 12, 13, 2, 3, 4." (SPEC 8.4)
-abbrev pub underCode : Read Code → List ℕ → List ℕ → List ℕ → List ℕ → After
-underCode (bad k) f y c s = refused k y c s
-underCode (good C) f y c s = pick (eqb (frameFault C f) 0) (inBuffers C f y c s) (refused (frameFault C f) y c s)
-
-unfoldable pub decoding : List ℕ → List ℕ → List ℕ → List ℕ → List ℕ → After
-decoding code f y c s = underCode (parse code) f y c s
+unfoldable pub decoding : List ℕ → List ℕ → Buffers → After
+decoding code f b = decodingUnder (admitted code f b) f b
 
 -- what a call of decode promises: its reply, and each buffer afterwards
-pub record Decodes (code frame symbols costs store : List ℕ) (reply : Reply) (symbols′ costs′ store′ : List ℕ) : Type 0 where
-  pub replies : reply ≡ decoding code frame symbols costs store .reply
-  pub symbols-then : symbols′ ≡ decoding code frame symbols costs store .symbols
-  pub costs-then : costs′ ≡ decoding code frame symbols costs store .costs
-  pub store-then : store′ ≡ decoding code frame symbols costs store .store
+pub record Decodes (code frame : List ℕ) (b : Buffers) (reply : Reply) (b′ : Buffers) : Type 0 where
+  pub replies : reply ≡ decoding code frame b .reply
+  pub symbols-then : b′ .symbols ≡ decoding code frame b .buffers .symbols
+  pub costs-then : b′ .costs ≡ decoding code frame b .buffers .costs
+  pub store-then : b′ .store ≡ decoding code frame b .buffers .store
+  pub margins-then : b′ .margins ≡ decoding code frame b .buffers .margins
 
 -- "A frame is accepted under a code line when none of 5 to 13 applies to the two." (SPEC 5.3)
 pub record Accepts (code frame : List ℕ) (C : Code) : Type 0 where
@@ -68,10 +91,11 @@ pub record Accepts (code frame : List ℕ) (C : Code) : Type 0 where
   pub fits : frameFault C frame ≡ 0
 
 -- "buffers long enough" (SPEC 7.6.2)
-pub record Room (C : Code) (symbols costs store : List ℕ) : Type 0 where
-  pub for-symbols : C .columns ≤ length symbols
-  pub for-costs : C .columns * size C ≤ length costs
-  pub for-store : used C ≤ length store
+pub record Room (C : Code) (b : Buffers) : Type 0 where
+  pub for-symbols : C .columns ≤ length (b .symbols)
+  pub for-costs : C .columns * size C ≤ length (b .costs)
+  pub for-store : used C ≤ length (b .store)
+  pub for-margins : C .columns ≤ length (b .margins)
 
 -- the columns of the last update of check m in the run on a frame
 abbrev pub lastUpdate : Code → List ℕ → ℕ → List Column
@@ -120,6 +144,6 @@ abbrev pub Demand-3 : Type 0
 Demand-3 =
     (code : List ℕ) (C : Code) (f f′ : List ℕ) → Accepts code f C → Accepts code f′ C
     → 0 < run C f .end .t → 0 < run C f′ .end .t
-    → (y c s y′ c′ s′ : List ℕ) → Room C y c s → Room C y′ c′ s′
-    → (r r′ : Reply) (z P u z′ P′ u′ : List ℕ) → Decodes code f y c s r z P u → Decodes code f′ y′ c′ s′ r′ z′ P′ u′
-    → Compared C f f′ r r′ u u′
+    → (b b′ : Buffers) → Room C b → Room C b′
+    → (r r′ : Reply) (o o′ : Buffers) → Decodes code f b r o → Decodes code f′ b′ r′ o′
+    → Compared C f f′ r r′ (o .store) (o′ .store)

@@ -11,8 +11,8 @@ use Rattle.trellis.specs.Lists.{pick, allTo}
 use Rattle.trellis.specs.Field.{quotient}
 use Rattle.trellis.specs.Reply.{Reply, accepted, refusal, foundIn}
 use Rattle.machine.specs.CodeLine.{Read, good, bad, Edge, Code, power, size, check, edgeAt, columnOf, parse}
-use Rattle.machine.specs.Machine.{paritySum, satisfied}
-use Rattle.machine.specs.Decoding.{After}
+use Rattle.machine.specs.Machine.{margins, paritySum, satisfied}
+use Rattle.machine.specs.Decoding.{Buffers, After}
 
 -- N - M
 abbrev pub messageLength : Code → ℕ
@@ -104,9 +104,10 @@ pub record Undisturbed (C : Code) (w f : List ℕ) : Type 0 where
   pub free : (n : ℕ) → n < C .columns → getD (columnOf (size C) f n) (getD w n 0) 0 ≡ 0
   pub dear : (n x : ℕ) → n < C .columns → x < size C → x ≢ getD w n 0 → 0 < getD (columnOf (size C) f n) x 0
 
--- a decoding of it that is found at t = 0 with that word: the symbols, the frame as costs, an untouched store
-pub record FoundAtOnce (C : Code) (w f y c s : List ℕ) (o : After) : Type 0 where
+-- a decoding of it that is found at t = 0 with that word: the symbols, the frame as costs, an untouched store, the frame's margins
+pub record FoundAtOnce (C : Code) (w f : List ℕ) (b : Buffers) (o : After) : Type 0 where
   pub replies : o .reply ≡ foundIn 0
-  pub symbols-are : o .symbols ≡ w ++ drop (C .columns) y
-  pub costs-are : o .costs ≡ f ++ drop (C .columns * size C) c
-  pub store-is : o .store ≡ s
+  pub symbols-are : o .buffers .symbols ≡ w ++ drop (C .columns) (b .symbols)
+  pub costs-are : o .buffers .costs ≡ f ++ drop (C .columns * size C) (b .costs)
+  pub store-is : o .buffers .store ≡ b .store
+  pub margins-are : o .buffers .margins ≡ margins C f ++ drop (C .columns) (b .margins)

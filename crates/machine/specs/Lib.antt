@@ -4,6 +4,7 @@ pub mod Line
 pub mod CodeLine
 pub mod Machine
 pub mod Decoding
+pub mod Margins
 pub mod Encoding
 pub mod Printing
 pub mod Program

@@ -6,7 +6,7 @@ use lib.Dec.{eqb}
 use lib.ListN.{length, getD, set, replicate}
 use Rattle.trellis.specs.Lists.{upTo, smallest, pick, upto, allTo, patch, blocks}
 use Rattle.trellis.specs.Field.{xor, product}
-use Rattle.trellis.specs.Check.{Rule, Column, column, firstZero, sent}
+use Rattle.trellis.specs.Check.{Rule, Column, Decision, column, decide, sent}
 use Rattle.trellis.specs.Record.{recordOf, recordLength}
 use Rattle.machine.specs.CodeLine.{Edge, Code, power, size, rule, check, edgeAt, columnOf}
 
@@ -29,9 +29,15 @@ abbrev pub columnsIn : Last → List Column
 columnsIn none = []
 columnsIn (made cs) = cs
 
--- "the decisions (smallest symbol of cost 0 in P_n)" (SPEC 6.2)
+-- "the decisions (smallest symbol of cost 0 in P_n)", each with its margin (SPEC 6.2)
+abbrev pub decisionAt : Code → List ℕ → ℕ → Decision
+decisionAt C P c = decide (columnOf (size C) P c)
+
 unfoldable pub symbols : Code → List ℕ → List ℕ
-symbols C P = map (λ c. firstZero (columnOf (size C) P c)) (upTo (C .columns))
+symbols C P = map (λ c. decisionAt C P c .symbol) (upTo (C .columns))
+
+unfoldable pub margins : Code → List ℕ → List ℕ
+margins C P = map (λ c. decisionAt C P c .margin) (upTo (C .columns))
 
 -- the sum of h times x over the first n edges
 abbrev pub paritySum : ℕ → List Edge → List ℕ → ℕ → ℕ
