@@ -1,4 +1,4 @@
--- Turns and ends of the loops over one column: the first zero, a weight's products.
+-- Turns and ends of the loops over one column: a weight's products.
 use mathlib.Core.Path.{_≡_, refl, sym, ap, _∙_}
 use mathlib.Core.Bool.{cond}
 use mathlib.Core.Logic.{_≢_}
@@ -26,23 +26,6 @@ pub four-divides : (p : ℕ) → 2 ≤ p → 2 ^ p % 4 ≡ 0
 four-divides zero h = absurd (omega arith)
 four-divides (suc zero) h = absurd (omega arith)
 four-divides (suc (suc p)) h = simp unary-clauses (omega arith)
-
-zero-cons : (x : ℕ) (l : List ℕ) → x ≡ 0 → firstZero (x ∷ l) ≡ 0
-zero-cons zero l h = refl
-zero-cons (suc x) l h = absurd (omega arith)
-
-suc-cons : (x : ℕ) (l : List ℕ) → x ≢ 0 → firstZero (x ∷ l) ≡ suc (firstZero l)
-suc-cons zero l h = absurd (h refl)
-suc-cons (suc x) l h = refl
-
-pub zero-here : (s : List ℕ) (i : ℕ) → i < length s → getD s i 0 ≡ 0 → firstZero (drop i s) ≡ 0
-zero-here s i h e = rw (drop-cons s i 0 h) (zero-cons (getD s i 0) (drop (suc i) s) e)
-
-pub zero-later : (s : List ℕ) (i : ℕ) → i < length s → getD s i 0 ≢ 0 → firstZero (drop i s) ≡ suc (firstZero (drop (suc i) s))
-zero-later s i h e = rw (drop-cons s i 0 h) (suc-cons (getD s i 0) (drop (suc i) s) e)
-
-pub zero-none : (s : List ℕ) → firstZero (drop (length s) s) ≡ 0
-zero-none s = rw drop-length
 
 pub products-end : (f : ℕ → ℕ) (n m : ℕ) (l row : List ℕ) → n ≡ m → length l ≡ m → row ≡ tab f n ++ drop n l → row ≡ tab f m
 products-end f n m l row e h o = rw (o, e, ← h, drop-length) (append-nil (tab f (length l)))

@@ -1,7 +1,8 @@
-// The field and one check: product, the packed record of a check's messages, alone and beside the messages, and its expansion.
+// The field and one check: product, a column's hard decision, the packed record of a check's messages, alone and beside the messages, and its expansion.
 mod expansion;
 mod field;
 mod form;
+mod hard_decision;
 mod lines;
 mod num;
 mod products;
@@ -11,7 +12,14 @@ mod table;
 mod tests;
 
 ghost use mathlib.Core.Path.{_≡_};
+ghost use Rattle.trellis.specs.Check.{decide as decideOf};
 ghost use Rattle.checknode.specs.Answers.{elementReply, productReply, writtenReply, checkReply, checkLeaves, messagesReply, messagesLeaves, messagesSent, expandReply, expandLeaves};
+
+// A hard decision: the symbol and its margin.
+pub struct Decision {
+    pub symbol: usize,
+    pub margin: u16,
+}
 
 // A product, or the number of the refusal.
 pub enum Element {
@@ -43,6 +51,14 @@ pub fn product(p: u8, a: u8, b: u8) -> Element
         return Element::Refused(11);
     }
     Element::Is(field::times(p, a, b))
+}
+
+// A column's hard decision, the smallest symbol of cost 0, with its margin: the least cost of the other symbols. Without a cost of 0 it is the
+// number of costs, with margin 0.
+pub fn decide(costs: &[u8]) -> Decision
+    ensures { λ r. ⌜ (r .symbol ≡ decideOf (now (costs .entry)) .symbol) × (r .margin ≡ decideOf (now (costs .entry)) .margin) ⌝ }
+{
+    hard_decision::decide(costs)
 }
 
 // The record of a check: from the first code byte, d weights and d times q costs, column by column, d + (1 + 2k)(q - 1) bytes. Refused: 6, the

@@ -1,5 +1,6 @@
 // The lines of one check: for each column, what is left of 255 after the cost of the symbol in each row. Beside them each weight's products
 // with every symbol are kept, for the sent costs.
+use crate::hard_decision;
 use crate::num;
 use crate::products;
 ghost use mathlib.Core.Path.{_≡_};
@@ -64,22 +65,6 @@ fn place(costs: &[u8], row: &[u8], s: u8, line: &mut [u8])
     }
 }
 
-// The smallest symbol of cost 0, or the number of costs where there is none.
-fn first_zero(costs: &[u8]) -> usize
-    ensures { λ r. ⌜ (r ≡ firstZero (now (costs .entry))) × (r ≤ length (now (costs .entry))) ⌝ }
-{
-    let mut i = 0;
-    loop {
-        if i == costs.len() {
-            break i;
-        }
-        if costs[i] == 0 {
-            break i;
-        }
-        i += 1;
-    }
-}
-
 // One column: its weight's products, and its line. Answers h times z. The line comes cleared: its rows from q on hold no choice, and to
 // clear each line here, where fresh room is zeros already, would be a call for each column.
 fn column(p: u8, h: u8, costs: &[u8], table: &[u8], row: &mut [u8], line: &mut [u8]) -> u8
@@ -92,7 +77,7 @@ fn column(p: u8, h: u8, costs: &[u8], table: &[u8], row: &mut [u8], line: &mut [
     ensures { λ _. ⌜ now (line .exit) ≡ restsFrom p h (now (costs .entry)) (length (now (line .entry))) ⌝ }
 {
     products::fill(p, h, table, row);
-    let z = first_zero(costs);
+    let z = hard_decision::decide(costs).symbol;
     let s = row[z];
     place(costs, row, s, line);
     s

@@ -9,20 +9,20 @@ use Rattle.checknode.proofs.lines.column.Tie as tie
 fill-requires : tie.Need-fill-requires
 fill-requires c κs = search needs
 
-first-zero-requires : tie.Need-first-zero-requires
-first-zero-requires c κs = search needs
+decide-requires : tie.Need-decide-requires
+decide-requires c κs = search needs
 
 slice-read-s : tie.Need-slice-read-s
 slice-read-s c = search needs
 
 place-requires : tie.Need-place-requires
 place-requires c κs =
-    let at-first-zero = c .before .before .before in
-    let at-fill = at-first-zero .before .before .before in
+    let at-decide = c .before .before .before in
+    let at-fill = at-decide .before .before .before in
     let start = at-fill .before .before .before .before .before .before in
     let a = start .args in
     let r = start .pre .1 .1 .0 in (
-      line-room (a .p) (a .h) (a .costs .now) _ (start .pre .0) (at-fill .fill .ensures) (at-first-zero .first-zero .ensures .0)
+      line-room (a .p) (a .h) (a .costs .now) _ (start .pre .0) (at-fill .fill .ensures) (at-decide .decide .ensures .0)
           (r .1 .1 .1) (r .1 .1 .0) (r .1 .0),
       rw (r .1 .1 .0) (four-divides (a .p) (start .pre .0 .low)),
     )
@@ -36,15 +36,15 @@ same-length-2 c = search needs
 returns : tie.Need-returns
 returns c =
     let at-place = c .before .before in
-    let at-first-zero = at-place .before .before .before .before in
-    let at-fill = at-first-zero .before .before .before in
+    let at-decide = at-place .before .before .before .before in
+    let at-fill = at-decide .before .before .before in
     let start = at-fill .before .before .before .before .before .before in
     let a = start .args in
     let r = start .pre .1 .1 .0 in (
-      column-term (a .p) (a .h) (a .costs .now) (at-fill .fill .ensures) (at-first-zero .first-zero .ensures .0) (r .1 .1 .1),
+      column-term (a .p) (a .h) (a .costs .now) (at-fill .fill .ensures) (at-decide .decide .ensures .0) (r .1 .1 .1),
       (
         at-fill .fill .ensures,
-        line-done (a .p) (a .h) (a .costs .now) (length (a .line .now)) (at-fill .fill .ensures) (at-first-zero .first-zero .ensures .0)
+        line-done (a .p) (a .h) (a .costs .now) (length (a .line .now)) (at-fill .fill .ensures) (at-decide .decide .ensures .0)
             (r .1 .1 .1) (r .1 .1 .0) (start .pre .1 .1 .1) (at-place .place .ensures),
       ),
     )
@@ -54,7 +54,7 @@ column-spec =
     tie.close
     (tie.spec
     fill-requires
-    first-zero-requires
+    decide-requires
     slice-read-s
     place-requires
     same-length

@@ -1,0 +1,61 @@
+// The hard decision of a column: the smallest symbol of cost 0, and its margin.
+use crate::Decision;
+use crate::num;
+ghost use mathlib.Core.Path.{_≡_};
+ghost use lib.Dec.{eqb};
+ghost use lib.ListN.{length};
+ghost use Rattle.trellis.specs.Lists.{pick};
+ghost use Rattle.trellis.specs.Check.{decide as decideOf};
+ghost use Rattle.trellis.specs.Margins.{leastBut, marginAt};
+
+// The cost of symbol x; where x is z, no cost is greater.
+fn but(cost: u8, x: usize, z: usize) -> u8
+    ensures { λ r. ⌜ r ≡ pick (eqb x z) 255 cost ⌝ }
+{
+    if x == z { 255 } else { cost }
+}
+
+// The least cost of the symbols other than z.
+fn least_but(costs: &[u8], z: usize) -> u8
+    ensures { λ r. ⌜ r ≡ leastBut 255 (now (costs .entry)) z (length (now (costs .entry))) ⌝ }
+{
+    let mut least: u8 = 255;
+    let mut x = 0;
+    while x < costs.len() {
+        least = num::lower(least, but(costs[x], x, z));
+        x += 1;
+    }
+    least
+}
+
+// What the other symbols cost above symbol z of cost 0; nothing where there is no other.
+fn margin_at(costs: &[u8], z: usize) -> u16
+    ensures { λ r. ⌜ r ≡ marginAt 255 (now (costs .entry)) z ⌝ }
+{
+    if costs.len() < 2 {
+        return 0;
+    }
+    num::wide(least_but(costs, z))
+}
+
+// The search yields by `break`. Without a cost of 0 the symbol is the number of costs.
+pub fn decide(costs: &[u8]) -> Decision
+    ensures { λ r. ⌜ (r .symbol ≡ decideOf (now (costs .entry)) .symbol) × (r .margin ≡ decideOf (now (costs .entry)) .margin) ⌝ }
+{
+    let mut x = 0;
+    loop {
+        if x == costs.len() {
+            break Decision {
+                symbol: x,
+                margin: 0,
+            };
+        }
+        if costs[x] == 0 {
+            break Decision {
+                symbol: x,
+                margin: margin_at(costs, x),
+            };
+        }
+        x += 1;
+    }
+}
