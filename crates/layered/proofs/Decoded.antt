@@ -13,12 +13,13 @@ use lib.Seq.{ext-getD, take-at, drop-at}
 use Rattle.trellis.specs.Lists.{tab, part, allTo, pick}
 use Rattle.trellis.specs.Check.{firstZero}
 use Rattle.trellis.specs.Rules.{firstOk, sizeOf}
+use Rattle.trellis.proofs.Margins.{first-most}
 use Rattle.trellis.proofs.Loops.{tab-whole, length-tab, getD-tab}
 use Rattle.trellis.specs.Reply.{Reply, refusal}
-use Rattle.machine.specs.CodeLine.{good, Code, numbersOf, parse, size, columnOf, zeroIn, frameFault}
-use Rattle.machine.specs.Machine.{none as none′, Status, lastOf, symbols, start, run, used}
+use Rattle.machine.specs.CodeLine.{good, bad, Code, numbersOf, parse, size, columnOf, zeroIn, frameFault}
+use Rattle.machine.specs.Machine.{none as none′, Status, lastOf, symbols, margins, start, run, used}
 use Rattle.machine.specs.Lent.{Lent, Ended, ended, goLent}
-use Rattle.machine.specs.Decoding.{After, outcome, filled, refused, inBuffers, underCode, decoding, Decodes}
+use Rattle.machine.specs.Decoding.{Buffers, After, lending, outcome, storeOf, roomFault as faultOfRoom, admittedUnder, admitted, decodingUnder, decoding, Decodes, Room}
 use Rattle.machine.specs.Tables.{Tabled}
 use Rattle.machine.proofs.Lines.{parse-good}
 use Rattle.machine.proofs.Ranges.{frame-ranged}
@@ -32,12 +33,12 @@ use Rattle.layered.specs.declared.Outcome.the-variants.{Found, NotFound}
 use Rattle.layered.specs.declared.Answer.the-variants.{Decoded}
 use Rattle.layered.specs.Answers.{answerReply}
 use Rattle.layered.specs.Columns.{Below}
-use Rattle.layered.specs.Parity.{decisionsOf}
+use Rattle.layered.specs.Parity.{decisionsOf, marginsOf}
 use Rattle.layered.specs.Passes.{graph, lent, placeAt, goOn, endedIn, Tables, RunRoom}
-use Rattle.layered.specs.Frames.{frameFaultOf, roomFault, faultOf, Coded, CodeRoom, Leaves}
+use Rattle.layered.specs.Frames.{frameFaultOf, roomFault, faultOf, decodingOf, Coded, CodeRoom, Leaves}
 use Rattle.layered.proofs.Columns.{length-part}
 use Rattle.machine.proofs.Lists.{all-not}
-use Rattle.layered.proofs.Passes.{place-is, symbols-are, tables-go}
+use Rattle.layered.proofs.Passes.{place-is, symbols-are, margins-are, tables-go}
 
 -- the frame copied whole
 list-tab : (l : List ℕ) → tab (λ k. getD l k 0) (length l) ≡ l
@@ -51,11 +52,11 @@ module _ (q n c z : ℕ) (f : List ℕ) (room : c * q + q ≤ length f) (e : z �
   whole : part f (c * q) (c * q + q - c * q) ≡ columnOf q f c
   whole = ap (λ k. part f (c * q) k) (add-sub-cancel-left (c * q) q)
 
-  pub zeros-more : z ≤ length (part f (c * q) (c * q + q - c * q)) → (z ≡ q → ⊥) → allTo (zeroIn q f) c ≡ true → allTo (zeroIn q f) (c + 1) ≡ true
-  zeros-more l h o =
+  pub zeros-more : (z ≡ q → ⊥) → allTo (zeroIn q f) c ≡ true → allTo (zeroIn q f) (c + 1) ≡ true
+  zeros-more h o =
       let i : z ≡ firstZero (columnOf q f c) = e ∙ ap firstZero whole in
       let k : length (columnOf q f c) ≡ q = length-part f (c * q) q room in
-      let j : firstZero (columnOf q f c) < q = omega (arith, ap length whole) in
+      let j : firstZero (columnOf q f c) < q = omega (arith, first-most (columnOf q f c)) in
       rw (add-one c, o) (lt-ltb (firstZero (columnOf q f c)) q j)
 
   pub zeros-not : z ≡ q → c < n → allTo (zeroIn q f) n ≡ false
@@ -80,48 +81,49 @@ frame-counted first n f h = go (eqb (length f) (n * sizeOf first)) refl (allTo (
     go false e b h = absurd (omega arith)
 
 -- all tests after the code
-module _ (first n : ℕ) (ds f : List ℕ) (y c s k : ℕ) (e : k ≡ frameFaultOf first n f) where
-  pub fault-frame : (k ≡ 0 → ⊥) → k ≡ faultOf first n ds f y c s
+module _ (first n : ℕ) (ds f : List ℕ) (y c s v k : ℕ) (e : k ≡ frameFaultOf first n f) where
+  pub fault-frame : (k ≡ 0 → ⊥) → k ≡ faultOf first n ds f y c s v
   unfolding faultOf
   fault-frame h = e ∙ rw (ne-eqb (frameFaultOf first n f) 0 (λ z. h (e ∙ z)))
 
-  pub fault-room : k ≡ 0 → (w u r : ℕ) → w ≡ length f → u ≡ placeAt first ds (length ds) → r ≡ roomFault n w u y c s → r ≡ faultOf first n ds f y c s
+  pub fault-room : k ≡ 0 → (w u r : ℕ) → w ≡ length f → u ≡ placeAt first ds (length ds) → r ≡ roomFault n w u y c s v → r ≡ faultOf first n ds f y c s v
   unfolding faultOf
   fault-room h w u r i j o = o ∙ rw (i, j, frame-counted first n f (sym e ∙ h), eq-eqb (frameFaultOf first n f) 0 (sym e ∙ h))
 
 -- decoding by the number of its refusal, 0 for none
-module _ (C : Code) (f y c s : List ℕ) where
+module _ (C : Code) (f : List ℕ) (b : Buffers) where
   abbrev faultIn : ℕ
-  faultIn = pick (eqb (frameFault C f) 0) (roomFault (C .columns) (C .columns * size C) (used C) (length y) (length c) (length s)) (frameFault C f)
+  faultIn = pick (eqb (frameFault C f) 0) (faultOfRoom C b) (frameFault C f)
 
-  by-fault : underCode (good C) f y c s ≡ pick (eqb faultIn 0) (filled C (run C f) y c s) (refused faultIn y c s)
-  unfolding inBuffers roomFault
+  by-fault : decodingOf C f b ≡ pick (eqb faultIn 0) (decodingUnder (good C) f b) (decodingUnder (bad faultIn) f b)
   by-fault = go (eqb (frameFault C f) 0) refl
     where
-      rooms : (a b d : Bool) (A : After) → pick a (refused 2 y c s) (pick b (refused 3 y c s) (pick d (refused 4 y c s) A))
-          ≡ pick (eqb (pick a 2 (pick b 3 (pick d 4 0))) 0) A (refused (pick a 2 (pick b 3 (pick d 4 0))) y c s)
-      rooms true b d A = refl
-      rooms false true d A = refl
-      rooms false false true A = refl
-      rooms false false false A = refl
+      picked : (i : Bool) (k : ℕ) → decodingUnder (pick i (good C) (bad k)) f b ≡ pick i (decodingUnder (good C) f b) (decodingUnder (bad k) f b)
+      picked true k = refl
+      picked false k = refl
 
-      go : (b : Bool) → eqb (frameFault C f) 0 ≡ b
-          → pick b (inBuffers C f y c s) (refused (frameFault C f) y c s)
-          ≡ pick (eqb (pick b (roomFault (C .columns) (C .columns * size C) (used C) (length y) (length c) (length s)) (frameFault C f)) 0) (filled C (run C f) y c s)
-          (refused (pick b (roomFault (C .columns) (C .columns * size C) (used C) (length y) (length c) (length s)) (frameFault C f)) y c s)
-      go true e = rooms (ltb (length y) (C .columns)) (ltb (length c) (C .columns * size C)) (ltb (length s) (used C)) (filled C (run C f) y c s)
+      go : (i : Bool) → eqb (frameFault C f) 0 ≡ i
+          → decodingUnder (pick i (pick (eqb (faultOfRoom C b) 0) (good C) (bad (faultOfRoom C b))) (bad (frameFault C f))) f b
+          ≡ pick (eqb (pick i (faultOfRoom C b) (frameFault C f)) 0) (decodingUnder (good C) f b) (decodingUnder (bad (pick i (faultOfRoom C b) (frameFault C f))) f b)
+      go true e = picked (eqb (faultOfRoom C b) 0) (faultOfRoom C b)
       go false e = rw e
 
 -- what no refusal says of the buffers
-room-none : (n w u y c s : ℕ) → roomFault n w u y c s ≡ 0 → (n ≤ y) × ((w ≤ c) × (u ≤ s))
-unfolding roomFault
-room-none n w u y c s h = go (ltb y n) refl (ltb c w) refl (ltb s u) refl h
+room-none : (C : Code) (b : Buffers) → faultOfRoom C b ≡ 0 → Room C b
+unfolding faultOfRoom
+room-none C b h =
+    go (ltb (length (b .symbols)) (C .columns)) refl (ltb (length (b .costs)) (C .columns * size C)) refl (ltb (length (b .store)) (used C)) refl
+    (ltb (length (b .margins)) (C .columns)) refl h
   where
-    go : (a : Bool) → ltb y n ≡ a → (b : Bool) → ltb c w ≡ b → (d : Bool) → ltb s u ≡ d → _≡_ {A = ℕ} (pick a 2 (pick b 3 (pick d 4 0))) 0 → (n ≤ y) × ((w ≤ c) × (u ≤ s))
-    go true a b i d j h = absurd (omega arith)
-    go false a true i d j h = absurd (omega arith)
-    go false a false i true j h = absurd (omega arith)
-    go false a false i false j h = (ltb-false y n a, (ltb-false c w i, ltb-false s u j))
+    go : (i : Bool) → ltb (length (b .symbols)) (C .columns) ≡ i → (j : Bool) → ltb (length (b .costs)) (C .columns * size C) ≡ j
+        → (k : Bool) → ltb (length (b .store)) (used C) ≡ k → (l : Bool) → ltb (length (b .margins)) (C .columns) ≡ l
+        → _≡_ {A = ℕ} (pick i 2 (pick j 3 (pick k 4 (pick l 19 0)))) 0 → Room C b
+    go true a j c k d l e h = absurd (omega arith)
+    go false a true c k d l e h = absurd (omega arith)
+    go false a false c true d l e h = absurd (omega arith)
+    go false a false c false d true e h = absurd (omega arith)
+    go false a false c false d false e h =
+        record { for-symbols = ltb-false _ _ a; for-costs = ltb-false _ _ c; for-store = ltb-false _ _ d; for-margins = ltb-false _ _ e }
 
 -- no number but 0 in two steps
 split-fault : (x r : ℕ) → pick (eqb x 0) r x ≡ 0 → (x ≡ 0) × (r ≡ 0)
@@ -159,36 +161,39 @@ module _ (C : Code) (first n m g limit : ℕ) (ds cs ws : List ℕ) (H : Coded C
   used-is : placeAt first (take m ds) (length (take m ds)) ≡ used C
   used-is = rw (degree-count, H .first-is, coded-tables .degrees-is) (place-is C cs ws (H .tabled .columns) (H .tabled .weights) (length (C .checks)))
 
-  module _ (f y c s : List ℕ) (k : ℕ) (e : k ≡ faultOf first n (take m ds) f (length y) (length c) (length s)) where
-    fault-is : k ≡ faultIn C f y c s
-    unfolding faultOf frameFaultOf frameFault
+  module _ (f y c s v : List ℕ) (k : ℕ) (e : k ≡ faultOf first n (take m ds) f (length y) (length c) (length s) (length v)) where
+    abbrev b : Buffers
+    b = lending y c s v
+
+    fault-is : k ≡ faultIn C f b
+    unfolding faultOf frameFaultOf frameFault roomFault faultOfRoom
     fault-is = e ∙ rw (used-is, H .first-is, H .columns-is)
 
     -- a refusal
-    pub refused-leaves : (k ≡ 0 → ⊥) → Leaves (underCode (good C) f y c s) (refusal k) y c s
+    pub refused-leaves : (k ≡ 0 → ⊥) → Leaves (decodingOf C f b) (refusal k) b
     refused-leaves h =
-        let x : underCode (good C) f y c s ≡ refused k y c s = by-fault C f y c s ∙ rw (← fault-is, ne-eqb k 0 h) in
-        rw x record { replies = refl; symbols-then = refl; costs-then = refl; store-then = refl }
+        let x : decodingOf C f b ≡ decodingUnder (bad k) f b = by-fault C f b ∙ rw (← fault-is, ne-eqb k 0 h) in
+        rw x record { replies = refl; symbols-then = refl; costs-then = refl; store-then = refl; margins-then = refl }
 
     -- no refusal
     module _ (z : k ≡ 0) where
-      none : (frameFault C f ≡ 0) × (roomFault (C .columns) (C .columns * size C) (used C) (length y) (length c) (length s) ≡ 0)
+      none : (frameFault C f ≡ 0) × (faultOfRoom C b ≡ 0)
       none = split-fault (frameFault C f) _ (sym fault-is ∙ z)
 
-      rooms : (C .columns ≤ length y) × ((C .columns * size C ≤ length c) × (used C ≤ length s))
-      rooms = room-none _ _ _ _ _ _ (none .1)
+      rooms : Room C b
+      rooms = room-none C b (none .1)
 
       pub frame-length : length f ≡ n * sizeOf first
       unfolding frameFaultOf frameFault
       frame-length = rw (H .first-is, H .columns-is) (frame-counted (C .first) (C .columns) f (none .0))
 
       -- the buffers have room
-      pub fits : (n ≤ length y) × (length f ≤ length c)
-      fits = rw (frame-length, H .first-is, H .columns-is) (rooms .0, rooms .1 .0)
+      pub fits : (n ≤ length y) × ((length f ≤ length c) × (n ≤ length v))
+      fits = rw (frame-length, H .first-is, H .columns-is) (rooms .for-symbols, (rooms .for-costs, rooms .for-margins))
 
       -- the run starts on the frame with no record
       pub start-room : Below 255 f → (P x : List ℕ) → P ≡ f → length x ≡ n → RunRoom (graph first g (take m ds) cs ws) true P s x
-      start-room b P x i l =
+      start-room d P x i l =
           let no-record : (j : ℕ) → j < length (C .checks) → lastOf (start C f) j ≡ none′ = λ j h. getD-replicate (length (C .checks)) j none′ none′ h in
           record {
             running = record {
@@ -196,63 +201,73 @@ module _ (C : Code) (first n m g limit : ℕ) (ds cs ws : List ℕ) (H : Coded C
               good = H .good;
               tables = coded-tables;
               old = s;
-              room = rooms .1 .1;
+              room = rooms .for-store;
               state = start C f;
               kept = record { full = length-replicate (length (C .checks)) none′; fine = λ j h. rw (no-record j h) tt };
               when = no-record;
-              ranged = frame-ranged C f (none .0) b;
-              holds = ap₂ lent i (sym (held-none C (H .good) s (rooms .1 .1) (start C f) no-record));
+              ranged = frame-ranged C f (none .0) d;
+              holds = ap₂ lent i (sym (held-none C (H .good) s (rooms .for-store) (start C f) no-record));
             };
             symbols = l ∙ H .columns-is;
           }
 
       -- and leaves what the machine's run leaves
-      pub run-leaves : (o : Outcome) (P x u : List ℕ) → endedIn o (lent P u) ≡ goOn (graph first g (take m ds) cs ws) n limit 0 (lent f s) → x ≡ decisionsOf (sizeOf first) P n
-          → Leaves (underCode (good C) f y c s) (answerReply (Decoded o)) (x ++ drop n y) (P ++ drop (length f) c) u
-      run-leaves o P x u i j =
-          let a : endedIn o (lent P u) ≡ goLent C (C .limit) 0 (lent f s) =
-          i ∙ ap₂ (λ a b. goOn (graph first g (take m ds) cs ws) a b 0 (lent f s)) (H .columns-is) (H .limit-is) ∙ tables-go C first g (take m ds) cs ws coded-tables (C .limit) 0 (lent f s) in
-          let b = reply-is o (lent P u) _ _ _ (a ∙ run-stands C (H .good) s (rooms .1 .1) f) in
-          let d : P ≡ run C f .end .costs = ap (λ (l : Lent). l .costs) (b .1) in
-          let q : x ≡ symbols C (run C f .end .costs) =
-          j ∙ ap₂ (λ a b. decisionsOf (sizeOf a) P b) (H .first-is) (H .columns-is) ∙ ap (λ l. decisionsOf (size C) l (C .columns)) d ∙ symbols-are C cs ws (H .tabled .columns) (H .tabled .weights) (run C f .end .costs) in
-          let w : length f ≡ C .columns * size C = frame-length ∙ ap₂ (λ a b. a * sizeOf b) (H .columns-is) (H .first-is) in
-          let v : underCode (good C) f y c s ≡ filled C (run C f) y c s = by-fault C f y c s ∙ rw (← fault-is, eq-eqb k 0 z) in
-          rw v
-          record {
-            replies = b .0;
-            symbols-then = ap₂ (λ a b. a ++ drop b y) q (H .columns-is);
-            costs-then = ap₂ (λ a b. a ++ drop b c) d w;
-            store-then = ap (λ (l : Lent). l .store) (b .1);
-          }
+      module _ (o : Outcome) (P x u x′ : List ℕ) (i : endedIn o (lent P u) ≡ goOn (graph first g (take m ds) cs ws) n limit 0 (lent f s)) where
+        ends : (answerReply (Decoded o) ≡ outcome (run C f .status) (run C f .end .t)) × (lent P u ≡ lent (run C f .end .costs) (storeOf C (run C f .end) s))
+        ends =
+            let a : endedIn o (lent P u) ≡ goLent C (C .limit) 0 (lent f s) =
+            i ∙ ap₂ (λ a b. goOn (graph first g (take m ds) cs ws) a b 0 (lent f s)) (H .columns-is) (H .limit-is) ∙ tables-go C first g (take m ds) cs ws coded-tables (C .limit) 0 (lent f s) in
+            reply-is o (lent P u) _ _ _ (a ∙ run-stands C (H .good) s (rooms .for-store) f)
+
+        costs-are : P ≡ run C f .end .costs
+        costs-are = ap (λ (l : Lent). l .costs) (ends .1)
+
+        pub run-leaves : x ≡ decisionsOf (sizeOf first) P n → x′ ≡ marginsOf (sizeOf first) P n
+            → Leaves (decodingOf C f b) (answerReply (Decoded o)) (lending (x ++ drop n y) (P ++ drop (length f) c) u (x′ ++ drop n v))
+        run-leaves j j′ =
+            let q : x ≡ symbols C (run C f .end .costs) =
+            j ∙ ap₂ (λ a b. decisionsOf (sizeOf a) P b) (H .first-is) (H .columns-is) ∙ ap (λ l. decisionsOf (size C) l (C .columns)) costs-are ∙ symbols-are C cs ws (H .tabled .columns) (H .tabled .weights) (run C f .end .costs) in
+            let q′ : x′ ≡ margins C (run C f .end .costs) =
+            j′ ∙ ap₂ (λ a b. marginsOf (sizeOf a) P b) (H .first-is) (H .columns-is) ∙ ap (λ l. marginsOf (size C) l (C .columns)) costs-are ∙ margins-are C cs ws (H .tabled .columns) (H .tabled .weights) (run C f .end .costs) in
+            let w : length f ≡ C .columns * size C = frame-length ∙ ap₂ (λ a b. a * sizeOf b) (H .columns-is) (H .first-is) in
+            let d : decodingOf C f b ≡ decodingUnder (good C) f b = by-fault C f b ∙ rw (← fault-is, eq-eqb k 0 z) in
+            rw d
+            record {
+              replies = ends .0;
+              symbols-then = ap₂ (λ a b. a ++ drop b y) q (H .columns-is);
+              costs-then = ap₂ (λ a b. a ++ drop b c) costs-are w;
+              store-then = ap (λ (l : Lent). l .store) (ends .1);
+              margins-then = ap₂ (λ a b. a ++ drop b v) q′ (H .columns-is);
+            }
 
       -- the same with the costs copied into the front of the cost buffer
-      module _ (v : List ℕ) (i : v ≡ f) where
-        copied-front : take (length f) (v ++ drop (length f) c) ≡ f
+      module _ (f′ : List ℕ) (i : f′ ≡ f) where
+        copied-front : take (length f) (f′ ++ drop (length f) c) ≡ f
         copied-front = ap (λ a. take (length f) (a ++ drop (length f) c)) i ∙ take-at f (drop (length f) c) (length f) refl
 
-        pub copied-room : Below 255 f → (x : List ℕ) → length x ≡ n → RunRoom (graph first g (take m ds) cs ws) true (take (length f) (v ++ drop (length f) c)) s x
-        copied-room b x l = start-room b _ x copied-front l
+        pub copied-room : Below 255 f → (x : List ℕ) → length x ≡ n → RunRoom (graph first g (take m ds) cs ws) true (take (length f) (f′ ++ drop (length f) c)) s x
+        copied-room d x l = start-room d _ x copied-front l
 
-        pub copied-leaves : (o : Outcome) (P x u w : List ℕ) → length w ≡ n
-            → endedIn o (lent P u) ≡ goOn (graph first g (take m ds) cs ws) (length w) limit 0 (lent (take (length f) (v ++ drop (length f) c)) s)
-            → x ≡ decisionsOf (sizeOf first) P (length w)
-            → Leaves (underCode (good C) f y c s) (answerReply (Decoded o)) (x ++ drop n y) (P ++ drop (length f) (v ++ drop (length f) c)) u
-        copied-leaves o P x u w l a b =
-            let d : drop (length f) (v ++ drop (length f) c) ≡ drop (length f) c = ap (λ a. drop (length f) (a ++ drop (length f) c)) i ∙ drop-at f (drop (length f) c) (length f) refl in
-            rw d (run-leaves o P x u (a ∙ ap₂ (λ k q. goOn (graph first g (take m ds) cs ws) k limit 0 (lent q s)) l copied-front) (b ∙ ap (decisionsOf (sizeOf first) P) l))
+        pub copied-leaves : (o : Outcome) (P x u x′ w w′ : List ℕ) → length w ≡ n → length w′ ≡ n
+            → endedIn o (lent P u) ≡ goOn (graph first g (take m ds) cs ws) (length w) limit 0 (lent (take (length f) (f′ ++ drop (length f) c)) s)
+            → x ≡ decisionsOf (sizeOf first) P (length w) → x′ ≡ marginsOf (sizeOf first) P (length w′)
+            → Leaves (decodingOf C f b) (answerReply (Decoded o)) (lending (x ++ drop n y) (P ++ drop (length f) (f′ ++ drop (length f) c)) u (x′ ++ drop n v))
+        copied-leaves o P x u x′ w w′ l l′ a j j′ =
+            let d : drop (length f) (f′ ++ drop (length f) c) ≡ drop (length f) c = ap (λ a. drop (length f) (a ++ drop (length f) c)) i ∙ drop-at f (drop (length f) c) (length f) refl in
+            rw d (run-leaves o P x u x′ (a ∙ ap₂ (λ k q. goOn (graph first g (take m ds) cs ws) k limit 0 (lent q s)) l copied-front) (j ∙ ap (decisionsOf (sizeOf first) P) l) (j′ ∙ ap (marginsOf (sizeOf first) P) l′))
 
 -- what the reader's answer says of the line
 module _ (s₀ : List ℕ) (h : Header) (e : headerNumbers h ≡ numbersOf (parse s₀)) where
-  pub refused-decodes : (k : ℕ) → h ≡ HeaderRefused k → (f y c s : List ℕ) → Decodes s₀ f y c s (refusal k) y c s
-  unfolding decoding
-  refused-decodes k i f y c s =
-      let x : underCode (parse s₀) f y c s ≡ refused k y c s = ap (λ r. underCode r f y c s) (header-refused s₀ h e k i) in
+  pub refused-decodes : (k : ℕ) → h ≡ HeaderRefused k → (f : List ℕ) (b : Buffers) → Decodes s₀ f b (refusal k) b
+  unfolding decoding admitted
+  refused-decodes k i f b =
+      let x : decoding s₀ f b ≡ decodingUnder (bad k) f b = ap (λ r. decodingUnder (admittedUnder r f b) f b) (header-refused s₀ h e k i) in
       record {
         replies = sym (ap (λ (a : After). a .reply) x);
-        symbols-then = sym (ap (λ (a : After). a .symbols) x);
-        costs-then = sym (ap (λ (a : After). a .costs) x);
-        store-then = sym (ap (λ (a : After). a .store) x);
+        symbols-then = sym (ap (λ (a : After). a .buffers .symbols) x);
+        costs-then = sym (ap (λ (a : After). a .buffers .costs) x);
+        store-then = sym (ap (λ (a : After). a .buffers .store) x);
+        margins-then = sym (ap (λ (a : After). a .buffers .margins) x);
       }
 
   module _ (first n m g limit : ℕ) (i : h ≡ HeaderRead first n m g limit) where
@@ -276,16 +291,17 @@ module _ (s₀ : List ℕ) (h : Header) (e : headerNumbers h ≡ numbersOf (pars
       pub coded-room : (A S : List ℕ) → length A ≡ 2048 → length S ≡ 2048 → CodeRoom first N M G limit ds cs ws A S
       coded-room A S a b = record { code = read .code; coded = coded; arrived = omega arith; sent = omega arith }
 
-      pub coded-decodes : (f y c s : List ℕ) (r : Reply) (y′ c′ s′ : List ℕ)
-          → ((C : Code) → Coded C first N M G limit ds cs ws → Leaves (underCode (good C) f y c s) r y′ c′ s′)
-          → Decodes s₀ f y c s r y′ c′ s′
-      unfolding decoding
-      coded-decodes f y c s r y′ c′ s′ L =
-          let x : underCode (parse s₀) f y c s ≡ underCode (good (read .code)) f y c s = ap (λ a. underCode a f y c s) (read .parsed) in
+      pub coded-decodes : (f : List ℕ) (b : Buffers) (r : Reply) (b′ : Buffers)
+          → ((C : Code) → Coded C first N M G limit ds cs ws → Leaves (decodingOf C f b) r b′)
+          → Decodes s₀ f b r b′
+      unfolding decoding admitted
+      coded-decodes f b r b′ L =
+          let x : decoding s₀ f b ≡ decodingOf (read .code) f b = ap (λ a. decodingUnder (admittedUnder a f b) f b) (read .parsed) in
           let v = L (read .code) coded in
           record {
             replies = v .replies ∙ sym (ap (λ (a : After). a .reply) x);
-            symbols-then = v .symbols-then ∙ sym (ap (λ (a : After). a .symbols) x);
-            costs-then = v .costs-then ∙ sym (ap (λ (a : After). a .costs) x);
-            store-then = v .store-then ∙ sym (ap (λ (a : After). a .store) x);
+            symbols-then = v .symbols-then ∙ sym (ap (λ (a : After). a .buffers .symbols) x);
+            costs-then = v .costs-then ∙ sym (ap (λ (a : After). a .buffers .costs) x);
+            store-then = v .store-then ∙ sym (ap (λ (a : After). a .buffers .store) x);
+            margins-then = v .margins-then ∙ sym (ap (λ (a : After). a .buffers .margins) x);
           }

@@ -9,17 +9,17 @@ use native.Mathlib.Omega.{arith}
 use lib.Dec.{eqb}
 use lib.ListN.{length, take, getD}
 use Rattle.trellis.specs.Lists.{upto, allTo}
-use Rattle.trellis.specs.Check.{firstZero}
+use Rattle.trellis.specs.Check.{firstZero, marginOf}
 use Rattle.trellis.specs.Record.{groupLength, recordLength}
 use Rattle.trellis.specs.Rules.{powerOf, sizeOf, firstOk, ruleFor}
 use Rattle.trellis.proofs.Recurrence.{size-64}
 use Rattle.trellis.proofs.Rules.{first-power, most-few}
 use Rattle.machine.specs.CodeLine.{Code, power, size, rule, check, columnOf}
-use Rattle.machine.specs.Machine.{found, notFound, symbols, paritySum, settled, place}
+use Rattle.machine.specs.Machine.{found, notFound, symbols, margins, paritySum, settled, place}
 use Rattle.machine.specs.Tables.{tablesOf, before, sumFrom}
 use Rattle.machine.specs.Lent.{Lent, turn, pass, ended, goLent}
 use Rattle.machine.proofs.Places.{count, degree-at, edges-at, sum-flat}
-use Rattle.layered.specs.Parity.{decisionsOf, allHold}
+use Rattle.layered.specs.Parity.{decisionsOf, marginsOf, allHold}
 use Rattle.layered.specs.Turns.{recordNow, costsNow}
 use Rattle.layered.specs.Passes.{Graph, graph, placeAt, turnAt, passOver, settledOn, goOn, Tables}
 use Rattle.layered.proofs.Columns.{upTo-tab}
@@ -72,6 +72,10 @@ module _ (C : Code) (cs ws : List ℕ) (hc : take (length (tablesOf (C .checks) 
   pub symbols-are : (P : List ℕ) → decisionsOf (size C) P (C .columns) ≡ symbols C P
   unfolding decisionsOf symbols
   symbols-are P = sym (upTo-tab (λ c. firstZero (columnOf (size C) P c)) (C .columns))
+
+  pub margins-are : (P : List ℕ) → marginsOf (size C) P (C .columns) ≡ margins C P
+  unfolding marginsOf margins
+  margins-are P = sym (upTo-tab (λ c. marginOf (columnOf (size C) P c)) (C .columns))
 
   sum-is : (z : List ℕ) (m : ℕ) → m < length (C .checks) → sumFrom (power C) cs ws z (before ds m) (getD ds m 0) ≡ paritySum (power C) (check C m) z (length (check C m))
   sum-is z m h = sum-flat C cs ws hc hw m h z (getD ds m 0) (omega arith) ∙ ap (paritySum (power C) (check C m) z) (degree-at C cs ws hc hw m)

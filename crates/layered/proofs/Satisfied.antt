@@ -1,5 +1,5 @@
--- The loops of the parity test: a search that goes on as long as the rest has the same first 0; a check's sum term by term; a check that fails
--- makes the whole test fail, however many come after it.
+-- The loops of the parity test: decisions and margins column by column; a check's sum term by term; a check that fails makes the whole test fail,
+-- however many come after it.
 use mathlib.Core.Path.{_≡_, refl, sym, ap, ap₂, _∙_}
 use mathlib.Core.Bool.{true, false}
 use mathlib.Core.List.{List, _∷_, _++_}
@@ -24,28 +24,14 @@ use Rattle.machine.proofs.Lists.{all-not}
 use Rattle.machine.proofs.Places.{edge-within}
 use Rattle.layered.specs.Parity.{decisionsOf, allHold, EdgeRoom, ParityRoom, SettledRoom}
 
--- the search
-first-later : (x : ℕ) (l : List ℕ) → (x ≡ 0 → ⊥) → firstZero (x ∷ l) ≡ suc (firstZero l)
-first-later zero l h = absurd (h refl)
-first-later (suc x) l h = refl
+-- a loop over the columns of q costs, which leaves g of each: its turn and its end
+pub each-turn : (g : List ℕ → ℕ) (q : ℕ) (P d now : List ℕ) (c z : ℕ) → c < length d → now ≡ tab (λ k. g (columnOf q P k)) c ++ drop c d
+    → z ≡ g (part P (c * q) (c * q + q - c * q)) → set now c z ≡ tab (λ k. g (columnOf q P k)) (c + 1) ++ drop (c + 1) d
+each-turn g q P d now c z h o i = rw (o, i, add-sub-cancel-left (c * q) q) (tab-more (λ k. g (columnOf q P k)) d c h)
 
-pub zero-here : (s : List ℕ) (i : ℕ) → i < length s → getD s i 0 ≡ 0 → firstZero (drop i s) ≡ 0
-zero-here s i h e = rw (drop-cons s i 0 h, e)
-
-pub zero-later : (s : List ℕ) (i : ℕ) → i < length s → (getD s i 0 ≡ 0 → ⊥) → firstZero (drop i s) ≡ suc (firstZero (drop (suc i) s))
-zero-later s i h e = rw (drop-cons s i 0 h) (first-later (getD s i 0) (drop (suc i) s) e)
-
-pub zero-none : (s : List ℕ) → firstZero (drop (length s) s) ≡ 0
-zero-none s = rw (drop-length s)
-
--- a turn of the loop over the columns
-pub decide-turn : (q : ℕ) (P d now : List ℕ) (c z : ℕ) → c < length d → now ≡ tab (λ k. firstZero (columnOf q P k)) c ++ drop c d → z ≡ firstZero (part P (c * q) (c * q + q - c * q))
-    → set now c z ≡ tab (λ k. firstZero (columnOf q P k)) (c + 1) ++ drop (c + 1) d
-decide-turn q P d now c z h o i = rw (o, i, add-sub-cancel-left (c * q) q) (tab-more (λ k. firstZero (columnOf q P k)) d c h)
-
-pub decide-done : (q : ℕ) (P d now : List ℕ) (c : ℕ) → c ≡ length d → now ≡ tab (λ k. firstZero (columnOf q P k)) c ++ drop c d → now ≡ decisionsOf q P (length d)
-unfolding decisionsOf
-decide-done q P d now c e o = o ∙ rw e (tab-whole (λ k. firstZero (columnOf q P k)) d)
+pub each-done : (g : List ℕ → ℕ) (q : ℕ) (P d now : List ℕ) (c : ℕ) → c ≡ length d → now ≡ tab (λ k. g (columnOf q P k)) c ++ drop c d
+    → now ≡ tab (λ k. g (columnOf q P k)) (length d)
+each-done g q P d now c e o = o ∙ rw e (tab-whole (λ k. g (columnOf q P k)) d)
 
 -- a product of elements is not refused
 module _ (p a b : ℕ) (low : 2 ≤ p) (high : p ≤ 6) (h : a < 2 ^ p) (k : b < 2 ^ p) (e : Element) (r : elementReply e ≡ productReply p a b) where

@@ -7,9 +7,9 @@ use lib.ListN.{length}
 use Rattle.trellis.specs.Lists.{pick, allTo}
 use Rattle.trellis.specs.Rules.{sizeOf}
 use Rattle.trellis.specs.Reply.{Reply}
-use Rattle.machine.specs.CodeLine.{Code, zeroIn}
+use Rattle.machine.specs.CodeLine.{good, Code, zeroIn}
 use Rattle.machine.specs.Tables.{Tabled}
-use Rattle.machine.specs.Decoding.{After}
+use Rattle.machine.specs.Decoding.{Buffers, After, admittedUnder, decodingUnder}
 use Rattle.machine.proofs.Lines.{GoodCode}
 use Rattle.layered.specs.Passes.{placeAt}
 
@@ -17,13 +17,18 @@ use Rattle.layered.specs.Passes.{placeAt}
 unfoldable pub frameFaultOf : ℕ → ℕ → List ℕ → ℕ
 frameFaultOf first n f = pick (eqb (length f) (n * sizeOf first)) (pick (allTo (zeroIn (sizeOf first) f) n) 0 13) 12
 
--- 2, 3, 4, in this order: n symbols, w costs and u bytes are needed
-unfoldable pub roomFault : ℕ → ℕ → ℕ → ℕ → ℕ → ℕ → ℕ
-roomFault n w u y c s = pick (ltb y n) 2 (pick (ltb c w) 3 (pick (ltb s u) 4 0))
+-- 2, 3, 4, 19, in this order: n symbols, w costs, u bytes and n margins are needed
+unfoldable pub roomFault : ℕ → ℕ → ℕ → ℕ → ℕ → ℕ → ℕ → ℕ
+roomFault n w u y c s v = pick (ltb y n) 2 (pick (ltb c w) 3 (pick (ltb s u) 4 (pick (ltb v n) 19 0)))
 
--- "12, 13, 2, 3, 4"
-unfoldable pub faultOf : ℕ → ℕ → List ℕ → List ℕ → ℕ → ℕ → ℕ → ℕ
-faultOf first n ds f y c s = pick (eqb (frameFaultOf first n f) 0) (roomFault n (n * sizeOf first) (placeAt first ds (length ds)) y c s) (frameFaultOf first n f)
+-- "12, 13, 2, 3, 4", 19
+unfoldable pub faultOf : ℕ → ℕ → List ℕ → List ℕ → ℕ → ℕ → ℕ → ℕ → ℕ
+faultOf first n ds f y c s v =
+    pick (eqb (frameFaultOf first n f) 0) (roomFault n (n * sizeOf first) (placeAt first ds (length ds)) y c s v) (frameFaultOf first n f)
+
+-- decoding under a code that is read
+abbrev pub decodingOf : Code → List ℕ → Buffers → After
+decodingOf C f b = decodingUnder (admittedUnder (good C) f b) f b
 
 -- the numbers of an accepted code, and tables that start with its own
 pub record Coded (C : Code) (first n m g limit : ℕ) (ds cs ws : List ℕ) : Type 0 where
@@ -42,9 +47,10 @@ pub record CodeRoom (first n m g limit : ℕ) (ds cs ws A S : List ℕ) : Type 0
   pub arrived : 2048 ≤ length A
   pub sent : 2048 ≤ length S
 
--- the reply and the three buffers are those of a decoding
-pub record Leaves (A : After) (reply : Reply) (symbols costs store : List ℕ) : Type 0 where
+-- the reply and the four buffers are those of a decoding
+pub record Leaves (A : After) (reply : Reply) (b : Buffers) : Type 0 where
   pub replies : reply ≡ A .reply
-  pub symbols-then : symbols ≡ A .symbols
-  pub costs-then : costs ≡ A .costs
-  pub store-then : store ≡ A .store
+  pub symbols-then : b .symbols ≡ A .buffers .symbols
+  pub costs-then : b .costs ≡ A .buffers .costs
+  pub store-then : b .store ≡ A .buffers .store
+  pub margins-then : b .margins ≡ A .buffers .margins

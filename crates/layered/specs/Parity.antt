@@ -5,13 +5,16 @@ use Prim.Native.Nat.{ℕ, _+_, _*_, _^_, _≤_, _<_}
 use lib.Dec.{eqb}
 use lib.ListN.{length, getD}
 use Rattle.trellis.specs.Lists.{tab, allTo}
-use Rattle.trellis.specs.Check.{firstZero}
+use Rattle.trellis.specs.Check.{firstZero, decide}
 use Rattle.machine.specs.CodeLine.{columnOf}
 use Rattle.machine.specs.Tables.{before, sumFrom}
 
--- the decisions of n columns of q costs
+-- the decisions of n columns of q costs, and their margins
 unfoldable pub decisionsOf : ℕ → List ℕ → ℕ → List ℕ
-decisionsOf q P n = tab (λ c. firstZero (columnOf q P c)) n
+decisionsOf q P n = tab (λ c. decide (columnOf q P c) .symbol) n
+
+unfoldable pub marginsOf : ℕ → List ℕ → ℕ → List ℕ
+marginsOf q P n = tab (λ c. decide (columnOf q P c) .margin) n
 
 -- the first m checks are satisfied
 unfoldable pub allHold : ℕ → List ℕ → List ℕ → List ℕ → List ℕ → ℕ → Bool

@@ -7,12 +7,12 @@ use crate::num;
 use codeline::Header;
 ghost use mathlib.Core.Path.{_≡_};
 ghost use Prim.Native.Nat.{_≤_};
-ghost use Rattle.machine.specs.CodeLine.{Code, good, parse, numbersOf, columnsRead};
-ghost use Rattle.machine.specs.Decoding.{underCode, Decodes};
+ghost use Rattle.machine.specs.CodeLine.{Code, parse, numbersOf, columnsRead};
+ghost use Rattle.machine.specs.Decoding.{lending, Decodes};
 ghost use Rattle.layered.specs.Answers.{answerReply};
-ghost use Rattle.layered.specs.Frames.{Coded, CodeRoom, Leaves};
+ghost use Rattle.layered.specs.Frames.{decodingOf, Coded, CodeRoom, Leaves};
 
-// "Decode: code, 12, 13, 2, 3, 4." Nothing is written before the last refusal has been tested.
+// "Decode: code, 12, 13, 2, 3, 4.", 19. Nothing is written before the last refusal has been tested.
 fn under_code(
     first: u8,
     n: usize,
@@ -26,19 +26,29 @@ fn under_code(
     symbols: &mut [u8],
     costs: &mut [u16],
     store: &mut [u8],
+    margins: &mut [u16],
     arrived: &mut [u8],
     sent: &mut [u8],
 ) -> Answer
     requires { ⌜ CodeRoom first n m g limit (now degrees) (now columns) (now weights) (now arrived) (now sent) ⌝ }
-    ensures { λ r. ⌜ ((C : Code) → Coded C first n m g limit (now (degrees .entry)) (now (columns .entry)) (now (weights .entry)) → Leaves (underCode (good C) (now (frame .entry)) (now (symbols .entry)) (now (costs .entry)) (now (store .entry))) (answerReply r) (now (symbols .exit)) (now (costs .exit)) (now (store .exit))) ⌝ }
+    ensures { λ r. ⌜ ((C : Code) → Coded C first n m g limit (now (degrees .entry)) (now (columns .entry)) (now (weights .entry)) → Leaves (decodingOf C (now (frame .entry)) (lending (now (symbols .entry)) (now (costs .entry)) (now (store .entry)) (now (margins .entry)))) (answerReply r) (lending (now (symbols .exit)) (now (costs .exit)) (now (store .exit)) (now (margins .exit)))) ⌝ }
 {
-    let k = frame::fault(first, n, &degrees[..m], frame, symbols, costs, store);
+    let k = frame::fault(
+        first,
+        n,
+        &degrees[..m],
+        frame,
+        symbols,
+        costs,
+        store,
+        margins,
+    );
     if k != 0 {
         return Answer::Refused(k);
     }
     let w = frame.len();
     frame::copy(frame, &mut costs[..w]);
-    let o = iterate::run(
+    let o = iterate::run_to_margins(
         first,
         g,
         limit,
@@ -48,6 +58,7 @@ fn under_code(
         &mut symbols[..n],
         &mut costs[..w],
         store,
+        &mut margins[..n],
         arrived,
         sent,
     );
@@ -61,13 +72,14 @@ pub fn decode_in(
     symbols: &mut [u8],
     costs: &mut [u16],
     store: &mut [u8],
+    margins: &mut [u16],
     degrees: &mut [u8; 128],
     columns: &mut [u16; 1024],
     weights: &mut [u8; 1024],
     arrived: &mut [u8; 2048],
     sent: &mut [u8; 2048],
 ) -> Counted
-    ensures { λ r. ⌜ Decodes (now (code .entry)) (now (frame .entry)) (now (symbols .entry)) (now (costs .entry)) (now (store .entry)) (answerReply (r .answer)) (now (symbols .exit)) (now (costs .exit)) (now (store .exit)) ⌝ }
+    ensures { λ r. ⌜ Decodes (now (code .entry)) (now (frame .entry)) (lending (now (symbols .entry)) (now (costs .entry)) (now (store .entry)) (now (margins .entry))) (answerReply (r .answer)) (lending (now (symbols .exit)) (now (costs .exit)) (now (store .exit)) (now (margins .exit))) ⌝ }
     ensures { λ r. ⌜ (r .columns ≡ columnsRead (numbersOf (parse (now (code .entry))))) × (r .columns ≤ 256) ⌝ }
 {
     match codeline::code_tables(code, degrees, columns, weights) {
@@ -98,6 +110,7 @@ pub fn decode_in(
                 symbols,
                 costs,
                 store,
+                margins,
                 arrived,
                 sent,
             );

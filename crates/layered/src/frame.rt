@@ -5,27 +5,10 @@ ghost use mathlib.Core.Bool.{true};
 ghost use Prim.Native.Nat.{_*_, _≤_};
 ghost use lib.ListN.{length};
 ghost use Rattle.trellis.specs.Lists.{allTo};
-ghost use Rattle.trellis.specs.Check.{firstZero};
 ghost use Rattle.trellis.specs.Rules.{firstOk};
 ghost use Rattle.machine.specs.CodeLine.{zeroIn};
 ghost use Rattle.layered.specs.Passes.{placeAt};
 ghost use Rattle.layered.specs.Frames.{frameFaultOf, roomFault, faultOf};
-
-// The smallest symbol of cost 0, or the number of costs where there is none.
-fn first_zero(costs: &[u8]) -> usize
-    ensures { λ r. ⌜ (r ≡ firstZero (now (costs .entry))) × (r ≤ length (now (costs .entry))) ⌝ }
-{
-    let mut x = 0;
-    loop {
-        if x == costs.len() {
-            break x;
-        }
-        if costs[x] == 0 {
-            break x;
-        }
-        x += 1;
-    }
-}
 
 // Whether each of n columns of q costs has a cost of 0.
 fn zeros_in(frame: &[u8], q: usize, n: usize) -> bool
@@ -36,7 +19,7 @@ fn zeros_in(frame: &[u8], q: usize, n: usize) -> bool
     while c < n {
         let a = c * q;
         let e = a + q;
-        if first_zero(&frame[a..e]) == q {
+        if checknode::decide(&frame[a..e]).symbol == q {
             return false;
         }
         c += 1;
@@ -75,9 +58,17 @@ fn used(first: u8, degrees: &[u8]) -> usize
     sum
 }
 
-// 2, 3 and 4 by the lengths of the symbol buffer, the cost buffer and the store; 0 for none.
-fn room_fault(n: usize, w: usize, u: usize, symbols: usize, costs: usize, store: usize) -> u8
-    ensures { λ r. ⌜ r ≡ roomFault n w u symbols costs store ⌝ }
+// 2, 3, 4 and 19 by the lengths of the symbol buffer, the cost buffer, the store and the margin buffer; 0 for none.
+fn room_fault(
+    n: usize,
+    w: usize,
+    u: usize,
+    symbols: usize,
+    costs: usize,
+    store: usize,
+    margins: usize,
+) -> u8
+    ensures { λ r. ⌜ r ≡ roomFault n w u symbols costs store margins ⌝ }
 {
     if symbols < n {
         return 2;
@@ -88,10 +79,13 @@ fn room_fault(n: usize, w: usize, u: usize, symbols: usize, costs: usize, store:
     if store < u {
         return 4;
     }
+    if margins < n {
+        return 19;
+    }
     0
 }
 
-// "Decode: code, 12, 13, 2, 3, 4.": what comes after the code; 0 for none.
+// "Decode: code, 12, 13, 2, 3, 4.", 19: what comes after the code; 0 for none.
 pub fn fault(
     first: u8,
     n: usize,
@@ -100,9 +94,10 @@ pub fn fault(
     symbols: &[u8],
     costs: &[u16],
     store: &[u8],
+    margins: &[u16],
 ) -> u8
     requires { ⌜ (firstOk first ≡ true) × ((n ≤ 256) × (length (now degrees) ≤ 128)) ⌝ }
-    ensures { λ r. ⌜ r ≡ faultOf first n (now (degrees .entry)) (now (frame .entry)) (length (now (symbols .entry))) (length (now (costs .entry))) (length (now (store .entry))) ⌝ }
+    ensures { λ r. ⌜ r ≡ faultOf first n (now (degrees .entry)) (now (frame .entry)) (length (now (symbols .entry))) (length (now (costs .entry))) (length (now (store .entry))) (length (now (margins .entry))) ⌝ }
 {
     let k = frame_fault(first, n, frame);
     if k != 0 {
@@ -110,7 +105,15 @@ pub fn fault(
     }
     let w = frame.len();
     let u = used(first, degrees);
-    room_fault(n, w, u, symbols.len(), costs.len(), store.len())
+    room_fault(
+        n,
+        w,
+        u,
+        symbols.len(),
+        costs.len(),
+        store.len(),
+        margins.len(),
+    )
 }
 
 // "Start: P is the frame".

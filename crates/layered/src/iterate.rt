@@ -8,7 +8,7 @@ ghost use mathlib.Core.Bool.{true};
 ghost use Prim.Native.Nat.{_≤_};
 ghost use lib.ListN.{length};
 ghost use Rattle.trellis.specs.Rules.{sizeOf};
-ghost use Rattle.layered.specs.Parity.{decisionsOf};
+ghost use Rattle.layered.specs.Parity.{decisionsOf, marginsOf};
 ghost use Rattle.layered.specs.Passes.{graph, lent, passOver, goOn, endedIn, PassRoom, RunRoom};
 
 // "An iteration .. takes the checks in code order." The places of a check's edges and of its record are carried along.
@@ -55,7 +55,7 @@ fn pass(
 }
 
 // The machine on the costs in `costs`, at most `limit` iterations: "all checks satisfied means found. Otherwise, if t = I, not found."
-pub fn run(
+fn run(
     first: u8,
     g: u16,
     limit: u8,
@@ -95,4 +95,42 @@ pub fn run(
         );
         t += 1;
     }
+}
+
+// The same, with the margins of the last decisions.
+pub fn run_to_margins(
+    first: u8,
+    g: u16,
+    limit: u8,
+    degrees: &[u8],
+    columns: &[u16],
+    weights: &[u8],
+    symbols: &mut [u8],
+    costs: &mut [u16],
+    store: &mut [u8],
+    margins: &mut [u16],
+    arrived: &mut [u8],
+    sent: &mut [u8],
+) -> Outcome
+    requires { ⌜ RunRoom (graph first g (now degrees) (now columns) (now weights)) true (now costs) (now store) (now symbols) × ((2048 ≤ length (now arrived)) × (2048 ≤ length (now sent))) ⌝ }
+    requires { ⌜ length (now margins) ≡ length (now symbols) ⌝ }
+    ensures { λ r. ⌜ endedIn r (lent (now (costs .exit)) (now (store .exit))) ≡ goOn (graph first g (now (degrees .entry)) (now (columns .entry)) (now (weights .entry))) (length (now (symbols .entry))) limit 0 (lent (now (costs .entry)) (now (store .entry))) ⌝ }
+    ensures { λ _. ⌜ now (symbols .exit) ≡ decisionsOf (sizeOf first) (now (costs .exit)) (length (now (symbols .entry))) ⌝ }
+    ensures { λ _. ⌜ now (margins .exit) ≡ marginsOf (sizeOf first) (now (costs .exit)) (length (now (margins .entry))) ⌝ }
+{
+    let o = run(
+        first,
+        g,
+        limit,
+        degrees,
+        columns,
+        weights,
+        symbols,
+        costs,
+        store,
+        arrived,
+        sent,
+    );
+    parity::margins(costs, rules::size(first), margins);
+    o
 }

@@ -10,7 +10,7 @@ mod update;
 ghost use mathlib.Core.Path.{_≡_};
 ghost use Prim.Native.Nat.{_≤_};
 ghost use Rattle.machine.specs.CodeLine.{parse, numbersOf, columnsRead};
-ghost use Rattle.machine.specs.Decoding.{Decodes};
+ghost use Rattle.machine.specs.Decoding.{lending, Decodes};
 ghost use Rattle.layered.specs.Answers.{answerReply};
 
 // How a run of the machine ended, with its iterations.
@@ -26,18 +26,19 @@ pub enum Answer {
 }
 
 // Decodes a frame of N times q costs under a code line: found or not found with the iterations made, the decisions in `symbols`, the costs P
-// in `costs`, the records in `store`. Refused: the code line's 5 to 11; 12, cost count; 13, a column without a cost of 0; 2, 3, 4, symbol
-// buffer, cost buffer, store too short.
+// in `costs`, the records in `store`, the decisions' margins in `margins`. Refused: the code line's 5 to 11; 12, cost count; 13, a column
+// without a cost of 0; 2, 3, 4, 19, symbol buffer, cost buffer, store, margin buffer too short.
 pub fn decode(
     code: &[u8],
     frame: &[u8],
     symbols: &mut [u8],
     costs: &mut [u16],
     store: &mut [u8],
+    margins: &mut [u16],
 ) -> Answer
-    ensures { λ r. ⌜ Decodes (now (code .entry)) (now (frame .entry)) (now (symbols .entry)) (now (costs .entry)) (now (store .entry)) (answerReply r) (now (symbols .exit)) (now (costs .exit)) (now (store .exit)) ⌝ }
+    ensures { λ r. ⌜ Decodes (now (code .entry)) (now (frame .entry)) (lending (now (symbols .entry)) (now (costs .entry)) (now (store .entry)) (now (margins .entry))) (answerReply r) (lending (now (symbols .exit)) (now (costs .exit)) (now (store .exit)) (now (margins .exit))) ⌝ }
 {
-    decode_counted(code, frame, symbols, costs, store).answer
+    decode_counted(code, frame, symbols, costs, store, margins).answer
 }
 
 // A decoding's answer, with N of a code line that is accepted: the line is read once for both.
@@ -53,8 +54,9 @@ pub fn decode_counted(
     symbols: &mut [u8],
     costs: &mut [u16],
     store: &mut [u8],
+    margins: &mut [u16],
 ) -> Counted
-    ensures { λ r. ⌜ Decodes (now (code .entry)) (now (frame .entry)) (now (symbols .entry)) (now (costs .entry)) (now (store .entry)) (answerReply (r .answer)) (now (symbols .exit)) (now (costs .exit)) (now (store .exit)) ⌝ }
+    ensures { λ r. ⌜ Decodes (now (code .entry)) (now (frame .entry)) (lending (now (symbols .entry)) (now (costs .entry)) (now (store .entry)) (now (margins .entry))) (answerReply (r .answer)) (lending (now (symbols .exit)) (now (costs .exit)) (now (store .exit)) (now (margins .exit))) ⌝ }
     ensures { λ r. ⌜ (r .columns ≡ columnsRead (numbersOf (parse (now (code .entry))))) × (r .columns ≤ 256) ⌝ }
 {
     let mut degrees = [0u8; 128];
@@ -68,6 +70,7 @@ pub fn decode_counted(
         symbols,
         costs,
         store,
+        margins,
         &mut degrees,
         &mut columns,
         &mut weights,

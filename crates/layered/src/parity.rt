@@ -1,32 +1,72 @@
-// The decisions, and whether they satisfy every check.
+// The decisions with their margins, and whether they satisfy every check.
 use crate::num;
+use checknode::Decision;
 use checknode::Element;
 ghost use mathlib.Core.Path.{_≡_};
 ghost use Prim.Native.Nat.{_*_, _^_, _≤_, _<_};
+ghost use lib.Dec.{eqb};
 ghost use lib.ListN.{length};
-ghost use Rattle.trellis.specs.Check.{firstZero};
+ghost use Rattle.trellis.specs.Lists.{pick};
+ghost use Rattle.trellis.specs.Check.{decide as decideOf};
+ghost use Rattle.trellis.specs.Margins.{leastBut, marginAt};
 ghost use Rattle.trellis.specs.Field.{product};
 ghost use Rattle.machine.specs.Tables.{term};
-ghost use Rattle.layered.specs.Parity.{decisionsOf, EdgeRoom, ParityRoom, allHold, SettledRoom};
+ghost use Rattle.layered.specs.Parity.{decisionsOf, marginsOf, EdgeRoom, ParityRoom, allHold, SettledRoom};
 
-// "the smallest symbol of cost 0", or the number of costs where there is none.
-fn first_zero(costs: &[u16]) -> usize
-    ensures { λ r. ⌜ (r ≡ firstZero (now (costs .entry))) × (r ≤ length (now (costs .entry))) ⌝ }
+// The cost of symbol x; where x is z, no cost is greater.
+fn but(cost: u16, x: usize, z: usize) -> u16
+    ensures { λ r. ⌜ r ≡ pick (eqb x z) 65535 cost ⌝ }
+{
+    if x == z { 65535 } else { cost }
+}
+
+// The least cost of the symbols other than z.
+fn least_but(costs: &[u16], z: usize) -> u16
+    ensures { λ r. ⌜ r ≡ leastBut 65535 (now (costs .entry)) z (length (now (costs .entry))) ⌝ }
+{
+    let mut least: u16 = 65535;
+    let mut x = 0;
+    while x < costs.len() {
+        least = num::lesser(least, but(costs[x], x, z));
+        x += 1;
+    }
+    least
+}
+
+// What the other symbols cost above symbol z of cost 0; nothing where there is no other.
+fn margin_at(costs: &[u16], z: usize) -> u16
+    ensures { λ r. ⌜ r ≡ marginAt 65535 (now (costs .entry)) z ⌝ }
+{
+    if costs.len() < 2 {
+        return 0;
+    }
+    least_but(costs, z)
+}
+
+// "the smallest symbol of cost 0", with its margin; without a cost of 0 the number of costs. The search yields by `break`.
+fn decide(costs: &[u16]) -> Decision
+    ensures { λ r. ⌜ ((r .symbol ≡ decideOf (now (costs .entry)) .symbol) × (r .margin ≡ decideOf (now (costs .entry)) .margin)) × (r .symbol ≤ length (now (costs .entry))) ⌝ }
 {
     let mut x = 0;
     loop {
         if x == costs.len() {
-            break x;
+            break Decision {
+                symbol: x,
+                margin: 0,
+            };
         }
         if costs[x] == 0 {
-            break x;
+            break Decision {
+                symbol: x,
+                margin: margin_at(costs, x),
+            };
         }
         x += 1;
     }
 }
 
 // The decision of each column of q costs.
-fn decide(costs: &[u16], q: usize, symbols: &mut [u8])
+fn decisions(costs: &[u16], q: usize, symbols: &mut [u8])
     requires { ⌜ (length (now symbols) * q ≤ length (now costs)) × (q ≤ 64) ⌝ }
     ensures { λ _. ⌜ now (symbols .exit) ≡ decisionsOf q (now (costs .entry)) (length (now (symbols .entry))) ⌝ }
 {
@@ -34,8 +74,22 @@ fn decide(costs: &[u16], q: usize, symbols: &mut [u8])
     while c < symbols.len() {
         let a = c * q;
         let e = a + q;
-        let z = first_zero(&costs[a..e]);
+        let z = decide(&costs[a..e]).symbol;
         symbols[c] = z as u8;
+        c += 1;
+    }
+}
+
+// The margin of each column's decision.
+pub fn margins(costs: &[u16], q: usize, margins: &mut [u16])
+    requires { ⌜ length (now margins) * q ≤ length (now costs) ⌝ }
+    ensures { λ _. ⌜ now (margins .exit) ≡ marginsOf q (now (costs .entry)) (length (now (margins .entry))) ⌝ }
+{
+    let mut c = 0;
+    while c < margins.len() {
+        let a = c * q;
+        let e = a + q;
+        margins[c] = decide(&costs[a..e]).margin;
         c += 1;
     }
 }
@@ -103,6 +157,6 @@ pub fn settled(
     ensures { λ _. ⌜ now (symbols .exit) ≡ decisionsOf (2 ^ p) (now (costs .entry)) (length (now (symbols .entry))) ⌝ }
 {
     let q = num::size(p);
-    decide(costs, q, symbols);
+    decisions(costs, q, symbols);
     holds(p, degrees, columns, weights, symbols)
 }

@@ -4,6 +4,7 @@ use native.Mathlib.Omega.{arith}
 use borrow.Author.Needs.{needs}
 use Rattle.codeline.proofs.Answered.{tables-left}
 use Rattle.machine.specs.CodeLine.{columnsRead}
+use Rattle.machine.specs.Decoding.{lending}
 use Rattle.machine.proofs.Lines.{columns-small}
 use Rattle.layered.proofs.Decoded.{refused-decodes, coded-room, coded-decodes}
 use Rattle.layered.proofs.decoding.decode_in.Statement.{statement}
@@ -29,17 +30,17 @@ wide-requires c κs = search needs
 
 under-code-requires : tie.Need-under-code-requires
 under-code-requires c κs =
-    let w = c .before .before .before .before .before .before .before .before .before .before .before in
+    let w = c .before .before .before .before .before .before .before .before .before .before .before .before in
     let v = w .before .before .before .before in
     let t = v .before .before in
-    let a = t .before .before .before .before .before .before .before .before .before .args in
+    let a = t .before .before .before .before .before .before .before .before .before .before .args in
     coded-room (a .code .now) (t .code-tables .result) (t .code-tables .ensures .0) (v .first .given .0 .0) (v .first .given .0 .1 .0) (v .first .given .0 .1 .1 .0) (v .first .given .0 .1 .1 .1 .0) (v .first .given .0 .1 .1 .1 .1 .0) (v .first .given .1) (w .before .before .long .result) (w .before .index .result) (w .wide .result) (w .before .before .long .ensures .0) (w .before .index .ensures .0) (w .wide .ensures .0) (t .code-tables .last .1 .0) (t .code-tables .last .1 .1 .0) (t .code-tables .last .1 .1 .1 .0) (tables-left (a .code .now) _ _ _ (t .code-tables .ensures .1 .0) (t .code-tables .ensures .1 .1 .0) (t .code-tables .ensures .1 .1 .1)) (a .arrived .now) (a .sent .now) (omega arith) (omega arith)
 
 returns : tie.Need-returns
 returns c =
     let t = c .before .before .before in
-    let a = t .before .before .before .before .before .before .before .before .before .args in
-    (refused-decodes (a .code .now) (t .code-tables .result) (t .code-tables .ensures .0) _ (c .before .k .given .1) (a .frame .now) (a .symbols .now) (a .costs .now) (a .store .now), (ap columnsRead (rw (c .before .k .given .1) at (t .code-tables .ensures .0)), omega arith))
+    let a = t .before .before .before .before .before .before .before .before .before .before .args in
+    (refused-decodes (a .code .now) (t .code-tables .result) (t .code-tables .ensures .0) _ (c .before .k .given .1) (a .frame .now) (lending (a .symbols .now) (a .costs .now) (a .store .now) (a .margins .now)), (ap columnsRead (rw (c .before .k .given .1) at (t .code-tables .ensures .0)), omega arith))
 
 same-length : tie.Need-same-length
 same-length c = search needs
@@ -50,15 +51,18 @@ same-length-2 c = search needs
 same-length-3 : tie.Need-same-length-3
 same-length-3 c = search needs
 
+same-length-4 : tie.Need-same-length-4
+same-length-4 c = search needs
+
 returns-2 : tie.Need-returns-2
 returns-2 c =
-    let u = c .before .before .before .before .before .before in
-    let w = u .before .before .before .before .before .before .before .before .before .before .before .before in
+    let u = c .before .before .before .before .before .before .before .before in
+    let w = u .before .before .before .before .before .before .before .before .before .before .before .before .before in
     let v = w .before .before .before .before in
     let t = v .before .before in
-    let a = t .before .before .before .before .before .before .before .before .before .args in
+    let a = t .before .before .before .before .before .before .before .before .before .before .args in
     let e = rw (v .first .given .1) at (t .code-tables .ensures .0) in
-    (coded-decodes (a .code .now) (t .code-tables .result) (t .code-tables .ensures .0) (v .first .given .0 .0) (v .first .given .0 .1 .0) (v .first .given .0 .1 .1 .0) (v .first .given .0 .1 .1 .1 .0) (v .first .given .0 .1 .1 .1 .1 .0) (v .first .given .1) (w .before .before .long .result) (w .before .index .result) (w .wide .result) (w .before .before .long .ensures .0) (w .before .index .ensures .0) (w .wide .ensures .0) (t .code-tables .last .1 .0) (t .code-tables .last .1 .1 .0) (t .code-tables .last .1 .1 .1 .0) (tables-left (a .code .now) _ _ _ (t .code-tables .ensures .1 .0) (t .code-tables .ensures .1 .1 .0) (t .code-tables .ensures .1 .1 .1)) (a .frame .now) (a .symbols .now) (a .costs .now) (a .store .now) _ _ _ _ (u .under-code .ensures), (w .before .before .long .ensures .0 ∙ ap columnsRead e, rw (w .before .before .long .ensures .0) (columns-small (a .code .now) _ e)))
+    (coded-decodes (a .code .now) (t .code-tables .result) (t .code-tables .ensures .0) (v .first .given .0 .0) (v .first .given .0 .1 .0) (v .first .given .0 .1 .1 .0) (v .first .given .0 .1 .1 .1 .0) (v .first .given .0 .1 .1 .1 .1 .0) (v .first .given .1) (w .before .before .long .result) (w .before .index .result) (w .wide .result) (w .before .before .long .ensures .0) (w .before .index .ensures .0) (w .wide .ensures .0) (t .code-tables .last .1 .0) (t .code-tables .last .1 .1 .0) (t .code-tables .last .1 .1 .1 .0) (tables-left (a .code .now) _ _ _ (t .code-tables .ensures .1 .0) (t .code-tables .ensures .1 .1 .0) (t .code-tables .ensures .1 .1 .1)) (a .frame .now) (lending (a .symbols .now) (a .costs .now) (a .store .now) (a .margins .now)) _ _ (u .under-code .ensures), (w .before .before .long .ensures .0 ∙ ap columnsRead e, rw (w .before .before .long .ensures .0) (columns-small (a .code .now) _ e)))
 
 pub decode-in-spec : {M : Type 1} → statement M
 decode-in-spec =
@@ -75,4 +79,5 @@ decode-in-spec =
     same-length
     same-length-2
     same-length-3
+    same-length-4
     returns-2)

@@ -18,7 +18,15 @@ returns-3 c = simp (le-ltb _ _ (c .before .before .if1 .left), le-ltb _ _ (c .be
 
 returns-4 : tie.Need-returns-4
 unfolding roomFault
-returns-4 c = simp (le-ltb _ _ (c .before .before .if1 .left), le-ltb _ _ (c .before .if2 .left), le-ltb _ _ (c .if3 .left))
+returns-4 c =
+    let at-if3 = c .before in
+    simp (le-ltb _ _ (at-if3 .before .before .if1 .left), le-ltb _ _ (at-if3 .before .if2 .left), le-ltb _ _ (at-if3 .if3 .left), lt-ltb _ _ (c .if4 .taken))
+
+returns-5 : tie.Need-returns-5
+unfolding roomFault
+returns-5 c =
+    let at-if3 = c .before in
+    simp (le-ltb _ _ (at-if3 .before .before .if1 .left), le-ltb _ _ (at-if3 .before .if2 .left), le-ltb _ _ (at-if3 .if3 .left), le-ltb _ _ (c .if4 .left))
 
 pub room-fault-spec : {M : Type 1} → statement M
-room-fault-spec = tie.close (tie.spec returns returns-2 returns-3 returns-4)
+room-fault-spec = tie.close (tie.spec returns returns-2 returns-3 returns-4 returns-5)

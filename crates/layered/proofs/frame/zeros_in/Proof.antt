@@ -33,23 +33,23 @@ mul-a c = omega (arith, room c)
 add-e : tie.Need-add-e Inv-loop μ-loop
 add-e c = omega (arith, room c)
 
-sub-first-zero : tie.Need-sub-first-zero Inv-loop μ-loop
-sub-first-zero c = omega (arith, room c)
+sub-decide : tie.Need-sub-decide Inv-loop μ-loop
+sub-decide c = omega (arith, room c)
 
-part-first-zero-start : tie.Need-part-first-zero-start Inv-loop μ-loop
-part-first-zero-start c = omega (arith, room c)
+part-decide-start : tie.Need-part-decide-start Inv-loop μ-loop
+part-decide-start c = omega (arith, room c)
 
-part-first-zero-end : tie.Need-part-first-zero-end Inv-loop μ-loop
-part-first-zero-end c = omega (arith, room c)
+part-decide-end : tie.Need-part-decide-end Inv-loop μ-loop
+part-decide-end c = omega (arith, room c)
 
-first-zero-requires : tie.Need-first-zero-requires Inv-loop μ-loop
-first-zero-requires c κs = search needs
+decide-requires : tie.Need-decide-requires Inv-loop μ-loop
+decide-requires c κs = search needs
 
 returns : tie.Need-returns Inv-loop μ-loop
 returns c =
-    let l = c .before .before .before .before in
+    let l = c .before .before .before .before .before in
     let a = l .before .before .args in
-    sym (zeros-not (a .q) (a .n) (l .loop .c) (c .before .first-zero .result) (a .frame .now) (room (c .before .before .before)) (c .before .first-zero .ensures .0) (c .if1 .taken) (omega arith))
+    sym (zeros-not (a .q) (a .n) (l .loop .c) (c .before .before .decide .result .symbol) (a .frame .now) (room (c .before .before .before .before)) (c .before .before .decide .ensures .0) (c .if1 .taken) (omega arith))
 
 add-c : tie.Need-add-c Inv-loop μ-loop
 add-c c = search needs
@@ -59,9 +59,9 @@ loop-less c = search needs
 
 loop-again : tie.Need-loop-again Inv-loop μ-loop
 loop-again c =
-    let l = c .before .before .before .before in
+    let l = c .before .before .before .before .before in
     let a = l .before .before .args in
-    (omega arith, zeros-more (a .q) (a .n) (l .loop .c) (c .before .first-zero .result) (a .frame .now) (room (c .before .before .before)) (c .before .first-zero .ensures .0) (c .before .first-zero .ensures .1) (c .if1 .left) (l .loop .inv .1))
+    (omega arith, zeros-more (a .q) (a .n) (l .loop .c) (c .before .before .decide .result .symbol) (a .frame .now) (room (c .before .before .before .before)) (c .before .before .decide .ensures .0) (c .if1 .left) (l .loop .inv .1))
 
 returns-2 : tie.Need-returns-2 Inv-loop μ-loop
 returns-2 c =
@@ -79,10 +79,10 @@ zeros-in-spec =
     loop-holds
     mul-a
     add-e
-    sub-first-zero
-    part-first-zero-start
-    part-first-zero-end
-    first-zero-requires
+    sub-decide
+    part-decide-start
+    part-decide-end
+    decide-requires
     returns
     add-c
     loop-less

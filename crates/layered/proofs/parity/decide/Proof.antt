@@ -1,62 +1,35 @@
--- The loop fills the symbols from the front (decide-turn).
-use mathlib.Core.Path.{_≡_}
-use mathlib.Core.List.{_++_}
-use Prim.Native.Nat.{ℕ, _+_, _-_, _*_, _≤_}
+-- The search's place plus the first zero of the rest is the first zero of all; there the loop over the others gives the margin.
+use mathlib.Core.Path.{_≡_, _∙_, sym}
+use Prim.Native.Nat.{_+_, _≤_, _<_, _-_}
+use native.Mathlib.Numerals.{add-one}
 use native.Mathlib.Omega.{arith}
 use borrow.Author.Needs.{needs}
-use lib.ListN.{length, drop}
-use Rattle.trellis.specs.Lists.{tab}
+use lib.ListN.{length, drop, getD}
 use Rattle.trellis.specs.Check.{firstZero}
-use Rattle.machine.specs.CodeLine.{columnOf}
-use Rattle.machine.proofs.Ranges.{column-room}
-use Rattle.layered.proofs.Satisfied.{decide-turn, decide-done}
+use Rattle.trellis.proofs.Margins.{zero-here, zero-later, zero-none, margin-found, margin-none}
 use Rattle.layered.proofs.parity.decide.Statement.{statement}
 use Rattle.layered.proofs.parity.decide.Tie as tie
 
 abbrev Inv-loop : tie.InvT-loop
-Inv-loop costs q symbols₀ c₀ symbols c = (c ≤ length symbols₀) × ((length symbols ≡ length symbols₀) × (symbols ≡ tab (λ (k : ℕ). firstZero (columnOf q costs k)) c ++ drop c symbols₀))
+Inv-loop costs x₀ x = (x ≤ length costs) × (firstZero costs ≡ x + firstZero (drop x costs))
 
 abbrev μ-loop : tie.MeasureT-loop
-μ-loop costs q symbols₀ c₀ symbols c = length symbols₀ - c
-
--- column c's costs are inside
-room : (c : tie.In-loop Inv-loop μ-loop) → let s = c .before .before .before .before .args in c .before .loop .c * s .q + s .q ≤ length (s .costs .now)
-room c =
-    let s = c .before .before .before .before in
-    omega (arith, column-room (c .before .loop .c) (length (s .args .symbols .now)) (s .args .q) (omega arith))
+μ-loop costs x₀ x = length costs - x
 
 loop-holds : tie.Need-loop-holds Inv-loop μ-loop
 loop-holds c = search needs
 
-mul-a : tie.Need-mul-a Inv-loop μ-loop
-mul-a c = omega (arith, room c)
+mul-if2 : tie.Need-mul-if2 Inv-loop μ-loop
+mul-if2 c = search needs
 
-add-e : tie.Need-add-e Inv-loop μ-loop
-add-e c = omega (arith, room c)
+shared-slice-read-if2 : tie.Need-shared-slice-read-if2 Inv-loop μ-loop
+shared-slice-read-if2 c = search needs
 
-mul-first-zero : tie.Need-mul-first-zero Inv-loop μ-loop
-mul-first-zero c = omega (arith, room c)
+margin-at-requires : tie.Need-margin-at-requires Inv-loop μ-loop
+margin-at-requires c κs = search needs
 
-sub-first-zero : tie.Need-sub-first-zero Inv-loop μ-loop
-sub-first-zero c = omega (arith, room c)
-
-part-first-zero-start : tie.Need-part-first-zero-start Inv-loop μ-loop
-part-first-zero-start c = omega (arith, room c)
-
-part-first-zero-end : tie.Need-part-first-zero-end Inv-loop μ-loop
-part-first-zero-end c = omega (arith, room c)
-
-first-zero-requires : tie.Need-first-zero-requires Inv-loop μ-loop
-first-zero-requires c κs = search needs
-
-cast-symbols : tie.Need-cast-symbols Inv-loop μ-loop
-cast-symbols c = search needs
-
-slice-write-symbols : tie.Need-slice-write-symbols Inv-loop μ-loop
-slice-write-symbols c = search needs
-
-add-c : tie.Need-add-c Inv-loop μ-loop
-add-c c = search needs
+add-x : tie.Need-add-x Inv-loop μ-loop
+add-x c = search needs
 
 loop-less : tie.Need-loop-less Inv-loop μ-loop
 loop-less c = search needs
@@ -64,18 +37,24 @@ loop-less c = search needs
 loop-again : tie.Need-loop-again Inv-loop μ-loop
 loop-again c =
     let l = c .before .before .before in
-    let a = l .before .before .before .args in
-    let e = decide-turn (a .q) (a .costs .now) (a .symbols .now) (l .loop .symbols) (l .loop .c) (c .first-zero .result) (omega arith) (l .loop .inv .1 .1) (c .first-zero .ensures .0) in
-    (omega arith, (search needs, e))
-
-same-length : tie.Need-same-length Inv-loop μ-loop
-same-length c = search needs
+    let s = l .before .before .args .costs .now in
+    let h : l .loop .x < length s = omega arith in
+    (omega arith, rw (add-one (l .loop .x)) (omega (arith, zero-later s (l .loop .x) h (c .if2 .left))))
 
 returns : tie.Need-returns Inv-loop μ-loop
 returns c =
-    let l = c .before in
-    let a = l .before .before .before .args in
-    decide-done (a .q) (a .costs .now) (a .symbols .now) (l .loop .symbols) (l .loop .c) (omega arith) (l .loop .inv .1 .1)
+    let s = c .before .before .before .args .costs .now in
+    let z : firstZero (drop (c .before .loop .x) s) ≡ 0 = rw (c .if1 .taken) (zero-none s) in
+    let e : firstZero s ≡ length s = omega arith in
+    ((omega arith, sym (margin-none s e)), omega arith)
+
+returns-2 : tie.Need-returns-2 Inv-loop μ-loop
+returns-2 c =
+    let l = c .before .before .before .before in
+    let s = l .before .before .args .costs .now in
+    let h : l .loop .x < length s = omega arith in
+    let e : l .loop .x ≡ firstZero s = omega (arith, zero-here s (l .loop .x) h (c .before .if2 .taken)) in
+    ((e, c .margin-at .ensures ∙ margin-found 65535 s (λ i. omega (arith, l .before .shared-slice-known .given i)) (l .loop .x) e h), omega arith)
 
 pub decide-spec : {M : Type 1} → statement M
 decide-spec =
@@ -84,17 +63,11 @@ decide-spec =
     Inv-loop
     μ-loop
     loop-holds
-    mul-a
-    add-e
-    mul-first-zero
-    sub-first-zero
-    part-first-zero-start
-    part-first-zero-end
-    first-zero-requires
-    cast-symbols
-    slice-write-symbols
-    add-c
+    mul-if2
+    shared-slice-read-if2
+    margin-at-requires
+    add-x
     loop-less
     loop-again
-    same-length
-    returns)
+    returns
+    returns-2)
