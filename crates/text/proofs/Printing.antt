@@ -16,7 +16,7 @@ use Rattle.trellis.proofs.Places.{length-count}
 use Rattle.machine.specs.CodeLine.{Read, good, bad, Code, parse, frameFault, numbersOf, columnsRead}
 use Rattle.machine.specs.Line.{byteAt, lineBytes, lineOk, lineReply, lineLeaves}
 use Rattle.machine.specs.Machine.{run, symbols}
-use Rattle.machine.specs.Decoding.{Decodes, decoding, outcome}
+use Rattle.machine.specs.Decoding.{Buffers, Decodes, admitted, decoding, outcome}
 use Rattle.machine.specs.Printing.{digitsOf, said, ofFrame, frameSaid, printed}
 use Rattle.machine.proofs.Lines.{parse-good}
 use Rattle.machine.proofs.Rooms.{roomy}
@@ -52,17 +52,20 @@ line-end l o out h e =
     (set-at d (getD o (length l * 2) 0) (drop (suc (length l * 2)) o) 0x0A (length l * 2) (length-digits l) ∙ sym (append-snoc d 0x0A (drop (suc (length l * 2)) o)))
 
 -- a decoding in buffers that are long enough for every code line
-module _ (code f y c s z P u : List ℕ) (r : Reply) (i : length y ≡ 256) (j : length c ≡ 16384) (k : length s ≡ 57472) (D : Decodes code f y c s r z P u) where
+module _ (code f : List ℕ) (b o : Buffers) (r : Reply) (i : length (b .symbols) ≡ 256) (j : length (b .costs) ≡ 16384) (k : length (b .store) ≡ 57472) (l : length (b .margins) ≡ 256) (D : Decodes code f b r o) where
+  abbrev z : List ℕ
+  z = o .symbols
+
   tells-of : (r ≡ ofFrame (parse code) f .reply) × (printed (said r (take (columnsRead (numbersOf (parse code))) z)) ≡ printed (ofFrame (parse code) f))
-  unfolding printed decoding symbols
+  unfolding printed decoding admitted symbols
   tells-of = go (parse code) refl
     where
       fit : (C : Code) → parse code ≡ good C → frameFault C f ≡ 0
           → (r ≡ outcome (run C f .status) (run C f .end .t)) × (take (C .columns) z ≡ symbols C (run C f .end .costs))
       fit C e g =
-          let a = accepted-call code f y c s C (record { line = e; fits = g }) (roomy C (parse-good code C e) y c s i j k) in (
+          let a = accepted-call code f b C (record { line = e; fits = g }) (roomy C (parse-good code C e) b i j k l) in (
             D .replies ∙ ap (λ x. x .reply) a,
-            rw (D .symbols-then, a) (take-at (symbols C (run C f .end .costs)) (drop (C .columns) y) (C .columns) (simp length-map (length-count 0 (C .columns)))),
+            rw (D .symbols-then, a) (take-at (symbols C (run C f .end .costs)) (drop (C .columns) (b .symbols)) (C .columns) (simp length-map (length-count 0 (C .columns)))),
           )
 
       go : (p : Read Code) → parse code ≡ p → (r ≡ ofFrame p f .reply) × (printed (said r (take (columnsRead (numbersOf p)) z)) ≡ printed (ofFrame p f))

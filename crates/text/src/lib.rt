@@ -48,6 +48,7 @@ pub fn frame_line(code: &[u8], text: &[u8], out: &mut [u8; 517]) -> usize
     let mut symbols = [0u8; 256];
     let mut costs = [0u16; 16384];
     let mut store = [0u8; 57472];
+    let mut margins = [0u16; 256];
     print::text_in(
         code,
         text,
@@ -55,6 +56,7 @@ pub fn frame_line(code: &[u8], text: &[u8], out: &mut [u8; 517]) -> usize
         &mut symbols,
         &mut costs,
         &mut store,
+        &mut margins,
         out,
     )
 }

@@ -71,21 +71,22 @@ fn answer(a: Answer, symbols: &[u8], out: &mut [u8]) -> usize
     }
 }
 
-// A frame's line under a code, printed from its bytes. The buffers are long enough for every code line that is accepted, so that 2, 3 and 4
-// never occur.
+// A frame's line under a code, printed from its bytes. The buffers are long enough for every code line that is accepted, so that 2, 3, 4 and
+// 19 never occur.
 fn frame_in(
     code: &[u8],
     frame: &[u8],
     symbols: &mut [u8],
     costs: &mut [u16],
     store: &mut [u8],
+    margins: &mut [u16],
     out: &mut [u8],
 ) -> usize
-    requires { ⌜ (length (now symbols) ≡ 256) × ((length (now costs) ≡ 16384) × ((length (now store) ≡ 57472) × (length (now out) ≡ 517))) ⌝ }
+    requires { ⌜ (length (now symbols) ≡ 256) × ((length (now costs) ≡ 16384) × ((length (now store) ≡ 57472) × ((length (now margins) ≡ 256) × (length (now out) ≡ 517)))) ⌝ }
     ensures { λ r. ⌜ r ≡ length (printed (ofFrame (parse (now (code .entry))) (now (frame .entry)))) ⌝ }
     ensures { λ _. ⌜ now (out .exit) ≡ over (printed (ofFrame (parse (now (code .entry))) (now (frame .entry)))) (now (out .entry)) ⌝ }
 {
-    let d = layered::decode_counted(code, frame, symbols, costs, store);
+    let d = layered::decode_counted(code, frame, symbols, costs, store, margins);
     let a = d.answer;
     let n = d.columns;
     answer(a, &symbols[..n], out)
@@ -99,14 +100,15 @@ pub fn text_in(
     symbols: &mut [u8],
     costs: &mut [u16],
     store: &mut [u8],
+    margins: &mut [u16],
     out: &mut [u8],
 ) -> usize
-    requires { ⌜ (length (now bytes) ≡ 16384) × ((length (now symbols) ≡ 256) × ((length (now costs) ≡ 16384) × ((length (now store) ≡ 57472) × (length (now out) ≡ 517)))) ⌝ }
+    requires { ⌜ (length (now bytes) ≡ 16384) × ((length (now symbols) ≡ 256) × ((length (now costs) ≡ 16384) × ((length (now store) ≡ 57472) × ((length (now margins) ≡ 256) × (length (now out) ≡ 517))))) ⌝ }
     ensures { λ r. ⌜ r ≡ length (frameLine (now (code .entry)) (now (text .entry))) ⌝ }
     ensures { λ _. ⌜ now (out .exit) ≡ over (frameLine (now (code .entry)) (now (text .entry))) (now (out .entry)) ⌝ }
 {
     match crate::line(text, bytes) {
         Written::Refused(k) => answer(Answer::Refused(k), &symbols[..0], out),
-        Written::Bytes(n) => frame_in(code, &bytes[..n], symbols, costs, store, out),
+        Written::Bytes(n) => frame_in(code, &bytes[..n], symbols, costs, store, margins, out),
     }
 }

@@ -3,6 +3,7 @@ use mathlib.Core.Path.{ap, _∙_}
 use native.Mathlib.Omega.{arith}
 use borrow.Author.Needs.{needs}
 use lib.ListN.{length, length-take}
+use Rattle.machine.specs.Decoding.{lending}
 use Rattle.text.specs.Lines.{over}
 use Rattle.text.proofs.Printing.{tells}
 use Rattle.text.proofs.print.frame_in.Statement.{statement}
@@ -32,12 +33,16 @@ same-length-3 c = search needs
 same-length-4 : tie.Need-same-length-4
 same-length-4 c = search needs
 
+same-length-5 : tie.Need-same-length-5
+same-length-5 c = search needs
+
 returns : tie.Need-returns
 returns c =
     let w = c .before .before in
-    let d = w .before .before .before .before .before .before .before .before .before in
-    let s = d .before .before .before .before .before .before .before .before .before .before in
-    let t = tells (s .args .code .now) (s .args .frame .now) (s .args .symbols .now) (s .args .costs .now) (s .args .store .now) _ _ _ _ (s .pre .0) (s .pre .1 .0) (s .pre .1 .1 .0) (d .decode-counted .ensures .0) (d .decode-counted .result .columns) (d .decode-counted .ensures .1 .0) in
+    let d = w .before .before .before .before .before .before .before .before .before .before .before in
+    let s = d .before .before .before .before .before .before .before .before .before .before .before .before in
+    let b = lending (s .args .symbols .now) (s .args .costs .now) (s .args .store .now) (s .args .margins .now) in
+    let t = tells (s .args .code .now) (s .args .frame .now) b _ _ (s .pre .0) (s .pre .1 .0) (s .pre .1 .1 .0) (s .pre .1 .1 .1 .0) (d .decode-counted .ensures .0) (d .decode-counted .result .columns) (d .decode-counted .ensures .1 .0) in
     (w .answer .ensures .0 ∙ ap length (t .1), w .answer .ensures .1 ∙ ap (λ l. over l (s .args .out .now)) (t .1))
 
 pub frame-in-spec : {M : Type 1} → statement M
@@ -52,4 +57,5 @@ frame-in-spec =
     same-length-2
     same-length-3
     same-length-4
+    same-length-5
     returns)

@@ -13,7 +13,7 @@ use Rattle.text.proofs.print.text_in.Statement.{statement}
 use Rattle.text.proofs.print.text_in.Tie as tie
 
 abbrev start : tie.After-n → tie.Start
-start c = c .before .before .before .before .before .before .before .before .before .before .before .before .before
+start c = c .before .before .before .before .before .before .before .before .before .before .before .before .before .before
 
 -- what an accepted line of text is
 told : (c : tie.After-n) → (c .n .given .0 .0 ≤ 16384)
@@ -65,7 +65,7 @@ returns c =
     let w = c .before .before in
     let k = w .before .before .before .before in
     let l = k .before .before .before .before in
-    let s = l .before .before .before .before .before .before .before .before .before in
+    let s = l .before .before .before .before .before .before .before .before .before .before in
     let e = line-refused (s .args .text .now) (s .args .bytes .now) (s .pre .0) _ (rw (k .k .given .1) at (l .line .ensures .0)) (s .args .code .now) in
     rw e (w .answer .ensures)
 
@@ -84,13 +84,16 @@ same-length-7 c = search needs
 same-length-8 : tie.Need-same-length-8
 same-length-8 c = search needs
 
+same-length-9 : tie.Need-same-length-9
+same-length-9 c = search needs
+
 returns-2 : tie.Need-returns-2
 unfolding frameLine
 returns-2 c =
-    let w = c .before .before .before .before .before .before .before .before in
-    let n = w .before .before .before .before .before .before .before in
+    let w = c .before .before .before .before .before .before .before .before .before .before in
+    let n = w .before .before .before .before .before .before .before .before in
     let l = n .before .before .before .before in
-    let s = l .before .before .before .before .before .before .before .before .before in
+    let s = l .before .before .before .before .before .before .before .before .before .before in
     let e = told n .2 (s .args .code .now) in
     let b = rw (l .line .ensures .1, told n .1) at (w .frame-in .ensures) in
     rw e b
@@ -117,4 +120,5 @@ text-in-spec =
     same-length-6
     same-length-7
     same-length-8
+    same-length-9
     returns-2)
