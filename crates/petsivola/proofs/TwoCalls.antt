@@ -12,7 +12,7 @@ use borrow.Fn.World.{ArgsD, ResD}
 use Rattle.trellis.specs.Reply.{Reply}
 use Rattle.machine.specs.CodeLine.{Code}
 use Rattle.machine.specs.Machine.{Status, found, notFound, run}
-use Rattle.machine.specs.Decoding.{After, outcome, decoding, Accepts, Room, Kept}
+use Rattle.machine.specs.Decoding.{Buffers, lending, After, outcome, decoding, Accepts, Room, Kept}
 use Rattle.petsivola.specs.Packed.{Packs}
 use Rattle.petsivola.specs.Demand.{Returned, ComparedCalls}
 use Rattle.machine.proofs.Demand.{demand-3}
@@ -39,24 +39,27 @@ returned C f r reply store P K =
     same found t = refl
     same notFound t = refl
 
--- the arguments a and b are code, frame, symbols, costs, store; s and s′ hold them as the calls return; reads.Post is petsivola_decode's ensures
-module _ (κs κs′ : Lfts 5) (a : ArgsD decode.signature κs) (b : ArgsD decode.signature κs′) (r : ResD decode.signature κs) (r′ : ResD decode.signature κs′) (s : AtExit (endedOf 5 kinds.ps kinds.r) κs) (s′ : AtExit (endedOf 5 kinds.ps kinds.r) κs′) where
+-- the arguments a and b are code, frame, symbols, costs, store, margins; s and s′ hold them as the calls return; reads.Post is petsivola_decode's ensures
+module _ (κs κs′ : Lfts 6) (a : ArgsD decode.signature κs) (b : ArgsD decode.signature κs′) (r : ResD decode.signature κs) (r′ : ResD decode.signature κs′) (s : AtExit (endedOf 6 kinds.ps kinds.r) κs) (s′ : AtExit (endedOf 6 kinds.ps kinds.r) κs′) where
   pub two-decodings : now (a .0) ≡ now (b .0) → (C : Code) → Accepts (now (a .0)) (now (a .1 .0)) C → Accepts (now (b .0)) (now (b .1 .0)) C
       → 0 < run C (now (a .1 .0)) .end .t → 0 < run C (now (b .1 .0)) .end .t
-      → Room C (now (a .1 .1 .0)) (now (a .1 .1 .1 .0)) (now (a .1 .1 .1 .1 .0)) → Room C (now (b .1 .1 .0)) (now (b .1 .1 .1 .0)) (now (b .1 .1 .1 .1 .0))
+      → Room C (lending (now (a .1 .1 .0)) (now (a .1 .1 .1 .0)) (now (a .1 .1 .1 .1 .0)) (now (a .1 .1 .1 .1 .1 .0)))
+      → Room C (lending (now (b .1 .1 .0)) (now (b .1 .1 .1 .0)) (now (b .1 .1 .1 .1 .0)) (now (b .1 .1 .1 .1 .1 .0)))
       → reads.Post κs a r s → reads.Post κs′ b r′ s′
       → ComparedCalls C (now (a .1 .0)) (now (b .1 .0)) r r′ (now (s .1 .1 .1 .1 .0)) (now (s′ .1 .1 .1 .1 .0))
   two-decodings e C A B i j M N p q =
-      let o : After = decoding (now (b .0)) (now (a .1 .0)) (now (a .1 .1 .0)) (now (a .1 .1 .1 .0)) (now (a .1 .1 .1 .1 .0)) in
-      let o′ : After = decoding (now (b .0)) (now (b .1 .0)) (now (b .1 .1 .0)) (now (b .1 .1 .1 .0)) (now (b .1 .1 .1 .1 .0)) in
+      let x : Buffers = lending (now (a .1 .1 .0)) (now (a .1 .1 .1 .0)) (now (a .1 .1 .1 .1 .0)) (now (a .1 .1 .1 .1 .1 .0)) in
+      let y : Buffers = lending (now (b .1 .1 .0)) (now (b .1 .1 .1 .0)) (now (b .1 .1 .1 .1 .0)) (now (b .1 .1 .1 .1 .1 .0)) in
+      let o : After = decoding (now (b .0)) (now (a .1 .0)) x in
+      let o′ : After = decoding (now (b .0)) (now (b .1 .0)) y in
       let L : Accepts (now (b .0)) (now (a .1 .0)) C = rw e at A in
       let d = rw e at p in
       let Z =
-      demand-3 (now (b .0)) C (now (a .1 .0)) (now (b .1 .0)) L B i j
-      (now (a .1 .1 .0)) (now (a .1 .1 .1 .0)) (now (a .1 .1 .1 .1 .0)) (now (b .1 .1 .0)) (now (b .1 .1 .1 .0)) (now (b .1 .1 .1 .1 .0)) M N (o .reply) (o′ .reply)
-      (now (s .1 .1 .0)) (now (s .1 .1 .1 .0)) (now (s .1 .1 .1 .1 .0)) (now (s′ .1 .1 .0)) (now (s′ .1 .1 .1 .0)) (now (s′ .1 .1 .1 .1 .0))
-      (record { replies = refl; symbols-then = d .1 .0; costs-then = d .1 .1 .0; store-then = d .1 .1 .1 })
-      (record { replies = refl; symbols-then = q .1 .0; costs-then = q .1 .1 .0; store-then = q .1 .1 .1 }) in
+      demand-3 (now (b .0)) C (now (a .1 .0)) (now (b .1 .0)) L B i j x y M N (o .reply) (o′ .reply)
+      (lending (now (s .1 .1 .0)) (now (s .1 .1 .1 .0)) (now (s .1 .1 .1 .1 .0)) (now (s .1 .1 .1 .1 .1 .0)))
+      (lending (now (s′ .1 .1 .0)) (now (s′ .1 .1 .1 .0)) (now (s′ .1 .1 .1 .1 .0)) (now (s′ .1 .1 .1 .1 .1 .0)))
+      (record { replies = refl; symbols-then = d .1 .0; costs-then = d .1 .1 .0; store-then = d .1 .1 .1 .0; margins-then = d .1 .1 .1 .1 })
+      (record { replies = refl; symbols-then = q .1 .0; costs-then = q .1 .1 .0; store-then = q .1 .1 .1 .0; margins-then = q .1 .1 .1 .1 }) in
       record {
         one = returned C (now (a .1 .0)) r (o .reply) (now (s .1 .1 .1 .1 .0)) (d .0) (Z .one);
         other = returned C (now (b .1 .0)) r′ (o′ .reply) (now (s′ .1 .1 .1 .1 .0)) (q .0) (Z .other);

@@ -7,7 +7,7 @@ ghost use mathlib.Core.Path.{_≡_};
 ghost use Prim.Native.Nat.{_≤_};
 ghost use Rattle.checknode.specs.Answers.{elementReply, productReply, writtenReply, checkReply, checkLeaves, expandReply, expandLeaves};
 ghost use Rattle.machine.specs.Line.{lineReply, lineLeaves};
-ghost use Rattle.machine.specs.Decoding.{decoding};
+ghost use Rattle.machine.specs.Decoding.{lending, decoding};
 ghost use Rattle.machine.specs.Encoding.{encoding};
 ghost use Rattle.layered.specs.Answers.{answerReply};
 ghost use Rattle.petsivola.specs.Packed.{Packs, outcomeReply};
@@ -87,13 +87,15 @@ pub extern "C" fn petsivola_decode(
     symbols: &mut [u8],
     costs: &mut [u16],
     store: &mut [u8],
+    margins: &mut [u16],
 ) -> u32
-    ensures { λ r. ⌜ Packs r (decoding (now (code .entry)) (now (frame .entry)) (now (symbols .entry)) (now (costs .entry)) (now (store .entry)) .reply) ⌝ }
-    ensures { λ _. ⌜ now (symbols .exit) ≡ decoding (now (code .entry)) (now (frame .entry)) (now (symbols .entry)) (now (costs .entry)) (now (store .entry)) .symbols ⌝ }
-    ensures { λ _. ⌜ now (costs .exit) ≡ decoding (now (code .entry)) (now (frame .entry)) (now (symbols .entry)) (now (costs .entry)) (now (store .entry)) .costs ⌝ }
-    ensures { λ _. ⌜ now (store .exit) ≡ decoding (now (code .entry)) (now (frame .entry)) (now (symbols .entry)) (now (costs .entry)) (now (store .entry)) .store ⌝ }
+    ensures { λ r. ⌜ Packs r (decoding (now (code .entry)) (now (frame .entry)) (lending (now (symbols .entry)) (now (costs .entry)) (now (store .entry)) (now (margins .entry))) .reply) ⌝ }
+    ensures { λ _. ⌜ now (symbols .exit) ≡ decoding (now (code .entry)) (now (frame .entry)) (lending (now (symbols .entry)) (now (costs .entry)) (now (store .entry)) (now (margins .entry))) .buffers .symbols ⌝ }
+    ensures { λ _. ⌜ now (costs .exit) ≡ decoding (now (code .entry)) (now (frame .entry)) (lending (now (symbols .entry)) (now (costs .entry)) (now (store .entry)) (now (margins .entry))) .buffers .costs ⌝ }
+    ensures { λ _. ⌜ now (store .exit) ≡ decoding (now (code .entry)) (now (frame .entry)) (lending (now (symbols .entry)) (now (costs .entry)) (now (store .entry)) (now (margins .entry))) .buffers .store ⌝ }
+    ensures { λ _. ⌜ now (margins .exit) ≡ decoding (now (code .entry)) (now (frame .entry)) (lending (now (symbols .entry)) (now (costs .entry)) (now (store .entry)) (now (margins .entry))) .buffers .margins ⌝ }
 {
-    of_answer(layered::decode(code, frame, symbols, costs, store))
+    of_answer(layered::decode(code, frame, symbols, costs, store, margins))
 }
 
 #[no_mangle]

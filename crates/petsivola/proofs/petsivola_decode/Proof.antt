@@ -1,4 +1,4 @@
--- The reply of the call, packed, and what it promises of the three buffers.
+-- The reply of the call, packed, and what it promises of the four buffers.
 use mathlib.Core.Path.{subst}
 use Rattle.petsivola.specs.Packed.{Packs}
 use borrow.Author.Needs.{needs}
@@ -20,12 +20,15 @@ same-length-2 c = search needs
 same-length-3 : tie.Need-same-length-3
 same-length-3 c = search needs
 
+same-length-4 : tie.Need-same-length-4
+same-length-4 c = search needs
+
 returns : tie.Need-returns
 returns c =
-    let D = c .before .before .before .before .before .before .before .decode .ensures in
-    (subst (Packs _) (D .replies) (c .of-answer .ensures), (D .symbols-then, (D .costs-then, D .store-then)))
+    let D = c .before .before .before .before .before .before .before .before .before .decode .ensures in
+    (subst (Packs _) (D .replies) (c .of-answer .ensures), (D .symbols-then, (D .costs-then, (D .store-then, D .margins-then))))
 
 pub petsivola-decode-spec : {M : Type 1} → statement M
 petsivola-decode-spec =
     tie.close
-    (tie.spec decode-requires of-answer-requires same-length same-length-2 same-length-3 returns)
+    (tie.spec decode-requires of-answer-requires same-length same-length-2 same-length-3 same-length-4 returns)
