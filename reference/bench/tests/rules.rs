@@ -1,8 +1,8 @@
 //! The same algorithm under every rule, k = 2 and 3 and both joins, against a list of all choices.
 
 use bench::same::{expand_by, messages, Rule};
-use reference_decoder::product;
 use reference_decoder::sample::{self, CheckSample, Generator, Style};
+use reference_decoder::{product, Decision};
 
 /// h times x, column by column.
 fn products(check: &CheckSample) -> Vec<Vec<u8>> {
@@ -22,7 +22,7 @@ fn least_costs(rule: Rule, check: &CheckSample, terms: &[Vec<u8>], n: usize) -> 
         if column == n {
             continue;
         }
-        let decision = costs.iter().position(|&cost| cost == 0).expect("a zero");
+        let decision = usize::from(Decision::of(costs).symbol);
         let with = |&(sum, cost, deviations): &(u8, u32, usize)| {
             let symbol = |(x, &own): (usize, &u8)| {
                 let own = u32::from(own);

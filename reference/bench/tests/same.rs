@@ -60,7 +60,8 @@ fn decodings() {
         let mut store = generator.bytes(lengths[2]);
         let mut found = (symbols.clone(), costs.clone(), store.clone());
         let answer = same::decode(&line, &frame, &mut found.0, &mut found.1, &mut found.2);
-        let expected = decode(&line, &frame, &mut symbols, &mut costs, &mut store);
+        let margins = &mut [0; 256];
+        let expected = decode(&line, &frame, &mut symbols, &mut costs, &mut store, margins);
         let pair = |outcome: Outcome| (outcome.status(), outcome.iterations());
         assert_eq!(answer, numbered(expected).map(pair));
         assert_eq!(found, (symbols, costs, store));

@@ -11,6 +11,7 @@
 
 use std::ops::RangeInclusive;
 
+use crate::decision::Decision;
 use crate::field::{sum, Field};
 use crate::record;
 use crate::refusal::Refusal;
@@ -63,17 +64,11 @@ pub fn accept_costs(field: Field, columns: usize, costs: &[u8]) -> Result<(), Re
     Ok(())
 }
 
-/// "Its hard decision z_n is the smallest symbol of cost 0." The column has such a symbol.
-pub fn hard_decision<T: Copy + Into<i32>>(column: &[T]) -> u8 {
-    let symbol = column.iter().position(|&cost| cost.into() == 0);
-    u8::try_from(symbol.expect("a column has a cost of 0")).expect("a symbol is below q")
-}
-
 /// What one check works out from the costs that its columns bring.
 #[derive(Clone, Debug, PartialEq, Eq)]
 pub struct Messages {
-    /// z_n for each column n.
-    pub decisions: Vec<u8>,
+    /// z_n for each column n, with its margin.
+    pub decisions: Vec<Decision>,
     /// "The shift s_n is the sum of h_k times z_k over all k other than n."
     pub shifts: Vec<u8>,
     /// The cost sent to column n at symbol x, as `sent[n][x]`.
@@ -122,8 +117,8 @@ impl Messages {
 
 /// One column of a check, with what the listing of choices needs of it.
 struct Column {
-    /// z_n.
-    decision: u8,
+    /// z_n and its margin.
+    decision: Decision,
     /// h_n times z_n.
     hard_term: u8,
     /// h_n times x for each symbol x.
@@ -135,13 +130,13 @@ struct Column {
 
 impl Column {
     fn new(field: Field, weight: u8, costs: &[u8]) -> Column {
-        let decision = hard_decision(costs);
+        let decision = Decision::of(costs);
         let symbols = (0u8..).take(field.size());
         let terms: Vec<u8> = symbols.clone().map(|x| field.product(weight, x)).collect();
-        let hard_term = terms[usize::from(decision)];
+        let hard_term = terms[usize::from(decision.symbol)];
         // "A deviation is a column whose chosen symbol is not z_n."
         let deviations = symbols
-            .filter(|&x| x != decision)
+            .filter(|&x| x != decision.symbol)
             .map(usize::from)
             .map(|x| (terms[x] ^ hard_term, i32::from(costs[x])))
             .collect();

@@ -92,6 +92,12 @@ impl Code {
             .map(|check| record::length(self.rule(), check.weights.len()))
             .sum()
     }
+
+    /// The used parts of a decoding's buffers, in the order of the parameters: symbols, costs, store and
+    /// margins.
+    pub fn lengths(&self) -> [usize; 4] {
+        [self.n, self.frame_length(), self.store_length(), self.n]
+    }
 }
 
 /// Reads a code line. "Code: 5 if under six bytes, 6, 7, 8; in each check 5 for the degree byte, 9,

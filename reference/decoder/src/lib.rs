@@ -1,4 +1,4 @@
-//! The reference decoder: document 01 (`01-scope.md`) with §1 to §3 and §5 of document 02
+//! The reference decoder: document 01 (`01-scope.md`) with §1 to §3, §5 and §6 of document 02
 //! (`02-change-requests.md`) written out once more, in Rust. The proved library is compared with it,
 //! so it is written from the documents alone, without that library's code: the least costs of a check
 //! come from listing the choices, as document 01 defines them, and a message is encoded by solving
@@ -14,6 +14,7 @@
 
 pub mod check;
 pub mod code;
+pub mod decision;
 pub mod encode;
 pub mod field;
 pub mod line;
@@ -26,6 +27,7 @@ pub mod sample;
 
 pub use check::check;
 pub use code::{code_line, CheckNode, Code};
+pub use decision::Decision;
 pub use encode::encode;
 pub use field::product;
 pub use line::line;

@@ -1,8 +1,10 @@
 //! The layered decoder. Document 01, "Layered machine": "Its state: the costs P_n(x) (0 to 510), a
-//! record or none for each check, and the iteration number t."
+//! record or none for each check, and the iteration number t." The margins of its decisions are those of
+//! document 02, §6.
 
-use crate::check::{accept_costs, hard_decision, Messages};
+use crate::check::{accept_costs, Messages};
 use crate::code::{code_line, Code};
+use crate::decision::Decision;
 use crate::field::sum;
 use crate::record;
 use crate::refusal::Refusal;
@@ -36,9 +38,11 @@ impl Outcome {
     }
 }
 
-/// Decodes one frame. Order: "Decode: code, 12, 13, 2, 3, 4." "The symbol buffer then holds the N
-/// decisions, the cost buffer (16-bit numbers) holds P, N times q of them, and the record store
-/// holds the records end to end in code order. With t = 0 the store is untouched."
+/// Decodes one frame. Order: "Decode: code, 12, 13, 2, 3, 4.", and document 02, §6: "19, margin buffer
+/// shorter than N, after 4". "The symbol buffer then holds the N decisions, the cost buffer (16-bit
+/// numbers) holds P, N times q of them, and the record store holds the records end to end in code order.
+/// With t = 0 the store is untouched." Document 02, §6: "Decoding fills a second lent buffer with N margins,
+/// 16 bits each, from the final P."
 ///
 /// A store too short is refused whatever t would be.
 pub fn decode(
@@ -47,6 +51,7 @@ pub fn decode(
     symbols: &mut [u8],
     costs: &mut [u16],
     store: &mut [u8],
+    margins: &mut [u16],
 ) -> Result<Outcome, Refusal> {
     let code = code_line(code)?;
     accept_costs(code.field(), code.n, frame)?;
@@ -59,9 +64,15 @@ pub fn decode(
     if store.len() < code.store_length() {
         return Err(Refusal::ShortStore);
     }
+    if margins.len() < code.n {
+        return Err(Refusal::ShortMargins);
+    }
     let mut machine = Machine::start(&code, frame);
     let outcome = machine.run();
-    symbols[..code.n].copy_from_slice(&machine.decisions());
+    let decided = symbols.iter_mut().zip(margins.iter_mut());
+    for ((symbol, margin), decision) in decided.zip(machine.decisions()) {
+        (*symbol, *margin) = (decision.symbol, decision.margin);
+    }
     for (out, &cost) in costs.iter_mut().zip(machine.costs.iter().flatten()) {
         *out = u16::try_from(cost).expect("P is 0 to 510");
     }
@@ -115,12 +126,9 @@ impl<'a> Machine<'a> {
         }
     }
 
-    /// "the decisions (smallest symbol of cost 0 in P_n)"
-    pub fn decisions(&self) -> Vec<u8> {
-        self.costs
-            .iter()
-            .map(|costs| hard_decision(costs))
-            .collect()
+    /// "the decisions (smallest symbol of cost 0 in P_n)", each with its margin.
+    pub fn decisions(&self) -> Vec<Decision> {
+        self.costs.iter().map(|costs| Decision::of(costs)).collect()
     }
 
     /// Whether the decisions satisfy every check.
@@ -131,7 +139,8 @@ impl<'a> Machine<'a> {
                 .columns
                 .iter()
                 .zip(&check.weights)
-                .map(|(&column, &weight)| self.code.field().product(weight, decisions[column]));
+                .map(|(&column, &weight)| (weight, decisions[column].symbol))
+                .map(|(weight, symbol)| self.code.field().product(weight, symbol));
             sum(terms) == 0
         })
     }

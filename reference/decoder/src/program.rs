@@ -67,7 +67,10 @@ fn result_bytes(code: &[u8], frame: &[u8]) -> Result<Vec<u8>, Refusal> {
     let mut symbols = [0; MOST_COLUMNS];
     let mut costs = [0; MOST_COLUMNS * MOST_SYMBOLS];
     let mut store = [0; MOST_EDGES + MOST_CHECKS * MOST_ENTRY * (MOST_SYMBOLS - 1)];
-    let outcome = decode(code, frame, &mut symbols, &mut costs, &mut store)?;
+    // Document 02, §6: "The printed line is as before."
+    let mut margins = [0; MOST_COLUMNS];
+    let (costs, store) = (&mut costs, &mut store);
+    let outcome = decode(code, frame, &mut symbols, costs, store, &mut margins)?;
     let columns = code_line(code)?.n;
     let mut bytes = vec![outcome.status(), outcome.iterations()];
     bytes.extend(&symbols[..columns]);

@@ -48,6 +48,8 @@ pub enum Refusal {
     NoForm = 17,
     /// Document 02, §2: "18, message length is not N - M or a symbol is not below q"
     Message = 18,
+    /// Document 02, §6: "19, margin buffer shorter than N"
+    ShortMargins = 19,
 }
 
 impl Refusal {

@@ -1,9 +1,11 @@
 //! Inputs for tests: a deterministic generator, and functions that make accepted checks, records,
-//! codes, frames, messages and program inputs of any size, and damaged variants of them.
+//! codes, frames, messages and program inputs of any size, damaged variants of them, and the buffers of a
+//! decoding.
 //!
 //! The same seed always gives the same inputs. Nothing here is part of the documents' calls; the
 //! tests of this package and the comparison with the proved library use it.
 
+mod buffers;
 mod checks;
 mod codes;
 mod costs;
@@ -12,6 +14,7 @@ mod encodings;
 mod generator;
 mod inputs;
 
+pub use buffers::Buffers;
 pub use checks::{check, first_byte, first_byte_with, record, weights, CheckSample};
 pub use codes::{code, frame, noisy_frame, CodeSample, Size};
 pub use costs::{column, column_deciding, columns, Style};

@@ -6,8 +6,8 @@
 use std::collections::BTreeSet;
 
 use reference_decoder::line::hexadecimal;
-use reference_decoder::sample::{self, Generator, Size, Style};
-use reference_decoder::{check, code_line, decode, encode, expand, line, record, Refusal};
+use reference_decoder::sample::{self, Buffers, Generator, Size, Style};
+use reference_decoder::{check, code_line, encode, expand, line, record, Refusal};
 
 /// Calls twice with buffers of different content and the same length, now and then too short, and
 /// gives the refusal's number or 0. Whatever the buffers held: the answers are equal, the bytes
@@ -95,17 +95,14 @@ fn encoding() {
     );
 }
 
-/// Arbitrary content for a decoding's symbol buffer, cost buffer and store.
-fn decoding_buffers(
-    generator: &mut Generator,
-    lengths: [usize; 3],
-) -> (Vec<u8>, Vec<u16>, Vec<u8>) {
-    let [symbols, costs, store] = lengths;
-    (
-        generator.bytes(symbols),
-        generator.numbers(costs),
-        generator.bytes(store),
-    )
+/// What a decoding fills: all used parts, but for the store when no iteration was made.
+fn filled(line: &[u8], iterations: u8) -> [usize; 4] {
+    let code = code_line(line).expect("an accepted code line");
+    let [symbols, costs, store, margins] = code.lengths();
+    match iterations {
+        0 => [symbols, costs, 0, margins],
+        _ => [symbols, costs, store, margins],
+    }
 }
 
 #[test]
@@ -115,7 +112,6 @@ fn decoding() {
     for _ in 0..3_000 {
         let sample = sample::code(&mut generator, &Size::SMALL);
         let code = code_line(&sample.line).unwrap();
-        let used = [code.n, code.frame_length(), code.store_length()];
         let style = generator.one_of(&Style::ALL);
         let wrong = generator.below(4);
         let mut frame = sample::noisy_frame(&mut generator, &code, &sample.word, wrong, style);
@@ -126,43 +122,27 @@ fn decoding() {
         if generator.once_in(3) {
             frame = sample::damaged_frame(&mut generator, code.field().size(), &frame);
         }
-        let lengths = used.map(|used| match generator.below(12) {
+        let lengths = code.lengths().map(|used| match generator.below(12) {
             0 => generator.below(used),
             extra => used + extra,
         });
-        let before = [0, 1].map(|_| decoding_buffers(&mut generator, lengths));
+        let before = [0, 1].map(|_| Buffers::arbitrary(&mut generator, lengths));
         let mut after = before.clone();
         let answers = after
             .each_mut()
-            .map(|(symbols, costs, store)| decode(&line, &frame, symbols, costs, store));
+            .map(|buffers| buffers.decode(&line, &frame));
         assert_eq!(answers[0], answers[1]);
-        // A damaged code line can be accepted with other numbers, so the used part is asked again.
-        let [symbols, costs, store] = match (answers[0], code_line(&line)) {
-            (Ok(outcome), Ok(code)) => {
-                numbers.insert(0);
-                let store = if outcome.iterations() == 0 {
-                    0
-                } else {
-                    code.store_length()
-                };
-                [code.n, code.frame_length(), store]
-            }
-            (answer, _) => {
-                numbers.insert(answer.expect_err("a refused code line").number());
-                [0, 0, 0]
-            }
+        // A damaged code line can be accepted with other numbers, so what is filled is asked again.
+        let filled = match answers[0] {
+            Ok(outcome) => filled(&line, outcome.iterations()),
+            Err(_) => [0; 4],
         };
-        assert_eq!(after[0].0[..symbols], after[1].0[..symbols]);
-        assert_eq!(after[0].1[..costs], after[1].1[..costs]);
-        assert_eq!(after[0].2[..store], after[1].2[..store]);
-        for (after, before) in after.iter().zip(&before) {
-            assert_eq!(after.0[symbols..], before.0[symbols..]);
-            assert_eq!(after.1[costs..], before.1[costs..]);
-            assert_eq!(after.2[store..], before.2[store..]);
-        }
+        numbers.insert(answers[0].err().map_or(0, Refusal::number));
+        let [[one, one_rest], [other, other_rest]] = after.map(|buffers| buffers.split(filled));
+        let rests = before.map(|buffers| buffers.split(filled)[1].clone());
+        assert_eq!(one, other);
+        assert_eq!([one_rest, other_rest], rests);
     }
-    assert_eq!(
-        numbers,
-        BTreeSet::from([0, 2, 3, 4, 5, 6, 7, 8, 9, 10, 11, 12, 13])
-    );
+    let expected = (2..=13).chain([0, 19]);
+    assert_eq!(numbers, expected.collect());
 }

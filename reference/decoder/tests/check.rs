@@ -19,7 +19,7 @@ fn extra_of_all_columns(sample: &CheckSample, method: Method) -> Vec<i32> {
     let decisions = messages(sample).decisions;
     let hard_sum = sample.weights.iter().zip(decisions);
     let hard_sum = hard_sum.fold(0, |sum, (&weight, decision)| {
-        sum ^ usize::from(field.product(weight, decision))
+        sum ^ usize::from(field.product(weight, decision.symbol))
     });
     let least = method(sample, &every_column);
     (0..sample.q()).map(|a| least[a ^ hard_sum]).collect()
@@ -142,12 +142,16 @@ fn hard_decisions_and_shifts_are_those_of_the_definition() {
             let field = sample.rule().field();
             let messages = messages(&sample);
             for (n, costs) in sample.costs.chunks(sample.q()).enumerate() {
-                let z = usize::from(messages.decisions[n]);
+                let decision = messages.decisions[n];
+                let z = usize::from(decision.symbol);
                 assert_eq!(costs[z], 0);
                 assert!(costs[..z].iter().all(|&cost| cost > 0));
+                let others = [&costs[..z], &costs[z + 1..]].concat();
+                assert!(others.iter().all(|&cost| decision.margin <= cost.into()));
+                assert!(others.iter().any(|&cost| decision.margin == cost.into()));
                 let mut shift = 0;
                 for k in (0..sample.degree()).filter(|&k| k != n) {
-                    shift ^= field.product(sample.weights[k], messages.decisions[k]);
+                    shift ^= field.product(sample.weights[k], messages.decisions[k].symbol);
                 }
                 assert_eq!(messages.shifts[n], shift);
             }

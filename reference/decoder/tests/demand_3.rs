@@ -6,21 +6,19 @@
 use std::collections::HashMap;
 
 use reference_decoder::machine::Machine;
-use reference_decoder::sample::{self, bytes, Generator, Size, Style};
-use reference_decoder::{code_line, decode, record, Code, Join};
+use reference_decoder::sample::{self, bytes, Buffers, Generator, Size, Style};
+use reference_decoder::{code_line, record, Code, Join};
 
 /// One check on three columns, weights 1, scale 16, one iteration.
 const ONE_CHECK: &str = "020003011001 03 000001 000101 000201";
 
 /// The symbols and the used part of the store after a decoding of at least one iteration.
 fn decoded(code: &[u8], frame: &[u8]) -> (Vec<u8>, Vec<u8>) {
-    let lengths = code_line(code).expect("an accepted code line");
-    let mut symbols = vec![0; lengths.n];
-    let mut costs = vec![0; lengths.frame_length()];
-    let mut store = vec![0; lengths.store_length()];
-    let outcome = decode(code, frame, &mut symbols, &mut costs, &mut store).expect("accepted");
+    let lengths = code_line(code).expect("an accepted code line").lengths();
+    let mut buffers = Buffers::zeroed(lengths);
+    let outcome = buffers.decode(code, frame).expect("accepted");
     assert!(outcome.iterations() >= 1);
-    (symbols, store)
+    (buffers.symbols, buffers.store)
 }
 
 #[test]

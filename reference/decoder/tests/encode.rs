@@ -2,8 +2,8 @@
 
 use reference_decoder::encode::has_encoding_form;
 use reference_decoder::field::sum;
-use reference_decoder::sample::{self, bytes, Generator, Miss, Size};
-use reference_decoder::{code_line, decode, encode, Code, Outcome};
+use reference_decoder::sample::{self, bytes, Buffers, Generator, Miss, Size};
+use reference_decoder::{code_line, encode, Code, Outcome};
 
 /// p = 2, N = 5, M = 2, g = 16, I = 1: check 0 on columns 0, 1, 3 with weights 1, 2, 3, and check 1
 /// on columns 1, 2, 3, 4 with weights 1, 1, 1, 2.
@@ -156,16 +156,15 @@ fn an_encoded_word_is_found_at_the_start() {
         let message = sample::message(&mut generator, &code);
         let word = encoded(&code, &message);
         let frame = sample::certain_frame(&mut generator, &code, &word);
-        let mut symbols = vec![0xA5; code.n];
-        let mut costs = vec![0xA5A5; code.frame_length()];
-        let before = generator.bytes(code.store_length());
-        let mut store = before.clone();
-        let line = code.line();
-        let outcome = decode(&line, &frame, &mut symbols, &mut costs, &mut store);
+        let mut buffers = Buffers::arbitrary(&mut generator, code.lengths());
+        let before = buffers.store.clone();
+        let outcome = buffers.decode(&code.line(), &frame);
         assert_eq!(outcome, Ok(Outcome::Found(0)));
-        assert_eq!(symbols, word);
-        assert!(costs.iter().copied().eq(frame.into_iter().map(u16::from)));
-        assert_eq!(store, before);
+        assert_eq!(buffers.symbols, word);
+        let costs = frame.into_iter().map(u16::from);
+        assert!(buffers.costs.into_iter().eq(costs));
+        assert_eq!(buffers.store, before);
+        assert!(!buffers.margins.contains(&0));
     }
 }
 

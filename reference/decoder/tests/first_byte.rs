@@ -4,9 +4,9 @@
 //! digit outside 2 to 6." Every byte there is, in each call that takes one.
 
 use reference_decoder::check::Messages;
-use reference_decoder::{
-    check, code_line, decode, encode, expand, product, Join, Outcome, Refusal, Rule,
-};
+use reference_decoder::decision::MOST_MARGIN;
+use reference_decoder::sample::{Buffers, Generator};
+use reference_decoder::{check, code_line, encode, expand, product, Join, Outcome, Refusal, Rule};
 
 /// p, k and the edition of a first byte, none where it is refused by 6.
 fn meaning(first: u8) -> Option<(u8, usize, Join)> {
@@ -98,6 +98,7 @@ fn in_expand() {
 
 #[test]
 fn in_decode() {
+    let mut generator = Generator::new(1);
     for (first, sizes) in first_bytes() {
         let (q, entry) = sizes.unwrap_or((4, 5));
         let code = code(first);
@@ -106,18 +107,19 @@ fn in_decode() {
         let mut frame = vec![9; 3 * q];
         (frame[1], frame[q], frame[2 * q]) = (0, 0, 0);
         let length = 3 + entry * (q - 1);
-        let mut buffers = (vec![0xA5; 3], vec![0xA5A5; 3 * q], vec![0xA5; length + 1]);
+        let mut buffers = Buffers::arbitrary(&mut generator, [3, 3 * q, length + 1, 3]);
         let before = buffers.clone();
-        let (symbols, costs, store) = (&mut buffers.0, &mut buffers.1, &mut buffers.2);
-        let answer = decode(&code, &frame, symbols, costs, store);
+        let answer = buffers.decode(&code, &frame);
         match sizes {
             Some(_) => {
                 assert!(matches!(
                     answer,
                     Ok(Outcome::Found(1) | Outcome::NotFound(1))
                 ));
-                assert_eq!(store[length], 0xA5);
-                let short = decode(&code, &frame, symbols, costs, &mut store[..length - 1]);
+                assert_eq!(buffers.store[length], before.store[length]);
+                assert!(buffers.margins.iter().all(|&margin| margin <= MOST_MARGIN));
+                buffers.store.truncate(length - 1);
+                let short = buffers.decode(&code, &frame);
                 assert_eq!(short, Err(Refusal::ShortStore));
             }
             None => {

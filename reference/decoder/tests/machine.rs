@@ -1,9 +1,10 @@
-//! Document 01, "Layered machine", with the checks of document 02, §1 and the deviations of §3.
+//! Document 01, "Layered machine", with the checks of document 02, §1, the deviations of §3 and the margins
+//! of §6.
 
 use reference_decoder::machine::Machine;
 use reference_decoder::record::has_accepted_form;
-use reference_decoder::sample::{self, bytes, Generator, Size, Style};
-use reference_decoder::{code_line, decode, Outcome};
+use reference_decoder::sample::{self, bytes, Buffers, Generator, Size, Style};
+use reference_decoder::{code_line, Decision, Outcome};
 
 /// What a decoding leaves in the used parts of its buffers.
 #[derive(Debug, PartialEq)]
@@ -12,20 +13,19 @@ struct Decoded {
     symbols: Vec<u8>,
     costs: Vec<u16>,
     store: Vec<u8>,
+    margins: Vec<u16>,
 }
 
 /// Decodes in buffers of the used length that held 0 before.
 fn decoded(code: &[u8], frame: &[u8]) -> Decoded {
-    let lengths = code_line(code).expect("an accepted code line");
-    let mut symbols = vec![0; lengths.n];
-    let mut costs = vec![0; lengths.frame_length()];
-    let mut store = vec![0; lengths.store_length()];
-    let outcome = decode(code, frame, &mut symbols, &mut costs, &mut store).expect("accepted");
+    let lengths = code_line(code).expect("an accepted code line").lengths();
+    let mut buffers = Buffers::zeroed(lengths);
     Decoded {
-        outcome,
-        symbols,
-        costs,
-        store,
+        outcome: buffers.decode(code, frame).expect("accepted"),
+        symbols: buffers.symbols,
+        costs: buffers.costs,
+        store: buffers.store,
+        margins: buffers.margins,
     }
 }
 
@@ -40,6 +40,7 @@ fn the_example_of_the_program() {
         symbols: vec![1, 1, 0],
         costs: vec![1, 0, 7, 6, 1, 0, 11, 1, 0, 2, 1, 13],
         store: bytes("000101 040105FF00 020207FF00 030107FF00"),
+        margins: vec![1, 1, 1],
     };
     assert_eq!(
         decoded(&bytes(ONE_CHECK), &bytes("05000907 00040803 0006020A")),
@@ -59,6 +60,7 @@ fn the_scale_rounds_down() {
             symbols: vec![1, 0, 0],
             costs: vec![3, 0, 8, 6, 0, 2, 9, 2, 0, 4, 1, 11],
             store: bytes("000101 040105FF00 020207FF00 030107FF00"),
+            margins: vec![3, 2, 1],
         };
         assert_eq!(
             decoded(&code, &bytes("05000907 00040803 0006020A")),
@@ -70,18 +72,19 @@ fn the_scale_rounds_down() {
 #[test]
 fn found_at_the_start_makes_no_iteration_and_leaves_the_store() {
     let frame = bytes("00000907 00040803 0006020A");
-    let (mut symbols, mut costs, mut store) = ([9; 4], [999; 13], [7; 18]);
-    let outcome = decode(
-        &bytes(ONE_CHECK),
-        &frame,
-        &mut symbols,
-        &mut costs,
-        &mut store,
-    );
+    let mut buffers = Buffers {
+        symbols: vec![9; 4],
+        costs: vec![999; 13],
+        store: vec![7; 18],
+        margins: vec![999; 4],
+    };
+    let outcome = buffers.decode(&bytes(ONE_CHECK), &frame);
     assert_eq!(outcome, Ok(Outcome::Found(0)));
-    assert_eq!(symbols, [0, 0, 0, 9]);
-    assert_eq!(costs, [0, 0, 9, 7, 0, 4, 8, 3, 0, 6, 2, 10, 999]);
-    assert_eq!(store, [7; 18]);
+    assert_eq!(buffers.symbols, [0, 0, 0, 9]);
+    let costs = [0, 0, 9, 7, 0, 4, 8, 3, 0, 6, 2, 10, 999];
+    assert_eq!(buffers.costs, costs);
+    assert_eq!(buffers.store, [7; 18]);
+    assert_eq!(buffers.margins, [0, 3, 2, 999]);
 }
 
 /// Runs of several iterations over several checks, with costs above 255. Their values come from a
@@ -122,10 +125,9 @@ fn runs_of_several_iterations() {
         assert_eq!(decoded.outcome, outcome);
         assert_eq!(decoded.costs, costs);
         assert_eq!(decoded.store, bytes(store));
-        let decisions = costs
-            .chunks(4)
-            .map(|p| p.iter().position(|&cost| cost == 0).unwrap());
-        assert!(decisions.eq(decoded.symbols.into_iter().map(usize::from)));
+        let decisions = costs.chunks(4).map(Decision::of);
+        let decided = decoded.symbols.into_iter().zip(decoded.margins);
+        assert!(decided.eq(decisions.map(|decision| (decision.symbol, decision.margin))));
     }
 }
 
@@ -183,6 +185,7 @@ fn checks_on_two_columns() {
             1, 0, 5, 0, 10, 255, 0, 5, 1, 7, 255, 0, 9, 0, 18, 255, 0, 1, 0, 1, 0, 6, 255, 0, 2, 1,
             11, 255, 0, 8, 0, 10, 255, 0,
         ],
+        margins: vec![5, 5, 5],
     };
     let frame = [0, 5, 7, 9, 4, 0, 8, 3, 6, 2, 0, 10];
     assert_eq!(decoded(&code, &frame), expected);
@@ -198,6 +201,7 @@ fn the_code_of_two_columns() {
         symbols: vec![0, 0],
         costs: vec![0, 1, 11, 8, 0, 1, 11, 8],
         store: bytes("0100 040105FF00 030107FF00 080109FF00"),
+        margins: vec![1, 1],
     };
     let frame = bytes("00050709 04000803");
     assert_eq!(decoded(&code, &frame), expected);
@@ -210,6 +214,7 @@ fn a_column_in_no_check_keeps_its_costs() {
     let decoded = decoded(&code, &frame);
     assert_eq!(decoded.outcome, Outcome::Found(1));
     assert_eq!(decoded.symbols, [1, 2, 1, 3, 0]);
+    assert_eq!(decoded.margins, [1, 1, 1, 255, 1]);
     assert_eq!(decoded.costs[4..8], [9, 255, 0, 1]);
     assert_eq!(decoded.costs[12..16], [255, 255, 255, 0]);
 }
@@ -248,7 +253,9 @@ fn costs_stay_in_range_and_the_result_is_the_first_satisfied_test() {
         };
         let decoded = decoded(&sample.line, &frame);
         assert_eq!(decoded.outcome, expected);
-        assert_eq!(decoded.symbols, machine.decisions());
+        let decided = decoded.symbols.into_iter().zip(decoded.margins);
+        let decided = decided.map(|(symbol, margin)| Decision { symbol, margin });
+        assert!(decided.eq(machine.decisions()));
         assert!(decoded
             .costs
             .iter()

@@ -4,8 +4,8 @@
 use std::ops::RangeInclusive;
 
 use reference_decoder::check::Messages;
-use reference_decoder::sample::{self, bytes, Generator, Style};
-use reference_decoder::{check, code_line, decode, expand, record, Join, Outcome, Rule};
+use reference_decoder::sample::{self, bytes, Buffers, Generator, Style};
+use reference_decoder::{check, code_line, expand, record, Join, Outcome, Rule};
 
 fn rule(first: u8) -> Rule {
     Rule::new(first).expect("an accepted first byte")
@@ -192,13 +192,13 @@ struct Decoded {
 fn decoded(first: &str, frame: &str) -> Decoded {
     let rest = "0005 02 08 03 04 000002 000104 000307 000402 04 000005 000201 000305 000404";
     let line = bytes(&format!("{first} {rest}"));
-    let store_length = code_line(&line).expect("an accepted code").store_length();
-    let (mut symbols, mut costs, mut store) = ([0; 5], vec![0; 40], vec![0; store_length]);
-    let outcome = decode(&line, &bytes(frame), &mut symbols, &mut costs, &mut store);
+    let lengths = code_line(&line).expect("an accepted code").lengths();
+    let mut buffers = Buffers::zeroed(lengths);
+    let outcome = buffers.decode(&line, &bytes(frame));
     Decoded {
         outcome: outcome.expect("an accepted frame"),
-        costs,
-        store,
+        costs: buffers.costs,
+        store: buffers.store,
     }
 }
 

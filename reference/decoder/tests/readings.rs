@@ -55,7 +55,9 @@ fn the_extra_column_less_a_columns_part_is_not_the_sent_cost() {
 fn the_smallest_tied_symbol_is_the_hard_decision() {
     for first in [0x02, 0x22] {
         let messages = messages(first, 3, "05000500 00000000 01010100");
-        assert_eq!(messages.decisions, [1, 0, 3]);
+        let decided = messages.decisions.iter();
+        let decided = decided.map(|decision| (decision.symbol, decision.margin));
+        assert!(decided.eq([(1, 0), (0, 0), (3, 1)]));
         assert_eq!(messages.shifts, [3, 2, 1]);
     }
 }

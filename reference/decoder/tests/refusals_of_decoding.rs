@@ -2,8 +2,8 @@
 //! own and, for the order, together with the one after it. A refused decoding changes no lent
 //! element.
 
-use reference_decoder::sample::{bytes, Generator};
-use reference_decoder::{code_line, decode};
+use reference_decoder::code_line;
+use reference_decoder::sample::{bytes, Buffers, Generator};
 
 const CODE: &str = "020003011001 03 000001 000101 000201";
 const FRAME: &str = "05000907 00040803 0006020A";
@@ -11,27 +11,25 @@ const FRAME: &str = "05000907 00040803 0006020A";
 /// The refusal of a code line, which a decoding answers too.
 fn refused_code(line: &[u8]) -> u8 {
     let number = code_line(line).expect_err("a refusal").number();
-    assert_eq!(refused_decoding(line, &bytes(FRAME), [0, 0, 0]), number);
-    assert_eq!(refused_decoding(line, &[], [300, 20_000, 50_000]), number);
+    assert_eq!(refused_decoding(line, &bytes(FRAME), [0; 4]), number);
+    let long_enough = [300, 20_000, 50_000, 300];
+    assert_eq!(refused_decoding(line, &[], long_enough), number);
     number
 }
 
 /// The refusal of a decoding in buffers of arbitrary content, which has not changed. The lengths
-/// are those of the symbol buffer, the cost buffer and the store.
-fn refused_decoding(code: &[u8], frame: &[u8], lengths: [usize; 3]) -> u8 {
-    let mut generator = Generator::new(70);
-    let before_symbols = generator.bytes(lengths[0]);
-    let before_costs = generator.numbers(lengths[1]);
-    let before_store = generator.bytes(lengths[2]);
-    let mut symbols = before_symbols.clone();
-    let mut costs = before_costs.clone();
-    let mut store = before_store.clone();
-    let outcome = decode(code, frame, &mut symbols, &mut costs, &mut store);
-    assert_eq!(
-        (symbols, costs, store),
-        (before_symbols, before_costs, before_store)
-    );
+/// are those of the symbol buffer, the cost buffer, the store and the margin buffer.
+fn refused_decoding(code: &[u8], frame: &[u8], lengths: [usize; 4]) -> u8 {
+    let before = Buffers::arbitrary(&mut Generator::new(70), lengths);
+    let mut buffers = before.clone();
+    let outcome = buffers.decode(code, frame);
+    assert_eq!(buffers, before);
     outcome.expect_err("a refusal").number()
+}
+
+/// Whether a decoding is accepted in buffers of these lengths.
+fn is_accepted(code: &[u8], frame: &[u8], lengths: [usize; 4]) -> bool {
+    Buffers::zeroed(lengths).decode(code, frame).is_ok()
 }
 
 /// The code line with bytes replaced from a place on.
@@ -173,10 +171,10 @@ fn bytes_left_over_are_5() {
 }
 
 #[test]
-fn decode_12_13_2_3_4() {
+fn decode_12_13_2_3_4_19() {
     let code = bytes(CODE);
     let number = |frame: &str, lengths| refused_decoding(&code, &bytes(frame), lengths);
-    let long_enough = [3, 12, 18];
+    let long_enough = [3, 12, 18, 3];
     for frame in [
         "",
         "05000907 00040803 000602",
@@ -187,37 +185,56 @@ fn decode_12_13_2_3_4() {
     assert_eq!(number("05010907 01040803 010602", long_enough), 12);
     let without_zero = "05000907 01040803 0006020A";
     assert_eq!(number(without_zero, long_enough), 13);
-    assert_eq!(number(without_zero, [2, 12, 18]), 13);
-    assert_eq!(number(FRAME, [2, 12, 18]), 2);
-    assert_eq!(number(FRAME, [0, 11, 18]), 2);
-    assert_eq!(number(FRAME, [3, 11, 18]), 3);
-    assert_eq!(number(FRAME, [3, 0, 17]), 3);
-    assert_eq!(number(FRAME, [3, 12, 17]), 4);
-    assert_eq!(number(FRAME, [3, 12, 0]), 4);
-    let accepted = decode(
-        &code,
-        &bytes(FRAME),
-        &mut [0; 3],
-        &mut [0; 12],
-        &mut [0; 18],
-    );
-    assert!(accepted.is_ok());
+    for (lengths, expected) in [
+        ([2, 12, 18, 3], 2),
+        ([0, 11, 18, 3], 2),
+        ([3, 11, 18, 3], 3),
+        ([3, 0, 17, 3], 3),
+        ([3, 12, 17, 3], 4),
+        ([3, 12, 0, 2], 4),
+        ([3, 12, 18, 2], 19),
+        ([4, 13, 19, 0], 19),
+        // Each with all that come after it.
+        ([2, 11, 17, 2], 2),
+        ([3, 11, 17, 2], 3),
+        ([3, 12, 17, 2], 4),
+    ] {
+        assert_eq!(number(without_zero, lengths), 13);
+        assert_eq!(number(FRAME, lengths), expected);
+    }
+    assert!(is_accepted(&code, &bytes(FRAME), long_enough));
 }
 
 #[test]
 fn a_column_in_no_check_needs_a_cost_of_0() {
     let code = bytes("020004011001 03 000001 000101 000201");
     let frame = bytes("05000907 00040803 0006020A 01010101");
-    assert_eq!(refused_decoding(&code, &frame, [4, 16, 18]), 13);
+    assert_eq!(refused_decoding(&code, &frame, [4, 16, 18, 4]), 13);
 }
 
 #[test]
-fn a_short_store_is_4_even_when_no_iteration_is_made() {
-    let satisfied = "00040803 00040803 0006020A";
-    assert_eq!(
-        refused_decoding(&bytes(CODE), &bytes(satisfied), [3, 12, 17]),
-        4
-    );
+fn short_stores_and_margins_are_refused_even_when_no_iteration_is_made() {
+    let satisfied = bytes("00040803 00040803 0006020A");
+    for (lengths, expected) in [
+        ([3, 12, 17, 3], 4),
+        ([3, 12, 17, 2], 4),
+        ([3, 12, 18, 2], 19),
+    ] {
+        let number = refused_decoding(&bytes(CODE), &satisfied, lengths);
+        assert_eq!(number, expected);
+    }
+}
+
+/// Document 02, §6: "19, margin buffer shorter than N", whatever the other buffers have to spare.
+#[test]
+fn a_margin_buffer_is_as_long_as_n() {
+    let code = bytes("020007011001 03 000001 000101 000201");
+    let frame = [bytes(FRAME), bytes("00010101").repeat(4)].concat();
+    for length in 0..7 {
+        let lengths = [30, 40, 50, length];
+        assert_eq!(refused_decoding(&code, &frame, lengths), 19);
+    }
+    assert!(is_accepted(&code, &frame, [7, 28, 18, 7]));
 }
 
 /// Document 02, §3: "4 and 16 use the new length".
@@ -225,10 +242,10 @@ fn a_short_store_is_4_even_when_no_iteration_is_made() {
 fn a_store_for_two_deviations_is_4_with_three() {
     let code = with(0, "22");
     for length in [0, 18, 23] {
-        assert_eq!(refused_decoding(&code, &bytes(FRAME), [3, 12, length]), 4);
+        let lengths = [3, 12, length, 3];
+        assert_eq!(refused_decoding(&code, &bytes(FRAME), lengths), 4);
     }
-    assert_eq!(refused_decoding(&code, &bytes(FRAME), [3, 11, 23]), 3);
-    let (mut symbols, mut costs, mut store) = ([0; 3], [0; 12], [0; 24]);
-    let accepted = decode(&code, &bytes(FRAME), &mut symbols, &mut costs, &mut store);
-    assert!(accepted.is_ok());
+    let number = refused_decoding(&code, &bytes(FRAME), [3, 11, 23, 3]);
+    assert_eq!(number, 3);
+    assert!(is_accepted(&code, &bytes(FRAME), [3, 12, 24, 3]));
 }

@@ -5,8 +5,8 @@ use std::collections::BTreeSet;
 
 use reference_decoder::encode::has_encoding_form;
 use reference_decoder::record::has_accepted_form;
-use reference_decoder::sample::{self, Generator, Size, Style};
-use reference_decoder::{code_line, decode, program, Join, Outcome, Refusal, Rule};
+use reference_decoder::sample::{self, Buffers, Generator, Size, Style};
+use reference_decoder::{code_line, program, Decision, Join, Outcome, Refusal, Rule};
 
 #[test]
 fn a_seed_gives_the_same_samples() {
@@ -119,10 +119,7 @@ fn frames_are_accepted_and_runs_end_in_every_way() {
             sample::noisy_frame(&mut generator, &code, &sample.word, wrong, style),
         ];
         for frame in frames {
-            let mut symbols = vec![0; code.n];
-            let mut costs = vec![0; code.frame_length()];
-            let mut store = vec![0; code.store_length()];
-            let outcome = decode(&sample.line, &frame, &mut symbols, &mut costs, &mut store);
+            let outcome = Buffers::zeroed(code.lengths()).decode(&sample.line, &frame);
             kinds.insert(match outcome.expect("an accepted frame") {
                 Outcome::Found(0) => "found at the start",
                 Outcome::Found(1) => "found after one iteration",
@@ -143,10 +140,9 @@ fn a_noisy_frame_without_wrong_columns_decides_for_the_word() {
         for wrong in [0, 3] {
             let frame = sample::noisy_frame(&mut generator, &code, &sample.word, wrong, style);
             let columns = frame.chunks(code.field().size());
-            let decisions = columns.map(|costs| costs.iter().position(|&cost| cost == 0));
-            let differences = decisions
+            let differences = columns
                 .zip(&sample.word)
-                .filter(|&(decision, &symbol)| decision != Some(usize::from(symbol)));
+                .filter(|&(costs, &symbol)| Decision::of(costs).symbol != symbol);
             assert_eq!(differences.count(), wrong);
         }
     }

@@ -3,6 +3,7 @@
 use reference_decoder::check::accept_costs;
 use reference_decoder::field::Field;
 use reference_decoder::sample::Generator;
+use reference_decoder::Decision;
 use simulate::channel::Channel;
 use simulate::quantiser::Quantiser;
 
@@ -39,10 +40,8 @@ fn a_clear_channel_brings_the_word() {
     let word: Vec<u8> = (0..100).map(|_| generator.below(32) as u8).collect();
     let received = Channel::new(20.0, 0.5).send(&mut generator, 5, word.clone());
     let frame = Quantiser { costs_per_nat: 8.0 }.frame(5, &received.ratios);
-    let decided = frame
-        .chunks(32)
-        .map(reference_decoder::check::hard_decision);
-    assert_eq!(decided.collect::<Vec<u8>>(), word);
+    let decided = frame.chunks(32).map(Decision::of);
+    assert!(decided.map(|decision| decision.symbol).eq(word));
 }
 
 /// Half a rate at 0 dB: noise of variance 1, and logarithms of mean and half variance 2 for bit 0.

@@ -4,8 +4,8 @@
 mod common;
 
 use reference_decoder::check::Messages;
-use reference_decoder::sample::{self, Generator, Size, Style};
-use reference_decoder::{decode, Outcome as Decoded, Rule};
+use reference_decoder::sample::{self, Buffers, Generator, Size, Style};
+use reference_decoder::{Outcome as Decoded, Rule};
 use simulate::decoder::{Decoder, Outcome};
 use simulate::layered::{CheckRule, Layered};
 use simulate::library::Library;
@@ -39,12 +39,8 @@ fn the_documents_rule_decodes_as_the_reference() {
         let style = generator.one_of(&Style::ALL);
         let wrong = generator.below(code.columns);
         let frame = sample::noisy_frame(&mut generator, &read, &sample.word, wrong, style);
-        let mut symbols = vec![0; code.columns];
-        let mut costs = vec![0; code.frame_length()];
-        let k = read.rule().deviations();
-        let mut store = vec![0; code.store_length(k)];
-        let expected = decode(&sample.line, &frame, &mut symbols, &mut costs, &mut store);
-        let expected = outcome(expected.unwrap());
+        let mut buffers = Buffers::zeroed(read.lengths());
+        let expected = outcome(buffers.decode(&sample.line, &frame).unwrap());
 
         let mut layered = Layered::new(&code, read.g, read.limit, OfDocuments(read.rule()));
         // A decoder keeps nothing from one frame to the next.
@@ -52,14 +48,15 @@ fn the_documents_rule_decodes_as_the_reference() {
         assert_eq!(layered.decode(&frame), expected);
         assert_eq!(
             (layered.symbols(), layered.costs()),
-            (&symbols[..], &costs[..])
+            (&buffers.symbols[..], &buffers.costs[..])
         );
 
         let edition = petsivola::Rule::of(read.first).map(petsivola::Rule::edition);
         let edition = edition.expect("an accepted first byte");
+        let k = read.rule().deviations();
         let mut library = Library::new(&code, k, edition, read.g, read.limit);
         assert_eq!(library.decode(&frame), expected);
-        assert_eq!(library.symbols(), symbols);
+        assert_eq!(library.symbols(), buffers.symbols);
         found[usize::from(expected.found)] += 1;
     }
     assert!(found.iter().all(|&count| count > 50), "{found:?}");

@@ -3,6 +3,7 @@
 mod inputs;
 mod seen;
 
+use reference_decoder::code::MOST_COLUMNS;
 use reference_decoder::sample::Generator;
 
 use super::{first_byte, of_library, of_reference, EntryPoint};
@@ -56,6 +57,7 @@ fn compare(generator: &mut Generator, input: &Input, tally: &mut Tally) -> Resul
         buffers_expected.symbols.slice_mut(),
         buffers_expected.costs.slice_mut(),
         buffers_expected.store.slice_mut(),
+        &mut [0; MOST_COLUMNS],
     ))
     .map(|outcome| (outcome.status(), outcome.iterations()));
     let answer = buffers.decode(&line_lent, &frame_lent);

@@ -2,10 +2,15 @@
 //! deviations: three ways to find it.
 
 use reference_decoder::sample::CheckSample;
-use reference_decoder::Rule;
+use reference_decoder::{Decision, Rule};
 
 /// One of the ways: a check, and the columns.
 pub type Method = fn(&CheckSample, &[usize]) -> Vec<i32>;
+
+/// A column's hard decision.
+fn decided(costs: &[u8]) -> usize {
+    usize::from(Decision::of(costs).symbol)
+}
 
 /// By trying every combination of symbols.
 pub fn by_all_combinations(sample: &CheckSample, columns: &[usize]) -> Vec<i32> {
@@ -17,7 +22,7 @@ pub fn by_all_combinations(sample: &CheckSample, columns: &[usize]) -> Vec<i32> 
             let x = rest % q;
             rest /= q;
             let costs = &sample.costs[n * q..(n + 1) * q];
-            deviations += usize::from(Some(x) != costs.iter().position(|&cost| cost == 0));
+            deviations += usize::from(x != decided(costs));
             sum ^= usize::from(rule.field().product(sample.weights[n], x as u8));
             cost = rule.join().with(cost, i32::from(costs[x]));
         }
@@ -37,10 +42,10 @@ pub fn column_after_column(sample: &CheckSample, columns: &[usize]) -> Vec<i32> 
     least[0][0] = Some(0);
     for &n in columns {
         let costs = &sample.costs[n * q..(n + 1) * q];
-        let decision = costs.iter().position(|&cost| cost == 0);
+        let decision = decided(costs);
         let mut next = vec![vec![None::<i32>; q]; counts];
         for (x, &cost_of_x) in costs.iter().enumerate() {
-            let deviates = usize::from(Some(x) != decision);
+            let deviates = usize::from(x != decision);
             let term = usize::from(rule.field().product(sample.weights[n], x as u8));
             for (before, known) in least[..counts - deviates].iter().enumerate() {
                 let known = known.iter().enumerate();
@@ -67,7 +72,7 @@ pub fn by_deviations(sample: &CheckSample, columns: &[usize]) -> Vec<i32> {
     let mut changes = Vec::new();
     for &n in columns {
         let costs = &sample.costs[n * q..(n + 1) * q];
-        let decision = costs.iter().position(|&cost| cost == 0).unwrap();
+        let decision = decided(costs);
         let term = |x: usize| usize::from(field.product(sample.weights[n], x as u8));
         hard_sum ^= term(decision);
         let deviations = (0..q).filter(|&x| x != decision);
