@@ -1,5 +1,6 @@
 /* Decodes document 01's frame and prints the line that the program decode prints for it: 0001010100,
- * found, one iteration, symbols 1, 1, 0. From the repository's root, after rt staticlib petsivola:
+ * found, one iteration, symbols 1, 1, 0. The margins, not printed, are 1, 1, 1: with each symbol the
+ * next one costs 1 more. From the repository's root, after rt staticlib petsivola:
  *
  *     gcc -std=c99 -Wall -Wextra -Werror -pedantic -Iinclude examples/decode.c \
  *         target/staticlib/libpetsivola.a -o target/example-c && target/example-c
@@ -29,13 +30,15 @@ static const uint8_t frame[PETSIVOLA_FRAME_LENGTH(FIRST, COLUMNS)] = {
 static uint8_t symbols[COLUMNS];
 static uint16_t costs[PETSIVOLA_FRAME_LENGTH(FIRST, COLUMNS)];
 static uint8_t store[PETSIVOLA_STORE_LENGTH(FIRST, CHECKS, EDGES)];
+static uint16_t margins[PETSIVOLA_MARGINS_LENGTH(COLUMNS)];
 
 int main(void)
 {
     uint32_t result = petsivola_decode(code, sizeof code, frame, sizeof frame,
                                        symbols, sizeof symbols,
                                        costs, sizeof costs / sizeof costs[0],
-                                       store, sizeof store);
+                                       store, sizeof store,
+                                       margins, sizeof margins / sizeof margins[0]);
     unsigned number = (unsigned)PETSIVOLA_NUMBER(result);
     unsigned t = (unsigned)PETSIVOLA_VALUE(result);
 

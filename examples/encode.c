@@ -1,6 +1,6 @@
 /* Encodes a message, sends it bit by bit through noise, and decodes what arrives. Prints the message,
- * the word that was sent, the symbols that arrived and the word that was decoded, as in encode.out.
- * From the repository's root, after rt staticlib petsivola:
+ * the word that was sent, the symbols that arrived, the word that was decoded and how sure each of its
+ * symbols is, as in encode.out. From the repository's root, after rt staticlib petsivola:
  *
  *     gcc -std=c99 -Wall -Wextra -Werror -pedantic -Iinclude examples/encode.c \
  *         target/staticlib/libpetsivola.a -o target/example-encode && target/example-encode
@@ -33,6 +33,7 @@ static uint8_t frame[PETSIVOLA_FRAME_LENGTH(FIRST, COLUMNS)];
 static uint8_t decoded[COLUMNS];
 static uint16_t costs[PETSIVOLA_FRAME_LENGTH(FIRST, COLUMNS)];
 static uint8_t store[PETSIVOLA_STORE_LENGTH(FIRST, CHECKS, EDGES)];
+static uint16_t margins[PETSIVOLA_MARGINS_LENGTH(COLUMNS)];
 
 /* Noise from -18 to 18, the same in every run. */
 static int noise(void)
@@ -83,6 +84,21 @@ static void print(const char *name, const uint8_t *symbols, size_t count)
     printf("\n");
 }
 
+/* The margins, with a mark at the weakest: a small margin is a decision to doubt. */
+static void print_margins(void)
+{
+    uint16_t least = margins[0];
+
+    for (size_t n = 1; n < COLUMNS; n++) {
+        least = margins[n] < least ? margins[n] : least;
+    }
+    printf("%-8s", "margins");
+    for (size_t n = 0; n < COLUMNS; n++) {
+        printf(" %u%s", (unsigned)margins[n], margins[n] == least ? "*" : "");
+    }
+    printf("\n");
+}
+
 int main(void)
 {
     uint8_t arrived[COLUMNS];
@@ -99,12 +115,14 @@ int main(void)
     result = petsivola_decode(code, sizeof code, frame, sizeof frame,
                               decoded, sizeof decoded,
                               costs, sizeof costs / sizeof costs[0],
-                              store, sizeof store);
+                              store, sizeof store,
+                              margins, sizeof margins / sizeof margins[0]);
 
     print("message", message, sizeof message);
     print("sent", sent, sizeof sent);
     print("arrived", arrived, sizeof arrived);
     print("decoded", decoded, sizeof decoded);
+    print_margins();
     printf("status %u, t %u\n", (unsigned)PETSIVOLA_NUMBER(result),
            (unsigned)PETSIVOLA_VALUE(result));
     return 0;

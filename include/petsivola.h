@@ -10,9 +10,9 @@
  * reasons below and no others. A refused call changes no byte. An accepted call fills the first bytes
  * of its buffers, as long as said below, and leaves the rest as it was.
  *
- * A buffer is a pointer and a length in ELEMENTS, which is bytes except for the 16-bit costs. A null
- * pointer with length 0 is an empty buffer. A buffer that is written overlaps no other buffer of the
- * call.
+ * A buffer is a pointer and a length in ELEMENTS, which is bytes except for the 16-bit costs and
+ * margins. A null pointer with length 0 is an empty buffer. A buffer that is written overlaps no other
+ * buffer of the call.
  *
  * The result is one number: PETSIVOLA_NUMBER(result) says what happened, PETSIVOLA_VALUE(result) is
  * the product, the bytes written or the iterations t; it is 0 on a refusal.
@@ -74,7 +74,9 @@ enum petsivola_number {
     PETSIVOLA_NO_FORM = 17,         /* N not above M, or a check m without column N - M + m or with
                                        a higher one */
     /* encode: by the message's writer */
-    PETSIVOLA_MESSAGE = 18          /* message length is not N - M, or a symbol not below q */
+    PETSIVOLA_MESSAGE = 18,         /* message length is not N - M, or a symbol not below q */
+    /* decode: by the caller */
+    PETSIVOLA_SHORT_MARGINS = 19    /* margin buffer shorter than N */
 };
 
 /* All below are constant expressions for constant arguments.
@@ -94,6 +96,7 @@ enum petsivola_number {
 #define PETSIVOLA_STORE_LENGTH(first, m, edges) \
     ((size_t)(edges) + \
      (size_t)(m) * (1 + 2 * PETSIVOLA_DEVIATIONS(first)) * (PETSIVOLA_Q(first) - 1))
+#define PETSIVOLA_MARGINS_LENGTH(n) ((size_t)(n))
 #define PETSIVOLA_CODE_LENGTH(m, edges) (6 + (size_t)(m) + 3 * (size_t)(edges))
 #define PETSIVOLA_MESSAGE_LENGTH(n, m) ((size_t)(n) - (size_t)(m))  /* for n above m */
 
@@ -104,6 +107,7 @@ enum petsivola_number {
 #define PETSIVOLA_MOST_MESSAGE PETSIVOLA_MESSAGE_LENGTH(256, 1)        /*    255 */
 #define PETSIVOLA_MOST_COSTS PETSIVOLA_FRAME_LENGTH(0x26, 256)         /* 16,384 */
 #define PETSIVOLA_MOST_STORE PETSIVOLA_STORE_LENGTH(0x26, 128, 1024)   /* 57,472 */
+#define PETSIVOLA_MOST_MARGINS PETSIVOLA_MARGINS_LENGTH(256)
 #define PETSIVOLA_MOST_CODE PETSIVOLA_CODE_LENGTH(128, 1024)           /*  3,206 */
 #define PETSIVOLA_MOST_LINE ((size_t)32768)                            /* digits */
 
@@ -118,15 +122,19 @@ enum petsivola_number {
  *   costs    gets the last N * q costs, 0 to 510: at least PETSIVOLA_FRAME_LENGTH(first, N)
  *   store    gets the M records, end to end; untouched when t = 0: at least
  *            PETSIVOLA_STORE_LENGTH(first, M, edges)
+ *   margins  gets N margins, 0 to 510: how sure each decision is. A margin is the least of the last
+ *            costs of the other symbols, less the least of all, which is the decision's; 0 is a tie.
+ *            Shade the samples with small ones: at least PETSIVOLA_MARGINS_LENGTH(N)
  *
  * Number: 0 found, 1 not found, or a refusal; tested in this order: 5 to 11 as the code line is read
- * front to back, 12, 13, 2, 3, 4. Value: the iterations t, 0 to I.
+ * front to back, 12, 13, 2, 3, 4, 19. Value: the iterations t, 0 to I.
  */
 uint32_t petsivola_decode(const uint8_t *code, size_t code_len,
                           const uint8_t *frame, size_t frame_len,
                           uint8_t *symbols, size_t symbols_len,
                           uint16_t *costs, size_t costs_len,
-                          uint8_t *store, size_t store_len);
+                          uint8_t *store, size_t store_len,
+                          uint16_t *margins, size_t margins_len);
 
 /* Encodes one message: N - M symbols become the N symbols that decoding looks for.
  *
