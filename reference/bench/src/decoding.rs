@@ -1,6 +1,6 @@
 //! The times of decoding by code: per iteration, and coded bits per second.
 
-use petsivola::Edition;
+use petsivola::{lengths, Edition};
 use simulate::code::Code;
 use simulate::decoder::Decoder;
 use simulate::layered::Layered;
@@ -143,7 +143,8 @@ fn proved(
     costs: &mut [u16],
     store: &mut [u8],
 ) -> Result<(u8, u8), u8> {
-    let outcome = petsivola::decode(line, frame, symbols, costs, store);
+    let margins = &mut [0; lengths::MOST_COLUMNS];
+    let outcome = petsivola::decode(line, frame, symbols, costs, store, margins);
     let outcome = outcome.map_err(|refusal| refusal.number() as u8)?;
     Ok((outcome.status(), outcome.iterations()))
 }

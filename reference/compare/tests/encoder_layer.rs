@@ -34,9 +34,11 @@ fn what_is_encoded_is_found_at_the_start() {
         let mut symbols = generator.bytes(code.n);
         let mut costs = generator.numbers(code.frame_length());
         let mut store = generator.bytes(code.store_length());
-        let before = store.clone();
-        let outcome = decode(&line, &frame, &mut symbols, &mut costs, &mut store);
+        let mut margins = generator.numbers(code.n);
+        let (before, lent) = (store.clone(), &mut costs);
+        let outcome = decode(&line, &frame, &mut symbols, lent, &mut store, &mut margins);
         assert_eq!(outcome, Ok(Outcome::Found(0)));
+        assert!(!margins.contains(&0));
         assert_eq!((symbols, store), (word, before));
         assert!(costs.into_iter().eq(frame.into_iter().map(u16::from)));
     }

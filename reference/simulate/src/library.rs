@@ -11,6 +11,7 @@ pub struct Library {
     symbols: Vec<u8>,
     costs: Vec<u16>,
     store: Vec<u8>,
+    margins: Vec<u16>,
 }
 
 impl Library {
@@ -21,6 +22,7 @@ impl Library {
             symbols: vec![0; code.columns],
             costs: vec![0; code.frame_length()],
             store: vec![0; code.store_length(deviations)],
+            margins: vec![0; code.columns],
         }
     }
 }
@@ -33,6 +35,7 @@ impl Decoder for Library {
             &mut self.symbols,
             &mut self.costs,
             &mut self.store,
+            &mut self.margins,
         )
         .expect("an accepted code line, an accepted frame and buffers long enough");
         Outcome {

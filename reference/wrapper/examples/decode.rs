@@ -1,5 +1,6 @@
 //! Decodes document 01's frame and prints the line that the program `decode` prints for it:
-//! `0001010100`, found, one iteration, symbols 1, 1, 0. `examples/decode.c` is the same in C.
+//! `0001010100`, found, one iteration, symbols 1, 1, 0. The margins, not printed, are 1, 1, 1: with each
+//! symbol the next one costs 1 more. `examples/decode.c` is the same in C.
 
 #![forbid(unsafe_code)]
 
@@ -17,7 +18,16 @@ fn main() {
     let mut symbols = [0; lengths::MOST_COLUMNS];
     let mut costs = [0; lengths::MOST_FRAME];
     let mut store = [0; lengths::MOST_STORE];
-    match decode(&CODE, &FRAME, &mut symbols, &mut costs, &mut store) {
+    let mut margins = [0; lengths::MOST_COLUMNS];
+    let outcome = decode(
+        &CODE,
+        &FRAME,
+        &mut symbols,
+        &mut costs,
+        &mut store,
+        &mut margins,
+    );
+    match outcome {
         Ok(outcome) => {
             print!("{:02X}{:02X}", outcome.status(), outcome.iterations());
             for symbol in &symbols[..3] {

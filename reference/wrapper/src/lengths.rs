@@ -11,7 +11,8 @@ pub const MOST_ELEMENTS: usize = 64;
 pub const MOST_DEVIATIONS: usize = 3;
 /// Document 02, §1: "Degree becomes 2 to 32."
 pub const MOST_DEGREE: usize = 32;
-/// "N as two bytes, high first (1 to 256)": also the longest used part of a symbol buffer.
+/// "N as two bytes, high first (1 to 256)": also the longest used part of a symbol buffer and of a margin
+/// buffer.
 pub const MOST_COLUMNS: usize = 256;
 /// "M (1 to 128)"
 pub const MOST_CHECKS: usize = 128;

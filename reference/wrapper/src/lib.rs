@@ -16,7 +16,7 @@
 //! | [`check`] | the record of one check | 6, 9, 11, 12, 13, 4 |
 //! | [`expand`] | the sent costs that a record stands for | 6, 9, 11, 16, 2 |
 //! | [`line`] | the bytes of a line of hexadecimal digits | 15, 14, 2 |
-//! | [`decode`] | symbols, costs and records of one frame | 5 to 11, 12, 13, 2, 3, 4 |
+//! | [`decode`] | symbols, costs, records and margins of one frame | 5 to 11, 12, 13, 2, 3, 4, 19 |
 //! | [`encode`] | the symbols of one message | 5 to 11, 17, 18, 2 |
 //!
 //! Document 01's example, a code of three columns and one check over the field of four elements:
@@ -29,9 +29,11 @@
 //! let mut symbols = [0; 3];
 //! let mut costs = [0; 12];
 //! let mut store = [0; lengths::MOST_STORE];
-//! let outcome = decode(&code, &frame, &mut symbols, &mut costs, &mut store);
+//! let mut margins = [0; 3];
+//! let outcome = decode(&code, &frame, &mut symbols, &mut costs, &mut store, &mut margins);
 //! assert_eq!(outcome, Ok(Outcome::Found(1)));
 //! assert_eq!(symbols, [1, 1, 0]);
+//! assert_eq!(margins, [1, 1, 1]);
 //! ```
 
 #![no_std]
@@ -47,6 +49,9 @@ mod rule;
 pub use answer::Outcome;
 pub use refusal::Refusal;
 pub use rule::{Edition, Rule};
+
+/// The greatest margin of a decision; a cost of the cost buffer is no greater either.
+pub const MOST_MARGIN: u16 = 510;
 
 /// The product of two elements of the field with 2^p elements. Order: "Product: 6, 11."
 pub fn product(p: u8, a: u8, b: u8) -> Result<u8, Refusal> {
@@ -73,19 +78,22 @@ pub fn line(text: &[u8], out: &mut [u8]) -> Result<usize, Refusal> {
     answer::written(library::line(text, out))
 }
 
-/// Decodes one frame under a code line. Order: "Decode: code, 12, 13, 2, 3, 4."
+/// Decodes one frame under a code line. Order: "Decode: code, 12, 13, 2, 3, 4.", then 19.
 ///
 /// "The symbol buffer then holds the N decisions, the cost buffer (16-bit numbers) holds P, N times
 /// q of them, and the record store holds the records end to end in code order. With t = 0 the store
-/// is untouched." The buffers' lengths are N, [`lengths::frame`] and [`lengths::store`], or more.
+/// is untouched." The margin buffer holds for each decision "the least cost among the other symbols less
+/// the least cost of all": how sure it is, 0 for a tie and at most [`MOST_MARGIN`]. The buffers' lengths
+/// are N, [`lengths::frame`], [`lengths::store`] and N, or more.
 pub fn decode(
     code: &[u8],
     frame: &[u8],
     symbols: &mut [u8],
     costs: &mut [u16],
     store: &mut [u8],
+    margins: &mut [u16],
 ) -> Result<Outcome, Refusal> {
-    answer::outcome(library::decode(code, frame, symbols, costs, store))
+    answer::outcome(library::decode(code, frame, symbols, costs, store, margins))
 }
 
 /// Writes the N symbols of a message of N - M symbols under a code line "where N exceeds M and check

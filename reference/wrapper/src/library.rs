@@ -47,6 +47,8 @@ extern "C" {
         costs_len: usize,
         store: *mut u8,
         store_len: usize,
+        margins: *mut u16,
+        margins_len: usize,
     ) -> u32;
 
     fn petsivola_encode(
@@ -108,9 +110,11 @@ pub(crate) fn decode(
     symbols: &mut [u8],
     costs: &mut [u16],
     store: &mut [u8],
+    margins: &mut [u16],
 ) -> u32 {
-    // SAFETY: each pointer and length come from one borrowed slice; `symbols`, `costs` and `store`,
-    // which are written, overlap no other, and `costs` is aligned as a slice of 16-bit numbers is.
+    // SAFETY: each pointer and length come from one borrowed slice; `symbols`, `costs`, `store` and
+    // `margins`, which are written, overlap no other, and `costs` and `margins` are aligned as slices of
+    // 16-bit numbers are.
     unsafe {
         petsivola_decode(
             code.as_ptr(),
@@ -123,6 +127,8 @@ pub(crate) fn decode(
             costs.len(),
             store.as_mut_ptr(),
             store.len(),
+            margins.as_mut_ptr(),
+            margins.len(),
         )
     }
 }

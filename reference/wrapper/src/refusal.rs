@@ -44,6 +44,8 @@ pub enum Refusal {
     NoForm,
     /// "18, message length is not N - M or a symbol is not below q"; document 02, §2
     Message,
+    /// "19, margin buffer shorter than N"; document 02, §6
+    ShortMargins,
     /// A number that the documents do not have. The proved library never answers one; it would mean
     /// that the program was linked with another archive than the one this package was written for.
     Unlisted(u16),
@@ -51,7 +53,7 @@ pub enum Refusal {
 
 impl Refusal {
     /// The documents' refusals, in the order of their numbers.
-    pub const ALL: [Refusal; 17] = [
+    pub const ALL: [Refusal; 18] = [
         Refusal::ShortBuffer,
         Refusal::ShortCosts,
         Refusal::ShortStore,
@@ -69,6 +71,7 @@ impl Refusal {
         Refusal::Record,
         Refusal::NoForm,
         Refusal::Message,
+        Refusal::ShortMargins,
     ];
 
     /// Document 01's number.
@@ -91,6 +94,7 @@ impl Refusal {
             Refusal::Record => 16,
             Refusal::NoForm => 17,
             Refusal::Message => 18,
+            Refusal::ShortMargins => 19,
             Refusal::Unlisted(number) => number,
         }
     }
@@ -119,6 +123,7 @@ impl Refusal {
                 "N is not above M, or a check m lacks column N - M + m or has a higher one"
             }
             Refusal::Message => "the message's length is not N - M, or a symbol is not below q",
+            Refusal::ShortMargins => "the margin buffer is shorter than N",
             Refusal::Unlisted(_) => "the documents do not have this number",
         }
     }
@@ -156,8 +161,8 @@ mod tests {
     use super::*;
 
     #[test]
-    fn the_numbers_are_2_to_18() {
-        assert!(Refusal::ALL.into_iter().map(u16::from).eq(2..=18));
+    fn the_numbers_are_2_to_19() {
+        assert!(Refusal::ALL.into_iter().map(u16::from).eq(2..=19));
     }
 
     #[test]
@@ -166,7 +171,7 @@ mod tests {
             let refusal = Refusal::from(number);
             assert_eq!(refusal.number(), number);
             let listed = Refusal::ALL.contains(&refusal);
-            assert_eq!(listed, (2..=18).contains(&number));
+            assert_eq!(listed, (2..=19).contains(&number));
         }
     }
 
@@ -183,6 +188,10 @@ mod tests {
         assert_eq!(
             Refusal::Message.to_string(),
             "refused by 18: the message's length is not N - M, or a symbol is not below q"
+        );
+        assert_eq!(
+            Refusal::ShortMargins.to_string(),
+            "refused by 19: the margin buffer is shorter than N"
         );
     }
 }

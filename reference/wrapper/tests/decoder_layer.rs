@@ -1,7 +1,7 @@
 //! `line` and `decode` on the documents' own values and on inputs that no caller means. The comparison
 //! with the reference decoder is in the package `compare`.
 
-use petsivola::{decode, lengths, line, Edition, Outcome, Refusal, Rule};
+use petsivola::{decode, lengths, line, Edition, Outcome, Refusal, Rule, MOST_MARGIN};
 
 const CODE: [u8; 16] = [2, 0, 3, 1, 16, 1, 3, 0, 0, 1, 0, 1, 1, 0, 2, 1];
 const FRAME: [u8; 12] = [5, 0, 9, 7, 0, 4, 8, 3, 0, 6, 2, 10];
@@ -10,6 +10,32 @@ const FRAME: [u8; 12] = [5, 0, 9, 7, 0, 4, 8, 3, 0, 6, 2, 10];
 const TWO_CHECKS: [u8; 31] = [
     0, 5, 2, 8, 3, 4, 0, 0, 2, 0, 1, 4, 0, 3, 7, 0, 4, 2, 4, 0, 0, 5, 0, 2, 1, 0, 3, 5, 0, 4, 4,
 ];
+
+/// The buffers of a decoding, full of A5.
+#[derive(Clone, Debug, PartialEq)]
+struct Buffers {
+    symbols: Vec<u8>,
+    costs: Vec<u16>,
+    store: Vec<u8>,
+    margins: Vec<u16>,
+}
+
+impl Buffers {
+    fn new([symbols, costs, store, margins]: [usize; 4]) -> Buffers {
+        Buffers {
+            symbols: vec![0xA5; symbols],
+            costs: vec![0xA5A5; costs],
+            store: vec![0xA5; store],
+            margins: vec![0xA5A5; margins],
+        }
+    }
+
+    fn decode(&mut self, code: &[u8], frame: &[u8]) -> Result<Outcome, Refusal> {
+        let (symbols, costs) = (&mut self.symbols, &mut self.costs);
+        let (store, margins) = (&mut self.store, &mut self.margins);
+        decode(code, frame, symbols, costs, store, margins)
+    }
+}
 
 #[test]
 fn line_reads_two_digits_a_byte() {
@@ -26,18 +52,17 @@ fn line_reads_two_digits_a_byte() {
 
 #[test]
 fn decode_decodes_the_example() {
-    let mut symbols = [0xA5; 4];
-    let mut costs = [0xA5A5; 13];
-    let mut store = [0xA5; 19];
-    let outcome = decode(&CODE, &FRAME, &mut symbols, &mut costs, &mut store);
-    assert_eq!(outcome, Ok(Outcome::Found(1)));
-    assert_eq!(symbols, [1, 1, 0, 0xA5]);
-    assert_eq!(costs[12], 0xA5A5);
+    let mut buffers = Buffers::new([4, 13, 19, 4]);
+    assert_eq!(buffers.decode(&CODE, &FRAME), Ok(Outcome::Found(1)));
+    assert_eq!(buffers.symbols, [1, 1, 0, 0xA5]);
+    let costs = [1, 0, 7, 6, 1, 0, 11, 1, 0, 2, 1, 13, 0xA5A5];
+    assert_eq!(buffers.costs, costs);
+    assert_eq!(buffers.margins, [1, 1, 1, 0xA5A5]);
     // "Column 0 as 5 0 9 7 instead: shifts 000101, the rest equal" to 040105FF00 020207FF00
     // 030107FF00.
     let record = [0, 1, 1, 4, 1, 5, 255, 0, 2, 2, 7, 255, 0, 3, 1, 7, 255, 0];
-    assert_eq!(store[..18], record);
-    assert_eq!(store[18], 0xA5);
+    assert_eq!(buffers.store[..18], record);
+    assert_eq!(buffers.store[18], 0xA5);
     assert_eq!(lengths::frame(2, 3), Some(12));
     assert_eq!(lengths::store(2, 1, 3), Some(18));
 }
@@ -47,15 +72,16 @@ fn decode_decodes_the_example() {
 fn decode_with_checks_on_two_columns() {
     let code = [2, 0, 3, 2, 16, 2, 2, 0, 0, 1, 0, 1, 1, 2, 0, 1, 1, 0, 2, 3];
     let frame = [0, 5, 7, 9, 4, 0, 8, 3, 6, 2, 0, 10];
-    let (mut symbols, mut costs, mut store) = ([0xA5; 4], [0xA5A5; 13], [0xA5; 35]);
-    let outcome = decode(&code, &frame, &mut symbols, &mut costs, &mut store);
-    assert_eq!(outcome, Ok(Outcome::Found(2)));
-    assert_eq!(symbols, [1, 1, 2, 0xA5]);
-    assert_eq!(costs, [5, 0, 20, 9, 5, 0, 20, 9, 5, 9, 0, 20, 0xA5A5]);
+    let mut buffers = Buffers::new([4, 13, 35, 4]);
+    assert_eq!(buffers.decode(&code, &frame), Ok(Outcome::Found(2)));
+    assert_eq!(buffers.symbols, [1, 1, 2, 0xA5]);
+    let costs = [5, 0, 20, 9, 5, 0, 20, 9, 5, 9, 0, 20, 0xA5A5];
+    assert_eq!(buffers.costs, costs);
+    assert_eq!(buffers.margins, [5, 5, 5, 0xA5A5]);
     let first = [1, 0, 5, 0, 10, 255, 0, 5, 1, 7, 255, 0, 9, 0, 18, 255, 0];
     let second = [1, 0, 1, 0, 6, 255, 0, 2, 1, 11, 255, 0, 8, 0, 10, 255, 0];
-    assert_eq!(store[..34], [first, second].concat());
-    assert_eq!(store[34], 0xA5);
+    assert_eq!(buffers.store[..34], [first, second].concat());
+    assert_eq!(buffers.store[34], 0xA5);
     assert_eq!(lengths::store(2, 2, 4), Some(34));
 }
 
@@ -63,18 +89,19 @@ fn decode_with_checks_on_two_columns() {
 #[test]
 fn decode_with_two_columns() {
     let frame = [0, 5, 7, 9, 4, 0, 8, 3];
-    let (mut symbols, mut costs, mut store) = ([0xA5; 3], [0xA5A5; 9], [0xA5; 18]);
+    let mut buffers = Buffers::new([3, 9, 18, 3]);
     let mut answer = |n: u8, frame: &[u8]| {
         let code = [2, 0, n, 1, 16, 3, 2, 0, 0, 1, 0, 1, 1];
-        decode(&code, frame, &mut symbols, &mut costs, &mut store)
+        buffers.decode(&code, frame)
     };
     assert_eq!(answer(1, &frame[..4]), Err(Refusal::Column));
     assert_eq!(answer(2, &frame), Ok(Outcome::Found(1)));
-    assert_eq!(symbols, [0, 0, 0xA5]);
-    assert_eq!(costs, [0, 1, 11, 8, 0, 1, 11, 8, 0xA5A5]);
+    assert_eq!(buffers.symbols, [0, 0, 0xA5]);
+    assert_eq!(buffers.costs, [0, 1, 11, 8, 0, 1, 11, 8, 0xA5A5]);
+    assert_eq!(buffers.margins, [1, 1, 0xA5A5]);
     let record = [1, 0, 4, 1, 5, 255, 0, 3, 1, 7, 255, 0, 8, 1, 9, 255, 0];
-    assert_eq!(store[..17], record);
-    assert_eq!(store[17], 0xA5);
+    assert_eq!(buffers.store[..17], record);
+    assert_eq!(buffers.store[17], 0xA5);
 }
 
 /// Document 02, §3: a frame under two checks with k = 2 and with k = 3, which saves it. The values come from
@@ -86,18 +113,24 @@ fn decode_with_three_deviations() {
         179, 199, 13, 186, 14, 0, 157, 84, 168, 247, 202, 115, 80, 30, 144, 91, 233, 209, 0, 224,
     ];
     let answer = |first: u8, room: usize| {
-        let (mut symbols, mut costs, mut store) = ([0xA5; 5], [0xA5A5; 40], vec![0xA5; room]);
+        let mut buffers = Buffers::new([5, 40, room, 5]);
         let code = [&[first], &TWO_CHECKS[..]].concat();
-        let outcome = decode(&code, &frame, &mut symbols, &mut costs, &mut store)?;
-        Ok((outcome, symbols, store[..4].to_vec()))
+        let outcome = buffers.decode(&code, &frame)?;
+        Ok((outcome, buffers))
     };
     let (two, three) = (78, 106);
     assert_eq!(lengths::store(0x03, 2, 8), Some(two));
     assert_eq!(lengths::store(0x23, 2, 8), Some(three));
-    let expected = (Outcome::NotFound(3), [5, 1, 6, 0, 1], vec![6, 0, 1, 1]);
-    assert_eq!(answer(0x03, two), Ok(expected));
-    let expected = (Outcome::Found(2), [5, 1, 6, 1, 1], vec![3, 5, 4, 1]);
-    assert_eq!(answer(0x23, three), Ok(expected));
+    let (outcome, buffers) = answer(0x03, two).expect("an accepted frame");
+    assert_eq!(outcome, Outcome::NotFound(3));
+    assert_eq!(buffers.symbols, [5, 1, 6, 0, 1]);
+    assert_eq!(buffers.margins, [15, 0, 6, 1, 8]);
+    assert_eq!(buffers.store[..4], [6, 0, 1, 1]);
+    let (outcome, buffers) = answer(0x23, three).expect("an accepted frame");
+    assert_eq!(outcome, Outcome::Found(2));
+    assert_eq!(buffers.symbols, [5, 1, 6, 1, 1]);
+    assert_eq!(buffers.margins, [33, 5, 7, 37, 24]);
+    assert_eq!(buffers.store[..4], [3, 5, 4, 1]);
     assert_eq!(answer(0x23, three - 1), Err(Refusal::ShortStore));
 }
 
@@ -111,20 +144,23 @@ fn decode_of_the_min_max_edition() {
     ];
     let answer = |deviations: u8, edition: Edition| {
         let first = Rule::new(3, deviations, edition).map_or(0, Rule::first);
-        let (mut symbols, mut costs) = ([0xA5; 5], [0xA5A5; 40]);
-        let mut store = vec![0xA5; lengths::store(first, 2, 8)?];
+        let mut buffers = Buffers::new([5, 40, lengths::store(first, 2, 8)?, 5]);
         let code = [&[first], &TWO_CHECKS[..]].concat();
-        let outcome = decode(&code, &frame, &mut symbols, &mut costs, &mut store).ok()?;
-        Some((outcome, symbols, store[..9].to_vec()))
+        let outcome = buffers.decode(&code, &frame).ok()?;
+        Some((outcome, buffers))
     };
-    let (outcome, symbols, _) = answer(2, Edition::Sum).expect("an accepted frame");
-    assert_eq!((outcome, symbols), (Outcome::NotFound(3), [4, 0, 0, 0, 2]));
-    let store = vec![4, 7, 7, 3, 22, 1, 24, 2, 30];
-    let expected = (Outcome::Found(2), [0; 5], store);
-    assert_eq!(answer(2, Edition::Greatest), Some(expected));
-    let store = vec![4, 7, 7, 3, 22, 1, 24, 255, 0];
-    let expected = (Outcome::Found(2), [0; 5], store);
-    assert_eq!(answer(3, Edition::Greatest), Some(expected));
+    let (outcome, buffers) = answer(2, Edition::Sum).expect("an accepted frame");
+    assert_eq!(outcome, Outcome::NotFound(3));
+    assert_eq!(buffers.symbols, [4, 0, 0, 0, 2]);
+    let (outcome, buffers) = answer(2, Edition::Greatest).expect("an accepted frame");
+    assert_eq!(outcome, Outcome::Found(2));
+    assert_eq!(buffers.symbols, [0; 5]);
+    assert_eq!(buffers.margins, [5, 23, 37, 17, 3]);
+    assert_eq!(buffers.store[..9], [4, 7, 7, 3, 22, 1, 24, 2, 30]);
+    let (outcome, buffers) = answer(3, Edition::Greatest).expect("an accepted frame");
+    assert_eq!(outcome, Outcome::Found(2));
+    assert_eq!(buffers.symbols, [0; 5]);
+    assert_eq!(buffers.store[..9], [4, 7, 7, 3, 22, 1, 24, 255, 0]);
 }
 
 /// "Degree 2 and 33: 9. Degree 3 and 32 pass. g 16 passes, 17 gives 8." Document 02, §1: "the bench
@@ -134,9 +170,7 @@ fn degrees_and_scales_of_the_bench_table() {
     let answer = |degree: u8, g: u8| {
         let mut code = vec![2, 0, 40, 1, g, 1, degree];
         code.extend((0..degree).flat_map(|column| [0, column, 1]));
-        let frame = [0; 160];
-        let (mut symbols, mut costs, mut store) = ([0xA5; 40], [0xA5A5; 160], [0xA5; 47]);
-        decode(&code, &frame, &mut symbols, &mut costs, &mut store)
+        Buffers::new([40, 160, 47, 40]).decode(&code, &[0; 160])
     };
     assert_eq!(answer(0, 1), Err(Refusal::Degree));
     assert_eq!(answer(1, 1), Err(Refusal::Degree));
@@ -148,22 +182,41 @@ fn degrees_and_scales_of_the_bench_table() {
     assert_eq!(answer(2, 17), Err(Refusal::ScaleOrLimit));
 }
 
+/// Document 02, §6: "a tie has margin 0". Columns 2 and 3 are as sure as columns can be, and the check on columns
+/// 0 and 1 makes both of them tie.
+#[test]
+fn the_least_and_the_greatest_margin() {
+    let code = [2, 0, 4, 2, 16, 1, 2, 0, 0, 1, 0, 1, 1, 2, 0, 2, 1, 0, 3, 1];
+    let mut frame = [255; 16];
+    for place in [0, 5, 10, 14] {
+        frame[place] = 0;
+    }
+    let mut buffers = Buffers::new([4, 16, 34, 4]);
+    assert_eq!(buffers.decode(&code, &frame), Ok(Outcome::Found(1)));
+    assert_eq!(buffers.symbols, [0, 0, 2, 2]);
+    assert_eq!(buffers.margins, [0, 0, MOST_MARGIN, MOST_MARGIN]);
+}
+
+/// 2, 3, 4, 19, each with all that come after it.
 #[test]
 fn a_refused_decoding_writes_nothing() {
-    let mut symbols = [0xA5; 3];
-    let mut costs = [0xA5A5; 12];
-    let mut store = [0xA5; 17];
-    let answer = decode(&CODE, &FRAME, &mut symbols, &mut costs, &mut store);
-    assert_eq!(answer, Err(Refusal::ShortStore));
-    assert_eq!(
-        (symbols, costs, store),
-        ([0xA5; 3], [0xA5A5; 12], [0xA5; 17])
-    );
+    for (lengths, refusal) in [
+        ([2, 11, 17, 2], Refusal::ShortBuffer),
+        ([3, 11, 17, 2], Refusal::ShortCosts),
+        ([3, 12, 17, 2], Refusal::ShortStore),
+        ([3, 12, 18, 2], Refusal::ShortMargins),
+        ([9, 99, 99, 0], Refusal::ShortMargins),
+    ] {
+        let before = Buffers::new(lengths);
+        let mut buffers = before.clone();
+        assert_eq!(buffers.decode(&CODE, &FRAME), Err(refusal));
+        assert_eq!(buffers, before);
+    }
 }
 
 #[test]
 fn empty_slices_are_answered() {
     assert_eq!(line(&[], &mut []), Ok(0));
-    let answer = decode(&[], &[], &mut [], &mut [], &mut []);
+    let answer = decode(&[], &[], &mut [], &mut [], &mut [], &mut []);
     assert_eq!(answer, Err(Refusal::CodeBytes));
 }

@@ -42,9 +42,11 @@ fn what_is_encoded_is_found_at_the_start() {
             column[usize::from(symbol)] = 0;
         }
         let (mut symbols, mut costs, mut store) = ([0xA5; 5], [0xA5A5; 20], [0xA5; 37]);
-        let outcome = decode(&CODE, &frame, &mut symbols, &mut costs, &mut store);
+        let (mut margins, costs) = ([0xA5A5; 5], &mut costs);
+        let outcome = decode(&CODE, &frame, &mut symbols, costs, &mut store, &mut margins);
         assert_eq!(outcome, Ok(Outcome::Found(0)));
         assert_eq!((symbols, store), (word, [0xA5; 37]));
+        assert_eq!(margins, [9; 5]);
     }
 }
 

@@ -115,6 +115,7 @@ impl Buffers {
             self.symbols.slice_mut(),
             self.costs.slice_mut(),
             self.store.slice_mut(),
+            &mut [0; MOST_COLUMNS],
         );
         of_library(answer).map(|outcome| (outcome.status(), outcome.iterations()))
     }
