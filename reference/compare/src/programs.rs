@@ -18,7 +18,7 @@ pub use program::Program;
 /// A tally for the program; it counts printed lines.
 pub fn tally() -> Tally {
     let mut expected = vec![Class::FoundAtStart, Class::FoundLater, Class::NotFound];
-    // The program's own buffers are long enough, so 2, 3 and 4 are never printed.
+    // The program's own buffers are long enough, so 2, 3, 4 and 19 are never printed.
     expected.extend((5..=15).map(Class::Refused));
     expected.extend([LEAST_COLUMNS, MOST_COLUMNS].map(Class::Seen));
     expected.extend(RULES.map(Class::Seen));

@@ -3,7 +3,6 @@
 mod inputs;
 mod seen;
 
-use reference_decoder::code::MOST_COLUMNS;
 use reference_decoder::sample::Generator;
 
 use super::{first_byte, of_library, of_reference, EntryPoint};
@@ -57,7 +56,7 @@ fn compare(generator: &mut Generator, input: &Input, tally: &mut Tally) -> Resul
         buffers_expected.symbols.slice_mut(),
         buffers_expected.costs.slice_mut(),
         buffers_expected.store.slice_mut(),
-        &mut [0; MOST_COLUMNS],
+        buffers_expected.margins.slice_mut(),
     ))
     .map(|outcome| (outcome.status(), outcome.iterations()));
     let answer = buffers.decode(&line_lent, &frame_lent);
@@ -80,13 +79,14 @@ fn compare(generator: &mut Generator, input: &Input, tally: &mut Tally) -> Resul
     comparison.lent("code", &line_lent, &line);
     comparison.lent("frame", &frame_lent, &frame);
     comparison.end("decode", || {
-        let [symbols, costs, store] = input.lengths;
+        let [symbols, costs, store, margins] = input.lengths;
         Inputs::default()
             .bytes("code", line.slice())
             .bytes("frame", frame.slice())
             .number("symbol buffer length", symbols)
             .number("cost buffer length", costs)
             .number("store length", store)
+            .number("margin buffer length", margins)
     })
 }
 
@@ -96,14 +96,17 @@ struct Buffers {
     symbols: Lent<u8>,
     costs: Lent<u16>,
     store: Lent<u8>,
+    margins: Lent<u16>,
 }
 
 impl Buffers {
-    fn new(generator: &mut Generator, [symbols, costs, store]: [usize; 3]) -> Buffers {
+    fn new(generator: &mut Generator, lengths: [usize; 4]) -> Buffers {
+        let [symbols, costs, store, margins] = lengths;
         Buffers {
             symbols: Lent::to_fill(generator, symbols),
             costs: Lent::to_fill(generator, costs),
             store: Lent::to_fill(generator, store),
+            margins: Lent::to_fill(generator, margins),
         }
     }
 
@@ -115,7 +118,7 @@ impl Buffers {
             self.symbols.slice_mut(),
             self.costs.slice_mut(),
             self.store.slice_mut(),
-            &mut [0; MOST_COLUMNS],
+            self.margins.slice_mut(),
         );
         of_library(answer).map(|outcome| (outcome.status(), outcome.iterations()))
     }
@@ -124,5 +127,6 @@ impl Buffers {
         comparison.lent("symbols", &self.symbols, &expected.symbols);
         comparison.lent("costs", &self.costs, &expected.costs);
         comparison.lent("store", &self.store, &expected.store);
+        comparison.lent("margins", &self.margins, &expected.margins);
     }
 }

@@ -50,11 +50,6 @@ fn frame(generator: &mut Generator, sample: &CodeSample, code: &Code) -> Vec<u8>
     }
 }
 
-/// The used lengths of the symbol buffer, the cost buffer and the store.
-fn needed(code: &Code) -> [usize; 3] {
-    [code.n, code.frame_length(), code.store_length()]
-}
-
 /// The same code with the other k.
 pub fn with_other_deviations(code: &Code) -> Code {
     Code {
@@ -63,11 +58,12 @@ pub fn with_other_deviations(code: &Code) -> Code {
     }
 }
 
-/// A code line, a frame, and the lengths of the symbol buffer, the cost buffer and the store.
+/// A code line, a frame, and the lengths of the symbol buffer, the cost buffer, the store and the margin
+/// buffer.
 pub struct Input {
     pub line: Vec<u8>,
     pub frame: Vec<u8>,
-    pub lengths: [usize; 3],
+    pub lengths: [usize; 4],
 }
 
 impl Input {
@@ -77,7 +73,9 @@ impl Input {
         let code = code_line(&sample.line).expect("an accepted code line");
         let input = Input {
             frame: frame(generator, &sample, &code),
-            lengths: needed(&code).map(|needed| length_enough(generator, needed)),
+            lengths: code
+                .lengths()
+                .map(|needed| length_enough(generator, needed)),
             line: sample.line,
         };
         (code, input)
@@ -91,7 +89,7 @@ impl Input {
         if generator.once_in(5) {
             self.frame = sample::damaged_frame(generator, code.field().size(), &self.frame);
         }
-        for (length, needed) in self.lengths.iter_mut().zip(needed(code)) {
+        for (length, needed) in self.lengths.iter_mut().zip(code.lengths()) {
             if generator.once_in(5) {
                 *length = length_around(generator, needed);
             }
@@ -106,8 +104,8 @@ impl Input {
         match generator.below(8) {
             0 => self.damage_edge_total(code),
             1 => {
-                let buffer = generator.below(3);
-                self.lengths[buffer] = needed(code)[buffer] - 1;
+                let buffer = generator.below(4);
+                self.lengths[buffer] = code.lengths()[buffer] - 1;
             }
             2..5 => {
                 while accept_costs(code.field(), code.n, &self.frame).is_ok() {

@@ -1,6 +1,6 @@
 //! What decodings must meet beside their answers.
 
-use reference_decoder::{code_line, record, Code};
+use reference_decoder::{code_line, decision, record, Code};
 
 use super::inputs::{with_other_deviations, Input};
 use super::Buffers;
@@ -24,6 +24,12 @@ const THREE_PAIRS: ByEdition = [
     "3 pairs used in a store",
     "3 pairs used in a store, Min-Max",
 ];
+/// A margin buffer of N elements, and one less.
+const EXACT_MARGINS: ByEdition = ["sum, N margins", "Min-Max, N margins"];
+const MARGINS_SHORT_BY_ONE: ByEdition = ["sum, 19 by one margin", "Min-Max, 19 by one margin"];
+const TIE: ByEdition = ["sum, a margin of 0", "Min-Max, a margin of 0"];
+const MARGIN_PAST_A_BYTE: ByEdition = ["sum, a margin above 255", "Min-Max, a margin above 255"];
+const MOST_MARGIN: &str = "a margin of 510";
 const FOUND: ByEdition = ["sum, found later", "Min-Max, found later"];
 const NOT_FOUND: ByEdition = ["sum, not found", "Min-Max, not found"];
 const LONGEST: ByEdition = ["sum, t 255", "Min-Max, t 255"];
@@ -31,7 +37,7 @@ const LONGEST: ByEdition = ["sum, t 255", "Min-Max, t 255"];
 /// The classes of answers, and all that must be seen.
 pub fn expected() -> Vec<Class> {
     let mut classes = vec![Class::FoundAtStart, Class::FoundLater, Class::NotFound];
-    classes.extend((2..=13).map(Class::Refused));
+    classes.extend((2..=13).chain([19]).map(Class::Refused));
     let by_deviations = [
         LEAST_COLUMNS,
         LEAST_DEGREE,
@@ -45,21 +51,33 @@ pub fn expected() -> Vec<Class> {
         STORE_SHORT_BY_ONE,
         STORE_OF_OTHER_LENGTH,
     ];
-    let by_edition = [THREE_PAIRS, FOUND, NOT_FOUND, LONGEST];
+    let by_edition = [
+        THREE_PAIRS,
+        FOUND,
+        NOT_FOUND,
+        LONGEST,
+        EXACT_MARGINS,
+        MARGINS_SHORT_BY_ONE,
+        TIE,
+        MARGIN_PAST_A_BYTE,
+    ];
     let seen = by_deviations.into_iter().chain(by_edition).flatten();
-    let seen = seen.chain(first_byte::names());
+    let seen = seen.chain(first_byte::names()).chain([MOST_MARGIN]);
     classes.extend(seen.map(Class::Seen));
     classes
 }
 
-/// Counts what a decoding shows: of its store where it is accepted or too short a store is all that is
+/// Counts what a decoding shows: of its store and its margin buffer where it is accepted or nothing but these is
 /// refused, and the rest where there was an iteration.
 pub fn see(tally: &mut Tally, input: &Input, expected: Result<(u8, u8), u16>, buffers: &Buffers) {
-    if !matches!(expected, Ok(_) | Err(4)) {
+    if !matches!(expected, Ok(_) | Err(4 | 19)) {
         return;
     }
     let code = code_line(&input.line).expect("an accepted code line");
     see_room(tally, &code, input.lengths[2]);
+    if expected != Err(4) {
+        see_margin_room(tally, &code, input.lengths[3]);
+    }
     if let Ok((status, t @ 1..)) = expected {
         see_iterations(tally, &code, t, buffers);
         see_edition(tally, &code, (status, t), buffers);
@@ -78,6 +96,16 @@ fn see_room(tally: &mut Tally, code: &Code, length: usize) {
         ),
     ] {
         first_byte::see_by_deviations(tally, code.rule(), names, met);
+    }
+}
+
+/// Counts the length of the margin buffer.
+fn see_margin_room(tally: &mut Tally, code: &Code, length: usize) {
+    for (names, met) in [
+        (EXACT_MARGINS, length == code.n),
+        (MARGINS_SHORT_BY_ONE, length + 1 == code.n),
+    ] {
+        first_byte::see_by_edition(tally, code.rule(), names, met);
     }
 }
 
@@ -103,8 +131,15 @@ fn see_iterations(tally: &mut Tally, code: &Code, t: u8, buffers: &Buffers) {
 /// Counts what such a decoding shows of its edition.
 fn see_edition(tally: &mut Tally, code: &Code, (status, t): (u8, u8), buffers: &Buffers) {
     let three_pairs = has_three_pairs(code, buffers.store.slice());
+    let margins = &buffers.margins.slice()[..code.n];
+    tally.seen(MOST_MARGIN, margins.contains(&decision::MOST_MARGIN));
     for (names, met) in [
         (THREE_PAIRS, three_pairs),
+        (TIE, margins.contains(&0)),
+        (
+            MARGIN_PAST_A_BYTE,
+            margins.iter().any(|&margin| margin > 255),
+        ),
         (FOUND, status == 0),
         (NOT_FOUND, status == 1),
         (LONGEST, t == 255),
