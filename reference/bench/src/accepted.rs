@@ -44,9 +44,3 @@ fn has_zero(column: &[u8]) -> bool {
     let costs = column.iter();
     costs.fold(false, |found, &cost| found | (cost == 0))
 }
-
-/// "the smallest symbol of cost 0", or the number of costs where there is none.
-pub fn first_zero(costs: &[u8]) -> usize {
-    let zero = costs.iter().position(|&cost| cost == 0);
-    zero.unwrap_or(costs.len())
-}

@@ -1,6 +1,6 @@
 //! The times of decoding by code: per iteration, and coded bits per second.
 
-use petsivola::{lengths, Edition};
+use petsivola::Edition;
 use simulate::code::Code;
 use simulate::decoder::Decoder;
 use simulate::layered::Layered;
@@ -19,7 +19,7 @@ pub const LIMIT: u8 = 15;
 /// Who decodes.
 const DECODING: [Engine; 4] = [Engine::Proved, Engine::Rust, Engine::Sweeps, Engine::Old];
 
-/// What a decoding leaves. A decoder without records leaves an empty store.
+/// What a decoding leaves. A decoder without records leaves an empty store, one without margins none of them.
 #[derive(Clone, Debug, Default)]
 struct Decoded {
     status: u8,
@@ -27,35 +27,50 @@ struct Decoded {
     symbols: Vec<u8>,
     costs: Vec<u16>,
     store: Vec<u8>,
+    margins: Vec<u16>,
 }
 
 impl Decoded {
-    /// Buffers for a code.
-    fn lent(code: &Code, store_length: usize) -> Decoded {
+    /// Buffers for a code, without a store and margins.
+    fn plain(code: &Code) -> Decoded {
         Decoded {
             symbols: vec![0; code.columns],
             costs: vec![0; code.frame_length()],
-            store: vec![0; store_length],
             ..Decoded::default()
+        }
+    }
+
+    /// All buffers for a code.
+    fn lent(code: &Code) -> Decoded {
+        Decoded {
+            store: vec![0; code.store_length(2)],
+            margins: vec![0; code.columns],
+            ..Decoded::plain(code)
         }
     }
 }
 
-/// Everything is filled with A5 beforehand; answer, symbols, costs and, where both have one, the
-/// store are compared.
+/// Whether two are equal, or one is empty.
+fn equal_if_present<T: PartialEq>(one: &[T], other: &[T]) -> bool {
+    one == other || one.is_empty() || other.is_empty()
+}
+
+/// Everything is filled with A5 beforehand; answer, symbols, costs and, where both have them, the
+/// store and the margins are compared.
 const RULES: Rules<Decoded> = Rules {
     spoil: |decoded| {
         (decoded.status, decoded.t) = (0xA5, 0xA5);
         decoded.symbols.fill(0xA5);
         decoded.costs.fill(0xA5A5);
         decoded.store.fill(0xA5);
+        decoded.margins.fill(0xA5A5);
     },
     agree: |one, other| {
-        let stores = [&one.store, &other.store];
         (one.status, one.t) == (other.status, other.t)
             && one.symbols == other.symbols
             && one.costs == other.costs
-            && (one.store == other.store || stores.iter().any(|store| store.is_empty()))
+            && equal_if_present(&one.store, &other.store)
+            && equal_if_present(&one.margins, &other.margins)
     },
     units: |decoded| usize::from(decoded.t),
 };
@@ -102,11 +117,11 @@ pub fn measure(job: &Job, rounds: usize) -> Row<'_> {
 
 /// An engine on the frames of a code.
 fn contender<'a>(engine: Engine, job: &'a Job, line: &'a [u8]) -> Contender<'a, Vec<u8>, Decoded> {
-    let lent = Decoded::lent(&job.code, job.code.store_length(2));
+    let lent = Decoded::lent(&job.code);
     match engine {
         Engine::Proved => Contender::new(&job.frames, lent, decode_by(line, proved)),
         Engine::Sweeps => {
-            let plain = Decoded::lent(&job.code, 0);
+            let plain = Decoded::plain(&job.code);
             let mut layered = Layered::new(&job.code, SCALE, LIMIT, Sweeps::<false>::new(2));
             Contender::new(&job.frames, plain, move |frame, out| {
                 let outcome = layered.decode(frame);
@@ -117,7 +132,18 @@ fn contender<'a>(engine: Engine, job: &'a Job, line: &'a [u8]) -> Contender<'a, 
         }
         Engine::Old => {
             let old = foreign::old_library().expect("the old library is present");
-            Contender::new(&job.frames, lent, decode_by(line, old.decode))
+            let kept = Decoded {
+                margins: Vec::new(),
+                ..lent
+            };
+            let mut margins = vec![0; job.code.columns];
+            let mut decode = decode_by(line, old.decode);
+            // It may have no margins, so it gets a buffer for them that is not compared.
+            Contender::new(&job.frames, kept, move |frame, out| {
+                std::mem::swap(&mut out.margins, &mut margins);
+                decode(frame, out);
+                std::mem::swap(&mut out.margins, &mut margins);
+            })
         }
         _ => Contender::new(&job.frames, lent, decode_by(line, same::decode)),
     }
@@ -126,11 +152,12 @@ fn contender<'a>(engine: Engine, job: &'a Job, line: &'a [u8]) -> Contender<'a, 
 /// A decoding as a call on one frame.
 fn decode_by<'a>(
     line: &'a [u8],
-    decode: impl Fn(&[u8], &[u8], &mut [u8], &mut [u16], &mut [u8]) -> Result<(u8, u8), u8> + 'a,
+    decode: foreign::Decode,
 ) -> impl FnMut(&Vec<u8>, &mut Decoded) + 'a {
     move |frame, out| {
-        let (symbols, costs, store) = (&mut out.symbols, &mut out.costs, &mut out.store);
-        let answer = decode(line, frame, symbols, costs, store);
+        let (symbols, costs) = (&mut out.symbols, &mut out.costs);
+        let (store, margins) = (&mut out.store, &mut out.margins);
+        let answer = decode(line, frame, symbols, costs, store, margins);
         (out.status, out.t) = answer.expect("an accepted frame");
     }
 }
@@ -142,8 +169,8 @@ fn proved(
     symbols: &mut [u8],
     costs: &mut [u16],
     store: &mut [u8],
+    margins: &mut [u16],
 ) -> Result<(u8, u8), u8> {
-    let margins = &mut [0; lengths::MOST_COLUMNS];
     let outcome = petsivola::decode(line, frame, symbols, costs, store, margins);
     let outcome = outcome.map_err(|refusal| refusal.number() as u8)?;
     Ok((outcome.status(), outcome.iterations()))

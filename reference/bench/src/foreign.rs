@@ -15,8 +15,9 @@ use crate::accepted::Refusal;
 /// A call on p and three slices, the last of which is written; answers how many bytes were.
 pub type Call = fn(u8, &[u8], &[u8], &mut [u8]) -> Result<usize, Refusal>;
 
-/// A decoding: code line, frame, symbols, costs and store; answers 0 (found) or 1 (not found), and t.
-pub type Decode = fn(&[u8], &[u8], &mut [u8], &mut [u16], &mut [u8]) -> Result<(u8, u8), Refusal>;
+/// A decoding: code line, frame, symbols, costs, store and margins; answers 0 (found) or 1 (not found), and t.
+pub type Decode =
+    fn(&[u8], &[u8], &mut [u8], &mut [u16], &mut [u8], &mut [u16]) -> Result<(u8, u8), Refusal>;
 
 /// An older library's calls.
 pub struct OldLibrary {
@@ -24,7 +25,7 @@ pub struct OldLibrary {
     pub check: Call,
     /// Its expansion.
     pub expand: Call,
-    /// Its decoding.
+    /// Its decoding. A library without margins leaves their buffer as it is.
     pub decode: Decode,
 }
 
@@ -123,6 +124,8 @@ mod old {
             costs_len: usize,
             store: *mut u8,
             store_len: usize,
+            margins: *mut u16,
+            margins_len: usize,
         ) -> u32;
     }
 
@@ -147,8 +150,11 @@ mod old {
         symbols: &mut [u8],
         costs: &mut [u16],
         store: &mut [u8],
+        margins: &mut [u16],
     ) -> Result<(u8, u8), Refusal> {
-        // SAFETY: as said above; `costs` is aligned as a slice of 16-bit numbers is.
+        // SAFETY: as said above; `costs` and `margins` are aligned as slices of 16-bit numbers are. A function
+        // without margins does not read their two arguments: on x86-64 Linux they stand last on the stack, and
+        // the caller takes them off.
         let answer = unsafe {
             old_petsivola_decode(
                 code.as_ptr(),
@@ -161,6 +167,8 @@ mod old {
                 costs.len(),
                 store.as_mut_ptr(),
                 store.len(),
+                margins.as_mut_ptr(),
+                margins.len(),
             )
         };
         match answer >> 16 {

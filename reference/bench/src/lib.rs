@@ -11,6 +11,7 @@
 pub mod accepted;
 pub mod charts;
 pub mod checks;
+pub mod decision;
 pub mod decoding;
 pub mod encoding;
 pub mod engines;

@@ -4,8 +4,8 @@
 use std::collections::BTreeSet;
 
 use bench::same;
-use reference_decoder::sample::{self, Generator, Miss, Size, Style};
-use reference_decoder::{code_line, decode, encode, expand, Outcome, Refusal, Rule};
+use reference_decoder::sample::{self, Buffers, Generator, Miss, Size, Style};
+use reference_decoder::{code_line, encode, expand, Outcome, Refusal, Rule};
 
 /// A refusal by its number.
 fn numbered<T>(answer: Result<T, Refusal>) -> Result<T, u8> {
@@ -38,6 +38,7 @@ fn expansions() {
 #[test]
 fn decodings() {
     let mut generator = Generator::new(2);
+    let mut numbers = BTreeSet::new();
     for round in 0..600 {
         let size = [Size::SMALL, Size::MEDIUM][round % 2].clone();
         let sample = sample::code(&mut generator, &size);
@@ -53,19 +54,30 @@ fn decodings() {
             frame = sample::damaged_frame(&mut generator, code.field().size(), &frame);
         }
         // About one buffer in nine is an element short.
-        let mut room = |length: usize| length + generator.below(9) - 1;
-        let lengths = [code.n, code.frame_length(), code.store_length()].map(&mut room);
-        let mut symbols = generator.bytes(lengths[0]);
-        let mut costs = generator.numbers(lengths[1]);
-        let mut store = generator.bytes(lengths[2]);
-        let mut found = (symbols.clone(), costs.clone(), store.clone());
-        let answer = same::decode(&line, &frame, &mut found.0, &mut found.1, &mut found.2);
-        let margins = &mut [0; 256];
-        let expected = decode(&line, &frame, &mut symbols, &mut costs, &mut store, margins);
+        let lengths = code.lengths().map(|length| length + generator.below(9) - 1);
+        let mut expected = Buffers::arbitrary(&mut generator, lengths);
+        let mut found = expected.clone();
+        let answer = same_decode(&line, &frame, &mut found);
         let pair = |outcome: Outcome| (outcome.status(), outcome.iterations());
-        assert_eq!(answer, numbered(expected).map(pair));
-        assert_eq!(found, (symbols, costs, store));
+        assert_eq!(answer, numbered(expected.decode(&line, &frame)).map(pair));
+        assert_eq!(found, expected);
+        numbers.insert(answer.err());
     }
+    let refused = [2, 3, 4, 12, 13, 19].map(Some);
+    assert!(refused.iter().all(|number| numbers.contains(number)));
+}
+
+/// A decoding by the same algorithm.
+fn same_decode(line: &[u8], frame: &[u8], lent: &mut Buffers) -> Result<(u8, u8), u8> {
+    let (symbols, costs) = (&mut lent.symbols, &mut lent.costs);
+    same::decode(
+        line,
+        frame,
+        symbols,
+        costs,
+        &mut lent.store,
+        &mut lent.margins,
+    )
 }
 
 #[test]

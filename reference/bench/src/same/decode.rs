@@ -1,12 +1,14 @@
 //! The layered decoder: P stands in the lent cost buffer, the records in the lent store, the decisions in
-//! the lent symbol buffer; one check's Q and sent costs in local arrays.
+//! the lent symbol buffer; one check's Q and sent costs in local arrays. The margins are made once, from the
+//! last P.
 
 use super::code::Code;
 use super::expansion::expand_by;
 use super::products::product;
 use super::record::messages;
 use super::rule::MOST_ROWS;
-use crate::accepted::{first_zero, Refusal, MOST_COLUMNS};
+use crate::accepted::{self, Refusal, MOST_COLUMNS};
+use crate::decision::Decision;
 
 /// The most costs of one check.
 const MOST_COSTS: usize = MOST_COLUMNS * MOST_ROWS;
@@ -19,7 +21,7 @@ struct Room {
     sent: [u8; MOST_COSTS],
 }
 
-/// "Decode: code, 12, 13, 2, 3, 4." The answer is 0 (found) or 1 (not found), with t.
+/// "Decode: code, 12, 13, 2, 3, 4.", then 19. The answer is 0 (found) or 1 (not found), with t.
 #[inline(never)]
 pub fn decode(
     code: &[u8],
@@ -27,16 +29,12 @@ pub fn decode(
     symbols: &mut [u8],
     costs: &mut [u16],
     store: &mut [u8],
+    margins: &mut [u16],
 ) -> Result<(u8, u8), Refusal> {
     let code = Code::read(code)?;
     let q = code.rule.q;
     let length = code.n * q;
-    if frame.len() != length {
-        return Err(12);
-    }
-    if frame.chunks_exact(q).any(|column| first_zero(column) == q) {
-        return Err(13);
-    }
+    accepted::costs(code.n, q, frame)?;
     if symbols.len() < code.n {
         return Err(2);
     }
@@ -47,16 +45,17 @@ pub fn decode(
     if store.len() < used {
         return Err(4);
     }
+    let margins = margins.get_mut(..code.n).ok_or(19)?;
     for (cost, &first) in costs.iter_mut().zip(frame) {
         *cost = u16::from(first);
     }
     let symbols = &mut symbols[..code.n];
-    Ok(run(
-        &code,
-        symbols,
-        &mut costs[..length],
-        &mut store[..used],
-    ))
+    let costs = &mut costs[..length];
+    let answer = run(&code, symbols, costs, &mut store[..used]);
+    for (margin, column) in margins.iter_mut().zip(costs.chunks_exact(q)) {
+        *margin = Decision::of(column).margin;
+    }
+    Ok(answer)
 }
 
 /// "If the decisions satisfy every check: found, t = 0." Then iteration by iteration.
@@ -82,8 +81,7 @@ fn run(code: &Code, symbols: &mut [u8], costs: &mut [u16], store: &mut [u8]) -> 
 /// "the decisions (smallest symbol of cost 0 in P_n)"
 fn decide(q: usize, costs: &[u16], symbols: &mut [u8]) {
     for (symbol, column) in symbols.iter_mut().zip(costs.chunks_exact(q)) {
-        let zero = column.iter().position(|&cost| cost == 0);
-        *symbol = zero.unwrap_or(0) as u8;
+        *symbol = Decision::of(column).symbol;
     }
 }
 

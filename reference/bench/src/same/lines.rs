@@ -4,7 +4,7 @@
 use super::lanes::Block;
 use super::products::Products;
 use super::rule::Rule;
-use crate::accepted::first_zero;
+use crate::decision::Decision;
 
 /// The columns' products, kept for the sent costs, their lines, and their shifts.
 pub fn fill(
@@ -23,7 +23,7 @@ pub fn fill(
     for ((shift, (&weight, costs)), (row, line)) in shifts.iter_mut().zip(inputs).zip(rows) {
         field.fill(weight, row);
         let row = row.as_flattened();
-        *shift = row[first_zero(costs)];
+        *shift = row[usize::from(Decision::of(costs).symbol)];
         sum ^= *shift;
         scatter(costs, row, *shift, line.as_flattened_mut());
     }

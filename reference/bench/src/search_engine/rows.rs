@@ -3,7 +3,7 @@
 
 use super::field;
 use super::minima::Minima;
-use crate::accepted::first_zero;
+use crate::decision::Decision;
 
 /// The three rising keys of each row, in three slices of q.
 pub struct Rows<'a> {
@@ -43,7 +43,7 @@ impl Rows<'_> {
         let columns = weights.iter().zip(costs.chunks_exact(line.len()));
         for ((n, (&weight, costs)), shift) in (0..).zip(columns).zip(shifts.iter_mut()) {
             field::fill(p, weight, table, row);
-            *shift = row[first_zero(costs)];
+            *shift = row[usize::from(Decision::of(costs).symbol)];
             sum ^= *shift;
             scatter(costs, row, *shift, n, line);
             self.merge(line);
