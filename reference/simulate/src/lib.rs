@@ -1,6 +1,6 @@
 //! The simulation: frame error rates over BPSK and white noise, with the decoder called through the static
 //! library, with k = 2 in both editions beside the Trellis Min-Max rule of source document 003, and with
-//! k = 3 beside k = 2 under codes with long checks.
+//! k = 3 beside k = 2 under codes with long checks; and how often a decided symbol is wrong, by its margin.
 
 #![forbid(unsafe_code)]
 #![deny(missing_docs)]
@@ -16,12 +16,14 @@ pub mod field;
 pub mod layered;
 pub mod library;
 pub mod long_checks;
+pub mod margins;
 pub mod min_max;
 pub mod plan;
 pub mod plane;
 pub mod progress;
 pub mod quantiser;
 pub mod report;
+pub mod share;
 pub mod sweep;
 pub mod tally;
 pub mod trial;

@@ -25,6 +25,11 @@ impl Library {
             margins: vec![0; code.columns],
         }
     }
+
+    /// The N margins of the last decoding.
+    pub fn margins(&self) -> &[u16] {
+        &self.margins
+    }
 }
 
 impl Decoder for Library {

@@ -72,6 +72,7 @@ fn run(plan: &Plan, out: Option<&Path>) -> io::Result<()> {
                 "long-checks.svg",
                 report::chart_of_long_checks(&results.long_checks),
             ),
+            ("margins.svg", report::chart_of_margins(&results.margins)),
         ];
         for (name, chart) in charts {
             fs::write(directory.join(name), chart.svg())?;

@@ -1,5 +1,6 @@
 //! What a run simulates: a sweep over g, a curve over Eb/N0 with each rule at its best g, a sweep over the cost
-//! scale, a sweep over g by column weight, and long checks with two and with three deviations.
+//! scale, a sweep over g by column weight, long checks with two and with three deviations, and what a margin is
+//! worth.
 
 use std::ops::RangeInclusive;
 
@@ -7,6 +8,7 @@ use petsivola::Edition;
 use reference_decoder::sample::Generator;
 
 use crate::long_checks::{self, LongChecks, Trials};
+use crate::margins::{self, Worth};
 use crate::progress::Progress;
 use crate::sweep::Sweep;
 use crate::trial::{Count, Rule, Scene, Setup, Stop};
@@ -40,6 +42,8 @@ pub struct Plan {
     pub weights: Vec<(f64, Stop)>,
     /// Both k, once for each code of [`long_checks::codes`].
     pub long_checks: [Trials; 2],
+    /// The proved rule with the sum, its symbols by their margins.
+    pub margins: Vec<(f64, Stop)>,
     /// What the frames depend on.
     pub seed: u64,
 }
@@ -57,6 +61,8 @@ pub struct Results {
     pub weights: Vec<Sweep>,
     /// The codes with long checks.
     pub long_checks: Vec<LongChecks>,
+    /// The symbols by their margins, at each Eb/N0.
+    pub margins: Vec<Worth>,
 }
 
 /// An Eb/N0 with the errors and the frames of its trial at size 1.
@@ -80,6 +86,8 @@ const WEIGHTS: [Size1; 3] = [
     (2.0, 2_000, 2_000),
     (2.5, 1_000, 1_000),
 ];
+/// The symbols by their margins.
+const MARGINS: [Size1; 3] = [(2.25, 400, 2_000), (2.5, 400, 5_000), (2.75, 400, 25_000)];
 /// The sweep and the curve of each code with long checks.
 const LONG_CHECKS: [(Size1, &[Size1]); 2] = [
     (
@@ -126,6 +134,7 @@ impl Plan {
                 sweep: stop(&sweep),
                 curve: stops(curve),
             }),
+            margins: stops(&MARGINS),
             seed,
         }
     }
@@ -158,6 +167,7 @@ impl Plan {
             costs,
             weights: self.by_weight(&mut seeds, progress),
             long_checks: self.with_long_checks(&mut seeds, progress),
+            margins: self.by_margin(scene, best[0], &mut seeds, progress),
         };
         progress.end();
         results
@@ -169,6 +179,22 @@ impl Plan {
         let codes = long_checks::codes().into_iter().zip(&self.long_checks);
         codes
             .map(|(code, trials)| long_checks::run(code, trials, seeds, progress))
+            .collect()
+    }
+
+    /// The symbols by their margins, with a rule and its g.
+    fn by_margin(
+        &self,
+        scene: &Scene,
+        best: (Rule, u8),
+        seeds: &mut Generator,
+        progress: &mut Progress,
+    ) -> Vec<Worth> {
+        progress.stage("symbols by margin");
+        let [setup] = at([best], COSTS_PER_NAT);
+        let trials = self.margins.iter();
+        trials
+            .map(|&trial| margins::run(scene, setup, trial, seeds.bits(), progress))
             .collect()
     }
 

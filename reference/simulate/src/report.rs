@@ -2,6 +2,7 @@
 
 mod curves;
 mod long_checks;
+mod margins;
 mod weights;
 
 use petsivola::Edition;
@@ -12,6 +13,7 @@ use crate::plan::{best_g, Plan, Results, COSTS_PER_NAT, LIMIT, RULES};
 use crate::trial::{Count, Rule};
 use curves::Line;
 pub use long_checks::chart as chart_of_long_checks;
+pub use margins::{chart as chart_of_margins, wrong_somewhere, wrong_up_to};
 
 /// The document.
 pub fn markdown(plan: &Plan, encoder: &Encoder, results: &Results) -> String {
@@ -35,6 +37,7 @@ pub fn markdown(plan: &Plan, encoder: &Encoder, results: &Results) -> String {
         table(&results.costs),
         weights::section(&results.weights),
         long_checks::section(&results.long_checks),
+        margins::section(&results.margins),
     ];
     parts.concat().trim_end().to_string() + "\n"
 }

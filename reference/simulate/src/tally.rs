@@ -1,6 +1,7 @@
 //! What is counted over many frames.
 
 use crate::decoder::Outcome;
+use crate::share::wilson;
 
 /// The counts of one decoder at one noise.
 #[derive(Clone, Copy, Debug, Default, PartialEq, Eq)]
@@ -59,15 +60,6 @@ impl Tally {
     /// The interval in which the frame error rate lies with a confidence of 95 percent, by Wilson's
     /// formula.
     pub fn interval(&self) -> (f64, f64) {
-        const Z: f64 = 1.96;
-        let frames = self.frames as f64;
-        let rate = self.frame_error_rate();
-        let spread = Z * (rate * (1.0 - rate) / frames + Z * Z / (4.0 * frames * frames)).sqrt();
-        let middle = rate + Z * Z / (2.0 * frames);
-        let whole = 1.0 + Z * Z / frames;
-        (
-            ((middle - spread) / whole).max(0.0),
-            (middle + spread) / whole,
-        )
+        wilson(self.frame_error_rate(), self.frames as f64)
     }
 }

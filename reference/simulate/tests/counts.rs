@@ -118,15 +118,17 @@ fn the_document_has_every_trial() {
     assert_eq!(results.weights.len(), plan.weights.len());
     let long = results.long_checks.iter().map(|code| code.curve.len());
     assert!(long.eq(plan.long_checks.iter().map(|code| 2 * code.curve.len())));
+    assert_eq!(results.margins.len(), plan.margins.len());
     let text = report::markdown(&plan, &scene.encoder, &results);
     let rows = |rule: &str| {
         let cell = format!("| {rule} |");
         text.lines().filter(|line| line.contains(&cell)).count()
     };
-    assert_eq!(rows("proved, k = 2"), 7 + 7 * 2 + 5 + (6 + 5));
+    assert_eq!(rows("proved, k = 2"), 7 + 7 * 2 + 5 + (6 + 5) + 3);
     assert_eq!(rows("proved Min-Max, k = 2"), 7 + 7 * 2 + 5);
     assert_eq!(rows("Trellis Min-Max"), 7 + 7 * 2 + 5);
     assert_eq!(rows("proved, k = 3"), 6 + 5);
+    assert_eq!(rows("161 to 510"), 3);
     let rows = text
         .lines()
         .filter(|line| line.matches(" of 1 |").count() == 3);
@@ -134,8 +136,9 @@ fn the_document_has_every_trial() {
     let charts = [
         report::chart(&results.curve),
         report::chart_of_long_checks(&results.long_checks),
+        report::chart_of_margins(&results.margins),
     ];
-    for (chart, lines) in charts.iter().zip([3, 4]) {
+    for (chart, lines) in charts.iter().zip([3, 4, 6]) {
         let svg = chart.svg();
         assert!(svg.starts_with("<svg") && svg.ends_with("</svg>\n"));
         assert_eq!(chart.series.len(), lines);

@@ -57,6 +57,7 @@ fn the_documents_rule_decodes_as_the_reference() {
         let mut library = Library::new(&code, k, edition, read.g, read.limit);
         assert_eq!(library.decode(&frame), expected);
         assert_eq!(library.symbols(), buffers.symbols);
+        assert_eq!(library.margins(), buffers.margins);
         found[usize::from(expected.found)] += 1;
     }
     assert!(found.iter().all(|&count| count > 50), "{found:?}");

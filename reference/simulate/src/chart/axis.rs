@@ -74,6 +74,20 @@ impl Axis {
         }
     }
 
+    /// An axis with equal steps whose whole numbers from 0 on have these names.
+    pub fn named(label: &str, names: &[String]) -> Axis {
+        Axis {
+            label: label.to_string(),
+            scale: Scale::Linear,
+            low: -0.5,
+            high: names.len() as f64 - 0.5,
+            ticks: (0..names.len())
+                .map(|number| number as f64)
+                .zip(names.iter().cloned())
+                .collect(),
+        }
+    }
+
     /// Where a number stands: 0 at the low end, 1 at the high end. Numbers past an end stand there.
     pub fn place(&self, number: f64) -> f64 {
         let part = match self.scale {
