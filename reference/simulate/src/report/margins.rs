@@ -13,8 +13,8 @@ pub fn section(worths: &[Worth]) -> String {
         format!(
             "## What a margin is worth\n\nHow often a decided symbol is not the one sent, by its margin. The \
              proved decoder alone with k = 2 and the sum at its best g. A margin is a difference of costs, here \
-             {COSTS_PER_NAT} to a nat. Symbols of one frame are wrong together or not at all, so the interval, \
-             with a confidence of 95 percent, is as wide as the spread between the frames asks for.\n\n"
+             {COSTS_PER_NAT} to a nat. Wrong symbols come together in a few frames, so the interval, with a \
+             confidence of 95 percent, follows the spread between the frames.\n\n"
         ),
         shading(worths),
         "![Wrong symbols by margin](margins.svg)\n\n".to_string(),
@@ -35,32 +35,32 @@ fn count(worth: &Worth) -> Count {
 
 /// Where to shade, for a picker.
 fn shading(worths: &[Worth]) -> String {
-    let sum = |part: fn(&Share) -> usize| -> usize {
-        let found = |worth: &Worth| {
-            let [all, lost] =
-                [worth.all, worth.not_found].map(|shares| shares.map(|share| part(&share)));
-            all.iter().sum::<usize>() - lost.iter().sum::<usize>()
-        };
-        worths.iter().map(found).sum()
+    let (symbols, errors) = of_found(worths);
+    let [half, tenth] = [0.5, 0.1].map(|level| wrong_up_to(worths, level));
+    let [half, tenth] = [half, tenth].map(|classes| match classes.checked_sub(1) {
+        Some(last) => format!("with a margin up to {}", CLASSES[last].end()),
+        None => "of no margin".to_string(),
+    });
+    let sure = match CLASSES.get(wrong_somewhere(worths, 0.01)) {
+        Some(class) => format!("From a margin of {} on", class.start()),
+        None => "At no margin".to_string(),
     };
-    let [half, tenth] = [0.5, 0.1].map(|level| greatest(wrong_up_to(worths, level)));
-    let hundredth = greatest(wrong_somewhere(worths, 0.01));
     format!(
-        "Where to shade: a frame found needs no shade, whatever its margins; of the {} symbols of frames found, {} \
-         are wrong. In a frame not found, at every Eb/N0 below, at least half of the decisions {half} are wrong, and \
-         at least one in ten {tenth}: shade the former dark and the latter lightly. Beyond those {hundredth} fewer \
-         than one in 100 are wrong; there is no need for shade.\n\n",
-        sum(|share| share.symbols),
-        sum(|share| share.errors),
+        "Where to shade: of the {symbols} symbols of frames found, whatever their margins, {errors} are wrong, so \
+         a shade belongs to frames not found. There, at every Eb/N0 below, at least half of the decisions {half} \
+         are wrong, and at least one in ten {tenth}: shade the former dark and the latter lightly. {sure} fewer than \
+         one in 100 are wrong, and no shade is needed.\n\n"
     )
 }
 
-/// Up to which margin a number of classes goes.
-fn greatest(classes: usize) -> String {
-    match classes.checked_sub(1) {
-        Some(last) => format!("with a margin up to {}", CLASSES[last].end()),
-        None => "of no margin".to_string(),
-    }
+/// The symbols of frames found, and those of them that are wrong.
+fn of_found(worths: &[Worth]) -> (usize, usize) {
+    let sum = |count: fn(&Share) -> usize| {
+        let of = |shares: &[Share]| shares.iter().map(count).sum::<usize>();
+        let found = |worth: &Worth| of(&worth.all) - of(&worth.not_found);
+        worths.iter().map(found).sum()
+    };
+    (sum(|share| share.symbols), sum(|share| share.errors))
 }
 
 /// The rates of a class in frames not found, where there are symbols of it.
