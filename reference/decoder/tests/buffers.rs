@@ -128,9 +128,7 @@ fn decoding() {
         });
         let before = [0, 1].map(|_| Buffers::arbitrary(&mut generator, lengths));
         let mut after = before.clone();
-        let answers = after
-            .each_mut()
-            .map(|buffers| buffers.decode(&line, &frame));
+        let answers = after.each_mut().map(|lent| lent.decode(&line, &frame));
         assert_eq!(answers[0], answers[1]);
         // A damaged code line can be accepted with other numbers, so what is filled is asked again.
         let filled = match answers[0] {

@@ -29,6 +29,15 @@ fn decoded(code: &[u8], frame: &[u8]) -> Decoded {
     }
 }
 
+impl Decoded {
+    /// The decisions, with their margins.
+    fn decisions(&self) -> Vec<Decision> {
+        let decided = self.symbols.iter().zip(&self.margins);
+        let decided = decided.map(|(&symbol, &margin)| Decision { symbol, margin });
+        decided.collect()
+    }
+}
+
 /// One check on three columns, weights 1, scale 16, one iteration.
 const ONE_CHECK: &str = "020003011001 03 000001 000101 000201";
 
@@ -126,8 +135,7 @@ fn runs_of_several_iterations() {
         assert_eq!(decoded.costs, costs);
         assert_eq!(decoded.store, bytes(store));
         let decisions = costs.chunks(4).map(Decision::of);
-        let decided = decoded.symbols.into_iter().zip(decoded.margins);
-        assert!(decided.eq(decisions.map(|decision| (decision.symbol, decision.margin))));
+        assert!(decisions.eq(decoded.decisions()));
     }
 }
 
@@ -223,11 +231,7 @@ fn a_column_in_no_check_keeps_its_costs() {
 fn costs_stay_in_range_and_the_result_is_the_first_satisfied_test() {
     let mut generator = Generator::new(40);
     for count in 0..400 {
-        let size = if count % 8 == 0 {
-            Size::MEDIUM
-        } else {
-            Size::SMALL
-        };
+        let size = [Size::SMALL, Size::MEDIUM][usize::from(count % 8 == 0)].clone();
         let sample = sample::code(&mut generator, &size);
         let code = code_line(&sample.line).unwrap();
         let style = generator.one_of(&Style::ALL);
@@ -253,9 +257,7 @@ fn costs_stay_in_range_and_the_result_is_the_first_satisfied_test() {
         };
         let decoded = decoded(&sample.line, &frame);
         assert_eq!(decoded.outcome, expected);
-        let decided = decoded.symbols.into_iter().zip(decoded.margins);
-        let decided = decided.map(|(symbol, margin)| Decision { symbol, margin });
-        assert!(decided.eq(machine.decisions()));
+        assert_eq!(decoded.decisions(), machine.decisions());
         assert!(decoded
             .costs
             .iter()

@@ -109,8 +109,7 @@ fn the_document_has_every_trial() {
     let plan = Plan::sized(0.000_01, 1);
     let results = plan.run(&scene, &mut Progress::start());
     for count in results.curve.iter().chain(&results.costs) {
-        let best = best_g(&results.scaling, count.setup.rule);
-        assert_eq!(count.setup.g, best);
+        assert_eq!(count.setup.g, best_g(&results.scaling, count.setup.rule));
     }
     assert_eq!(results.curve.len(), 3 * plan.curve.len());
     assert_eq!(results.scaling.len(), 3 * 7 * plan.scaling.len());

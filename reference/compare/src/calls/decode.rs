@@ -50,15 +50,7 @@ fn compare(generator: &mut Generator, input: &Input, tally: &mut Tally) -> Resul
     let (line_lent, frame_lent) = (line.clone(), frame.clone());
     let mut buffers = Buffers::new(generator, input.lengths);
     let mut buffers_expected = buffers.clone();
-    let expected = of_reference(reference_decoder::decode(
-        line.slice(),
-        frame.slice(),
-        buffers_expected.symbols.slice_mut(),
-        buffers_expected.costs.slice_mut(),
-        buffers_expected.store.slice_mut(),
-        buffers_expected.margins.slice_mut(),
-    ))
-    .map(|outcome| (outcome.status(), outcome.iterations()));
+    let expected = buffers_expected.decode_by_reference(&line, &frame);
     let answer = buffers.decode(&line_lent, &frame_lent);
 
     tally.answer(match expected {
@@ -121,6 +113,19 @@ impl Buffers {
             self.margins.slice_mut(),
         );
         of_library(answer).map(|outcome| (outcome.status(), outcome.iterations()))
+    }
+
+    /// The same by the reference decoder.
+    fn decode_by_reference(&mut self, line: &Lent<u8>, frame: &Lent<u8>) -> Result<(u8, u8), u16> {
+        let answer = reference_decoder::decode(
+            line.slice(),
+            frame.slice(),
+            self.symbols.slice_mut(),
+            self.costs.slice_mut(),
+            self.store.slice_mut(),
+            self.margins.slice_mut(),
+        );
+        of_reference(answer).map(|outcome| (outcome.status(), outcome.iterations()))
     }
 
     fn compare(&self, comparison: &mut Comparison, expected: &Buffers) {
