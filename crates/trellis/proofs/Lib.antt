@@ -13,6 +13,7 @@ pub mod Form
 pub mod Before
 pub mod Ranks
 pub mod Kept
+pub mod Sweep
 pub mod Instances
 pub mod Rules
 pub mod FieldLaws

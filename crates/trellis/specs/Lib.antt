@@ -6,6 +6,7 @@ pub mod Check
 pub mod Record
 pub mod Before
 pub mod Rows
+pub mod Sweep
 pub mod Rules
 pub mod Ready
 pub mod Reply
