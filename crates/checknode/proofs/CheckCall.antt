@@ -8,8 +8,7 @@ use lib.ListN.{length, drop}
 use Rattle.trellis.specs.Record.{recordOf, recordLength}
 use Rattle.trellis.specs.Rules.{ruleFor, sizeOf, columnsOf}
 use Rattle.trellis.specs.Reply.{accepted, refusal}
-use Rattle.checknode.specs.Answers.{checkReply, checkLeaves}
-use Rattle.checknode.specs.Asks.{checkFault}
+use Rattle.checknode.specs.Answers.{checkReply, checkLeaves, checkFault}
 use Rattle.checknode.proofs.CheckFault.{refused-case, passed-case}
 
 module _ (first : ℕ) (ws cs out : List ℕ) {k : ℕ} (f : k ≡ checkFault first ws cs (length out)) where

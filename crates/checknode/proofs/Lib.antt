@@ -14,5 +14,6 @@ pub mod ExpandCall
 pub mod Values
 pub mod MessagesCall
 pub mod TwoCalls
+pub mod ProductCall
 pub mod Lining
 pub mod Resting

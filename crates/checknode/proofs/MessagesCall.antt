@@ -11,8 +11,7 @@ use Rattle.trellis.specs.Check.{allSent}
 use Rattle.trellis.specs.Record.{recordOf, recordLength}
 use Rattle.trellis.specs.Rules.{ruleFor, sizeOf, columnsOf}
 use Rattle.trellis.specs.Reply.{accepted, refusal}
-use Rattle.checknode.specs.Answers.{messagesCases, messagesReply, messagesLeaves, messagesSent}
-use Rattle.checknode.specs.Asks.{checkFault}
+use Rattle.checknode.specs.Answers.{messagesCases, messagesReply, messagesLeaves, messagesSent, checkFault}
 use Rattle.checknode.proofs.CheckFault.{refused-case, passed-case}
 
 module _ (first : ℕ) (ws cs out sent : List ℕ) where

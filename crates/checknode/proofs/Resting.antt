@@ -93,7 +93,7 @@ module _ (first : ℕ) (ws cs : List ℕ) (D : Ready first ws cs) where
       }
 
   module _ (bytes : (i : ℕ) → getD cs i 0 < 256) where
-    column-bytes : (n y : ℕ) → n < length cols → getD (column cols n .costs) y 0 ≤ 255
+    pub column-bytes : (n y : ℕ) → n < length cols → getD (column cols n .costs) y 0 ≤ 255
     column-bytes n y h =
         let e = column-at q ws cs n (omega (arith, length-columns q ws cs)) in
         rw e (take-bytes q (drop (n * q) cs) (λ i. rw (getD-drop (n * q) cs i 0) (omega (arith, bytes (n * q + i)))) y)
@@ -117,11 +117,11 @@ module _ (first : ℕ) (ws cs : List ℕ) (D : Ready first ws cs) where
   unfolding shiftsOf
   shifts-length = length-tab _ (length ws)
 
-  shift-at : (n : ℕ) → n < length ws → getD (shiftsOf p ws cs) n 0 ≡ shift (ruleFor first) cols n
+  pub shift-at : (n : ℕ) → n < length ws → getD (shiftsOf p ws cs) n 0 ≡ shift (ruleFor first) cols n
   unfolding shiftsOf
   shift-at n h = getD-tab _ (length ws) n h ∙ sym (shift-is first ws cs D n h)
 
-  parts : recordOf (ruleFor first) cols ≡ shiftsOf p ws cs ++ blocks (λ i. group (ruleFor first) cols (suc i)) (q - 1)
+  pub parts : recordOf (ruleFor first) cols ≡ shiftsOf p ws cs ++ blocks (λ i. group (ruleFor first) cols (suc i)) (q - 1)
   unfolding shiftsOf
   parts = record-parts first ws cs D
 

@@ -19,9 +19,8 @@ use Rattle.trellis.specs.Rules.{ruleFor, columnsOf, sizeOf}
 use Rattle.trellis.specs.Reply.{Reply, accepted, refusal}
 use Rattle.checknode.specs.declared.Written.{Written}
 use Rattle.checknode.specs.declared.Written.the-variants.{Bytes, Refused}
-use Rattle.checknode.specs.Answers.{writtenReply, checkReply, checkLeaves, expandReply, expandLeaves}
+use Rattle.checknode.specs.Answers.{writtenReply, checkReply, checkLeaves, expandReply, expandLeaves, checkFault}
 use Rattle.checknode.specs.Demand.{Sends, Demand-2-messages}
-use Rattle.checknode.specs.Asks.{checkFault}
 use Rattle.trellis.proofs.Messages.{ready-length, ready-form, ready-messages, ready-many, ready-least}
 use Rattle.checknode.proofs.Refusals.{part-room, expand-case}
 use Rattle.checknode.proofs.CheckFault.{Passed, passed}

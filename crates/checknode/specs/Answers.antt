@@ -61,6 +61,10 @@ checkCases f ws cs room bad good =
     (bad 13))
     (bad 12))
 
+-- the number of a check's refusal where the record buffer has `room` bytes, 0 for none
+unfoldable pub checkFault : ℕ → List ℕ → List ℕ → ℕ → ℕ
+checkFault f ws cs room = checkCases f ws cs room (λ k. k) 0
+
 unfoldable pub checkReply : ℕ → List ℕ → List ℕ → List ℕ → Reply
 checkReply f ws cs out = checkCases f ws cs (length out) (λ k. refusal k) (accepted (recordLength (ruleFor f) (length ws)))
 

@@ -34,10 +34,6 @@ shiftsOf p ws cs = tab (λ n. xor (sumTo (termOf p ws cs) (length ws)) (termOf p
 unfoldable pub weightsFault : ℕ → List ℕ → ℕ
 weightsFault f ws = weightCases f ws (λ k. k) 0
 
--- the number of the first refusal of a check whose record buffer has `room` bytes, 0 for none
-unfoldable pub checkFault : ℕ → List ℕ → List ℕ → ℕ → ℕ
-checkFault f ws cs room = checkCases f ws cs room (λ k. k) 0
-
 -- after a pair, the least column that the next used pair may have: one more, 256 after an unused pair, 257 for a fault
 unfoldable pub pairNext : ℕ → ℕ → ℕ → ℕ → ℕ → ℕ
 pairNext c s e d low =

@@ -13,7 +13,7 @@ mod tests;
 
 ghost use mathlib.Core.Path.{_≡_};
 ghost use Rattle.trellis.specs.Check.{decide as decideOf};
-ghost use Rattle.checknode.specs.Answers.{elementReply, productReply, writtenReply, checkReply, checkLeaves, messagesReply, messagesLeaves, messagesSent, expandReply, expandLeaves};
+ghost use Rattle.checknode.specs.Answers.{elementReply, productReply, writtenReply, checkFault, checkReply, checkLeaves, messagesReply, messagesLeaves, messagesSent, expandReply, expandLeaves};
 
 // A hard decision: the symbol and its margin.
 pub struct Decision {
@@ -61,8 +61,16 @@ pub fn decide(costs: &[u8]) -> Decision
     hard_decision::decide(costs)
 }
 
-// The record of a check: from the first code byte, d weights and d times q costs, column by column, d + (1 + 2k)(q - 1) bytes. Refused: 6, the
-// first byte; 9, degree not 2 to 32; 11, a weight 0 or no element; 12, cost count; 13, a column without a cost of 0; 4, record buffer too short.
+// The number by which a check is refused whose record buffer has `room` bytes, or 0: 6, the first byte; 9, degree not 2 to 32; 11, a weight 0 or
+// no element; 12, cost count; 13, a column without a cost of 0; 4, record buffer too short.
+pub fn check_fault(first: u8, weights: &[u8], costs: &[u8], room: usize) -> u8
+    ensures { λ r. ⌜ r ≡ checkFault first (now (weights .entry)) (now (costs .entry)) room ⌝ }
+{
+    tests::check_fault(first, weights, costs, room)
+}
+
+// The record of a check: from the first code byte, d weights and d times q costs, column by column, d + (1 + 2k)(q - 1) bytes. Refused as
+// `check_fault` says.
 pub fn check(first: u8, weights: &[u8], costs: &[u8], out: &mut [u8]) -> Written
     ensures { λ r. ⌜ writtenReply r ≡ checkReply first (now (weights .entry)) (now (costs .entry)) (now (out .entry)) ⌝ }
     ensures { λ _. ⌜ now (out .exit) ≡ checkLeaves first (now (weights .entry)) (now (costs .entry)) (now (out .entry)) ⌝ }

@@ -7,32 +7,15 @@ use Prim.Native.Nat.{ℕ, zero, suc, _+_, _^_, _≤_, _<_}
 use native.Mathlib.Omega.{arith}
 use lib.Dec.{T, eqb, ltb, eqb→eq, ltb→lt}
 use lib.ListN.{getD}
-use borrow.Author.Tests.{le-ltb, lt-leb}
 use Rattle.trellis.specs.Lists.{allTo}
 use Rattle.trellis.specs.Field.{xor, product, quotient}
-use Rattle.trellis.specs.Reply.{Reply, accepted}
 use Rattle.trellis.proofs.Tests.{fst-T, snd-T, or-cases, all-at, each-field}
 use Rattle.trellis.proofs.Xor.{xor-right}
 use Rattle.trellis.proofs.Recurrence.{product-zero}
 use Rattle.trellis.proofs.FieldLaws.{field, fields-at, inverse, Inverse, has-inverse}
 use Rattle.trellis.proofs.Quotients.{quotient-one, times-one}
-use Rattle.checknode.specs.Answers.{elementReply, productReply}
-use Rattle.checknode.specs.declared.Element.{Element}
-use Rattle.checknode.specs.declared.Element.the-variants.{Is, Refused}
 use Rattle.encoder.specs.Table.{invertedAt, inverted, allInverted}
 use Rattle.encoder.specs.Rooms.{DivisorRoom, QuotientRoom}
-
--- a product of elements is not refused
-module _ (p a b : ℕ) (low : 2 ≤ p) (high : p ≤ 6) (h : a < 2 ^ p) (k : b < 2 ^ p) (e : Element) (r : elementReply e ≡ productReply p a b) where
-  accepts : elementReply e ≡ accepted (product p a b)
-  unfolding productReply
-  accepts = r ∙ rw (le-ltb p 2 low, le-ltb 6 p high, lt-leb (2 ^ p) a h, lt-leb (2 ^ p) b k)
-
-  pub is-product : (x : ℕ) → e ≡ Is x → x ≡ product p a b
-  is-product x i = ap (λ (r : Reply). r .value) (ap elementReply (sym i) ∙ accepts)
-
-  pub never-refused : (n : ℕ) → e ≡ Refused n → ⊥
-  never-refused n i = let z : true ≡ false = ap (λ (r : Reply). r .refused) (ap elementReply (sym i) ∙ accepts) in let y : _≡_ {A = ℕ} 0 1 = cc in omega arith
 
 -- what stands at a place of the table
 pub inverse-at : (l : List ℕ) → T (allInverted l) → (p h i : ℕ) → DivisorRoom p h → i ≡ 2 ^ p + h → (getD l i 0 < 2 ^ p) × (product p h (getD l i 0) ≡ 1)

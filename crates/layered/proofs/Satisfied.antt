@@ -11,12 +11,7 @@ use lib.ListN.{length, getD, drop, set}
 use lib.Seq.{drop-cons, drop-length}
 use borrow.Author.Tests.{eq-eqb, ne-eqb, le-ltb, lt-leb}
 use Rattle.trellis.specs.Lists.{tab, part}
-use Rattle.trellis.specs.Field.{product}
 use Rattle.trellis.specs.Check.{firstZero}
-use Rattle.trellis.specs.Reply.{Reply, accepted}
-use Rattle.checknode.specs.Answers.{elementReply, productReply}
-use Rattle.checknode.specs.declared.Element.{Element}
-use Rattle.checknode.specs.declared.Element.the-variants.{Is, Refused}
 use Rattle.trellis.proofs.Loops.{tab-more, tab-whole, length-tab, getD-tab}
 use Rattle.machine.specs.CodeLine.{columnOf}
 use Rattle.machine.specs.Tables.{before, sumFrom}
@@ -32,18 +27,6 @@ each-turn g q P d now c z h o i = rw (o, i, add-sub-cancel-left (c * q) q) (tab-
 pub each-done : (g : List ℕ → ℕ) (q : ℕ) (P d now : List ℕ) (c : ℕ) → c ≡ length d → now ≡ tab (λ k. g (columnOf q P k)) c ++ drop c d
     → now ≡ tab (λ k. g (columnOf q P k)) (length d)
 each-done g q P d now c e o = o ∙ rw e (tab-whole (λ k. g (columnOf q P k)) d)
-
--- a product of elements is not refused
-module _ (p a b : ℕ) (low : 2 ≤ p) (high : p ≤ 6) (h : a < 2 ^ p) (k : b < 2 ^ p) (e : Element) (r : elementReply e ≡ productReply p a b) where
-  accepts : elementReply e ≡ accepted (product p a b)
-  unfolding productReply
-  accepts = r ∙ rw (le-ltb p 2 low, le-ltb 6 p high, lt-leb (2 ^ p) a h, lt-leb (2 ^ p) b k)
-
-  pub is-product : (x : ℕ) → e ≡ Is x → x ≡ product p a b
-  is-product x i = ap (λ (r : Reply). r .value) (ap elementReply (sym i) ∙ accepts)
-
-  pub never-refused : (n : ℕ) → e ≡ Refused n → ⊥
-  never-refused n i = let z : true ≡ false = ap (λ (r : Reply). r .refused) (ap elementReply (sym i) ∙ accepts) in let y : _≡_ {A = ℕ} 0 1 = cc in omega arith
 
 module _ (p : ℕ) (ds cs ws z : List ℕ) where
   module _ (m at d n s : ℕ) (e : at ≡ before ds m) (i : d ≡ getD ds m 0) (j : n ≡ d) (u : s ≡ sumFrom p cs ws z at n) where

@@ -1,6 +1,6 @@
 -- What the requires say is what product tests, so its answer is the product.
 use borrow.Author.Needs.{needs}
-use Rattle.encoder.proofs.Quotients.{is-product, never-refused}
+use Rattle.checknode.proofs.ProductCall.{is-product, never-refused}
 use Rattle.encoder.proofs.division.times.Statement.{statement}
 use Rattle.encoder.proofs.division.times.Tie as tie
 
