@@ -1,0 +1,3 @@
+-- What a reader must believe: Kept, what the two sweeps keep; the replies are those of checknode. Under inner what the loops do.
+pub mod inner
+pub mod Kept
