@@ -65,6 +65,14 @@ pub extern "C" fn petsivola_check(first: u8, weights: &[u8], costs: &[u8], out: 
 }
 
 #[no_mangle]
+pub extern "C" fn petsivola_sweep(first: u8, weights: &[u8], costs: &[u8], out: &mut [u8]) -> u32
+    ensures { λ r. ⌜ Packs r (checkReply first (now (weights .entry)) (now (costs .entry)) (now (out .entry))) ⌝ }
+    ensures { λ _. ⌜ now (out .exit) ≡ checkLeaves first (now (weights .entry)) (now (costs .entry)) (now (out .entry)) ⌝ }
+{
+    of_written(sweep::sweep(first, weights, costs, out))
+}
+
+#[no_mangle]
 pub extern "C" fn petsivola_expand(first: u8, weights: &[u8], bytes: &[u8], out: &mut [u8]) -> u32
     ensures { λ r. ⌜ Packs r (expandReply first (now (weights .entry)) (now (bytes .entry)) (now (out .entry))) ⌝ }
     ensures { λ _. ⌜ now (out .exit) ≡ expandLeaves first (now (weights .entry)) (now (bytes .entry)) (now (out .entry)) ⌝ }
