@@ -24,16 +24,22 @@ pub const DEGREES: RangeInclusive<usize> = 2..=32;
 /// Order: "Check: 6, 9, 11, 12, 13, 4." "An accepted check or expansion returns how many bytes it
 /// wrote."
 pub fn check(first: u8, weights: &[u8], costs: &[u8], record: &mut [u8]) -> Result<usize, Refusal> {
+    let rule = accept(first, weights, costs, record.len())?;
+    let packed = record::pack(rule, &Messages::new(rule, weights, costs));
+    record[..packed.len()].copy_from_slice(&packed);
+    Ok(packed.len())
+}
+
+/// The rule of a check that is not refused, with a record buffer of this length. Order: "Check: 6, 9,
+/// 11, 12, 13, 4."
+pub fn accept(first: u8, weights: &[u8], costs: &[u8], room: usize) -> Result<Rule, Refusal> {
     let rule = Rule::new(first)?;
     accept_weights(rule.field(), weights)?;
     accept_costs(rule.field(), weights.len(), costs)?;
-    let length = record::length(rule, weights.len());
-    if record.len() < length {
+    if room < record::length(rule, weights.len()) {
         return Err(Refusal::ShortStore);
     }
-    let packed = record::pack(rule, &Messages::new(rule, weights, costs));
-    record[..length].copy_from_slice(&packed);
-    Ok(length)
+    Ok(rule)
 }
 
 /// Refusals 9 and 11 of a check given by its weights.
@@ -84,24 +90,29 @@ impl Messages {
     /// The messages of an accepted check: weights and costs as [`accept_weights`] and
     /// [`accept_costs`] let them pass.
     pub fn new(rule: Rule, weights: &[u8], costs: &[u8]) -> Messages {
-        let (q, degree) = (rule.field().size(), weights.len());
-        let columns: Vec<Column> = weights
-            .iter()
-            .zip(costs.chunks(q))
-            .map(|(&weight, costs)| Column::new(rule.field(), weight, costs))
-            .collect();
-        let hard_sum = sum(columns.iter().map(|column| column.hard_term));
+        let columns = Column::all(rule.field(), weights, costs);
+        let mut listing = Listing::new(rule, &columns);
+        let decisions = Choices::of_decisions(hard_sum(&columns), rule.field().size());
+        listing.take(&decisions);
+        let sent = listing.sent.iter().map(|costs| bytes(costs)).collect();
+        Messages::of_columns(&columns, sent)
+    }
+
+    /// The messages of an accepted check for which the sent costs are known.
+    pub fn of_sent(field: Field, weights: &[u8], costs: &[u8], sent: Vec<Vec<u8>>) -> Messages {
+        Messages::of_columns(&Column::all(field, weights, costs), sent)
+    }
+
+    /// All else follows from the columns and the sent costs.
+    fn of_columns(columns: &[Column], sent: Vec<Vec<u8>>) -> Messages {
+        let (q, hard_sum) = (columns[0].terms.len(), hard_sum(columns));
         let shifts: Vec<u8> = columns
             .iter()
             .map(|column| hard_sum ^ column.hard_term)
             .collect();
-
-        let mut listing = Listing::new(rule, &columns);
-        listing.take(&Choices::of_decisions(hard_sum, q));
-        let sent: Vec<Vec<u8>> = listing.sent.iter().map(|costs| bytes(costs)).collect();
-        let mut sent_at_sum = vec![vec![0; q]; degree];
-        for n in 0..degree {
-            for (&cost, &term) in sent[n].iter().zip(&columns[n].terms) {
+        let mut sent_at_sum = vec![vec![0; q]; columns.len()];
+        for (n, column) in columns.iter().enumerate() {
+            for (&cost, &term) in sent[n].iter().zip(&column.terms) {
                 sent_at_sum[n][usize::from(term ^ shifts[n])] = cost;
             }
         }
@@ -129,9 +140,17 @@ struct Column {
 }
 
 impl Column {
+    /// Every column of a check.
+    fn all(field: Field, weights: &[u8], costs: &[u8]) -> Vec<Column> {
+        let columns = weights.iter().zip(costs.chunks(field.size()));
+        columns
+            .map(|(&weight, costs)| Column::new(field, weight, costs))
+            .collect()
+    }
+
     fn new(field: Field, weight: u8, costs: &[u8]) -> Column {
         let decision = Decision::of(costs);
-        let symbols = (0u8..).take(field.size());
+        let symbols = field.elements();
         let terms: Vec<u8> = symbols.clone().map(|x| field.product(weight, x)).collect();
         let hard_term = terms[usize::from(decision.symbol)];
         // "A deviation is a column whose chosen symbol is not z_n."
@@ -147,6 +166,11 @@ impl Column {
             deviations,
         }
     }
+}
+
+/// The sum of all h_n times z_n.
+fn hard_sum(columns: &[Column]) -> u8 {
+    sum(columns.iter().map(|column| column.hard_term))
 }
 
 /// The choices for all columns whose deviations are exactly the columns of a set.

@@ -46,6 +46,11 @@ impl Field {
         usize::from(number) < self.size()
     }
 
+    /// The elements, rising.
+    pub fn elements(self) -> impl Iterator<Item = u8> + Clone {
+        (0u8..).take(self.size())
+    }
+
     /// The product of two elements: the product of the two polynomials over GF(2), then its
     /// remainder under the field's polynomial.
     pub fn product(self, a: u8, b: u8) -> u8 {

@@ -1,13 +1,13 @@
-//! The reference decoder: document 01 (`01-scope.md`) with §1 to §3, §5 and §6 of document 02
+//! The reference decoder: document 01 (`01-scope.md`) with §1 to §3 and §5 to §7 of document 02
 //! (`02-change-requests.md`) written out once more, in Rust. The proved library is compared with it,
 //! so it is written from the documents alone, without that library's code: the least costs of a check
-//! come from listing the choices, as document 01 defines them, and a message is encoded by solving
-//! the checks as equations.
+//! come from listing the choices, as document 01 defines them, and once more from two sweeps over the
+//! columns; a message is encoded by solving the checks as equations.
 //!
-//! The entry points are [`product`], [`check`](check()), [`expand`], [`line`](line()),
-//! [`code_line`], [`decode`], [`encode`](encode()), [`frame_line`] and [`program`](program()). Each
-//! answers a [`Refusal`] in the documents' order or fills the used part of its lent buffers. The
-//! module [`sample`] makes inputs for tests.
+//! The entry points are [`product`], [`check`](check()), [`sweep`](sweep()), [`expand`],
+//! [`line`](line()), [`code_line`], [`decode`], [`encode`](encode()), [`frame_line`] and
+//! [`program`](program()). Each answers a [`Refusal`] in the documents' order or fills the used part of
+//! its lent buffers. The module [`sample`] makes inputs for tests.
 
 #![forbid(unsafe_code)]
 #![deny(missing_docs)]
@@ -24,6 +24,7 @@ pub mod record;
 pub mod refusal;
 pub mod rule;
 pub mod sample;
+pub mod sweep;
 
 pub use check::check;
 pub use code::{code_line, CheckNode, Code};
@@ -36,3 +37,4 @@ pub use program::{frame_line, program};
 pub use record::expand;
 pub use refusal::Refusal;
 pub use rule::{Join, Rule};
+pub use sweep::sweep;

@@ -92,7 +92,7 @@ pub fn expansion(rule: Rule, weights: &[u8], record: &[u8]) -> Vec<u8> {
     let entries: Vec<&[u8]> = entries.chunks_exact(entry_length).collect();
     let mut sent = Vec::new();
     for ((n, &weight), &shift) in (0u8..).zip(weights).zip(shifts) {
-        for x in (0u8..).take(field.size()) {
+        for x in field.elements() {
             let a = field.product(weight, x) ^ shift;
             sent.push(match a {
                 0 => 0,

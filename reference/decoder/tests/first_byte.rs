@@ -6,7 +6,8 @@
 use reference_decoder::check::Messages;
 use reference_decoder::decision::MOST_MARGIN;
 use reference_decoder::sample::{Buffers, Generator};
-use reference_decoder::{check, code_line, encode, expand, product, Join, Outcome, Refusal, Rule};
+use reference_decoder::{check, code_line, encode, expand, product, sweep};
+use reference_decoder::{Join, Outcome, Refusal, Rule};
 
 /// p, k and the edition of a first byte, none where it is refused by 6.
 fn meaning(first: u8) -> Option<(u8, usize, Join)> {
@@ -43,8 +44,20 @@ fn the_rule() {
     assert_eq!(accepted.count(), 20);
 }
 
+/// A call that writes the record of a check.
+type Check = fn(u8, &[u8], &[u8], &mut [u8]) -> Result<usize, Refusal>;
+
 #[test]
 fn in_check() {
+    in_call(check);
+}
+
+#[test]
+fn in_sweep() {
+    in_call(sweep);
+}
+
+fn in_call(check: Check) {
     for (first, sizes) in first_bytes() {
         let (q, entry) = sizes.unwrap_or((4, 5));
         let length = 3 + entry * (q - 1);

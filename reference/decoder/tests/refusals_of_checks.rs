@@ -1,8 +1,8 @@
-//! Document 01, "Who causes which refusal": product, check, expand and line. Each refusal is met on
+//! Document 01, "Who causes which refusal": product, check, sweep, expand and line. Each refusal is met on
 //! its own and, for the order, together with the one after it. A refused call changes no lent byte.
 
 use reference_decoder::sample::{bytes, Generator};
-use reference_decoder::{check, expand, line, product, Refusal};
+use reference_decoder::{check, expand, line, product, sweep, Refusal};
 
 /// Calls with a lent buffer of arbitrary content, `room` long, and gives the refusal's number; the
 /// buffer has not changed.
@@ -32,8 +32,18 @@ fn product_6_11() {
     }
 }
 
+/// A call on one check: a first byte, weights, costs and a record buffer.
+type Check = fn(u8, &[u8], &[u8], &mut [u8]) -> Result<usize, Refusal>;
+
+/// Document 02, §7: "refuses the same ones with the same numbers".
 #[test]
-fn check_6_9_11_12_13_4() {
+fn check_and_sweep_6_9_11_12_13_4() {
+    for call in [check, sweep] {
+        refused_checks(call);
+    }
+}
+
+fn refused_checks(check: Check) {
     let number = |first, weights: &[u8], costs: &[u8], room| {
         refused(room, |record| check(first, weights, costs, record))
     };
@@ -71,7 +81,13 @@ fn check_6_9_11_12_13_4() {
 
 /// The refusals after 9, at both bounds of the degree.
 #[test]
-fn check_11_12_13_4_at_degree_2_and_32() {
+fn check_and_sweep_11_12_13_4_at_degree_2_and_32() {
+    for call in [check, sweep] {
+        refused_at_bounds(call);
+    }
+}
+
+fn refused_at_bounds(check: Check) {
     for (first, degree, entries) in [(0x02, 2, 15), (0x02, 32, 15), (0x22, 2, 21), (0x22, 32, 21)] {
         let number = |weights: &[u8], costs: &[u8], room| {
             refused(room, |record| check(first, weights, costs, record))
