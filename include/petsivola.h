@@ -3,8 +3,8 @@
  * C99. Link with libpetsivola.a (x86-64 Linux). No heap, no files, no state between calls, so calls
  * from several threads need no lock.
  *
- * Stack of a call, as measured: decode 27 KB, check 19 KB, expand 5 KB, encode 7 KB, product and
- * line under 1 KB.
+ * Stack of a call, as measured: decode 27 KB, check 19 KB, sweep 40 KB, expand 5 KB, encode 7 KB,
+ * product and line under 1 KB.
  *
  * Every input is answered: each function ends, stays inside its buffers, and refuses for the numbered
  * reasons below and no others. A refused call changes no byte. An accepted call fills the first bytes
@@ -61,7 +61,7 @@ enum petsivola_number {
     PETSIVOLA_COLUMN = 10,          /* column not below N, or not above the one before */
     PETSIVOLA_WEIGHT = 11,          /* weight 0, or a weight or element not below q */
     /* by the frame's sender */
-    PETSIVOLA_COST_COUNT = 12,      /* number of costs is not N * q (check: d * q) */
+    PETSIVOLA_COST_COUNT = 12,      /* number of costs is not N * q (check, sweep: d * q) */
     PETSIVOLA_NO_ZERO_COST = 13,    /* a column without a cost of 0 */
     /* by the line's writer */
     PETSIVOLA_DIGITS = 14,          /* odd digit count, or a byte other than 0-9 and A-F */
@@ -173,6 +173,21 @@ uint32_t petsivola_line(const uint8_t *text, size_t text_len,
  * Number: 0, or 6, 9, 11, 12, 13, 4 in this order. Value: the bytes written.
  */
 uint32_t petsivola_check(uint8_t first,
+                         const uint8_t *weights, size_t weights_len,
+                         const uint8_t *costs, size_t costs_len,
+                         uint8_t *record, size_t record_len);
+
+/* Writes the same record as petsivola_check, by an engine that can be followed on paper: two sweeps
+ * over the trellis of the check. docs/SWEEP.md goes through them by hand. For each column n they keep
+ * the least cost for each partial sum and each count of deviations, 0 to k, over the columns before n
+ * and over those after n, and join the two.
+ *
+ * It is many times slower than petsivola_check. Parameters, lengths, refusals with their order, result
+ * and record are the same for every input; use it to check a record by hand, not in a receiver.
+ *
+ * Number: 0, or 6, 9, 11, 12, 13, 4 in this order. Value: the bytes written.
+ */
+uint32_t petsivola_sweep(uint8_t first,
                          const uint8_t *weights, size_t weights_len,
                          const uint8_t *costs, size_t costs_len,
                          uint8_t *record, size_t record_len);
