@@ -6,7 +6,7 @@
 //! [`Refusal`]. Elements past those that a call
 //! fills keep their old content. No call panics, whatever its arguments.
 //!
-//! The first byte of a code line, which `check` and `expand` take too, gives the field, the number of
+//! The first byte of a code line, which `check`, `sweep` and `expand` take too, gives the field, the number of
 //! deviations and the edition, sum or Min-Max: a [`Rule`] reads and composes it. [`lengths`] has the lengths
 //! that follow from it. `product` takes p alone.
 //!
@@ -14,6 +14,7 @@
 //! |---|---|---|
 //! | [`product`] | nothing | 6, 11 |
 //! | [`check`] | the record of one check | 6, 9, 11, 12, 13, 4 |
+//! | [`sweep`] | the same record, by an engine that can be followed on paper | 6, 9, 11, 12, 13, 4 |
 //! | [`expand`] | the sent costs that a record stands for | 6, 9, 11, 16, 2 |
 //! | [`line`] | the bytes of a line of hexadecimal digits | 15, 14, 2 |
 //! | [`decode`] | symbols, costs, records and margins of one frame | 5 to 11, 12, 13, 2, 3, 4, 19 |
@@ -63,6 +64,14 @@ pub fn product(p: u8, a: u8, b: u8) -> Result<u8, Refusal> {
 /// q each; `first` is as a code line's first byte. Order: "Check: 6, 9, 11, 12, 13, 4."
 pub fn check(first: u8, weights: &[u8], costs: &[u8], record: &mut [u8]) -> Result<usize, Refusal> {
     answer::written(library::check(first, weights, costs, record))
+}
+
+/// Answers and writes what [`check`] does, for every input, by an engine that can be followed on paper and
+/// is many times slower. Document 02, §7: it "keeps, for each partial sum and each count of deviations up to
+/// k, the least cost over the columns before n, and the same over the columns after n, and joins the two
+/// sweeps for column n". Order: 6, 9, 11, 12, 13, 4.
+pub fn sweep(first: u8, weights: &[u8], costs: &[u8], record: &mut [u8]) -> Result<usize, Refusal> {
+    answer::written(library::sweep(first, weights, costs, record))
 }
 
 /// Writes the unscaled sent costs that a record stands for, column by column, q each; answers how

@@ -24,6 +24,16 @@ extern "C" {
         record_len: usize,
     ) -> u32;
 
+    fn petsivola_sweep(
+        first: u8,
+        weights: *const u8,
+        weights_len: usize,
+        costs: *const u8,
+        costs_len: usize,
+        record: *mut u8,
+        record_len: usize,
+    ) -> u32;
+
     fn petsivola_expand(
         first: u8,
         weights: *const u8,
@@ -71,6 +81,22 @@ pub(crate) fn check(first: u8, weights: &[u8], costs: &[u8], record: &mut [u8]) 
     // overlaps no other.
     unsafe {
         petsivola_check(
+            first,
+            weights.as_ptr(),
+            weights.len(),
+            costs.as_ptr(),
+            costs.len(),
+            record.as_mut_ptr(),
+            record.len(),
+        )
+    }
+}
+
+pub(crate) fn sweep(first: u8, weights: &[u8], costs: &[u8], record: &mut [u8]) -> u32 {
+    // SAFETY: each pointer and length come from one borrowed slice; `record`, the only one written,
+    // overlaps no other.
+    unsafe {
+        petsivola_sweep(
             first,
             weights.as_ptr(),
             weights.len(),

@@ -1,7 +1,7 @@
-//! `product`, `check` and `expand` on the documents' own values and on inputs that no caller means. The
+//! `product`, `check`, `sweep` and `expand` on the documents' own values and on inputs that no caller means. The
 //! comparison with the reference decoder is in the package `compare`.
 
-use petsivola::{check, expand, lengths, product, Refusal, Rule};
+use petsivola::{check, expand, lengths, product, sweep, Refusal, Rule};
 
 /// "Columns 0 5 7 9 / 0 4 8 3 / 0 6 2 10: record 000000 040105FF00 020207FF00 030107FF00."
 const COSTS: [u8; 12] = [0, 5, 7, 9, 0, 4, 8, 3, 0, 6, 2, 10];
@@ -52,17 +52,20 @@ fn degrees_of_the_bench_table() {
         let mut unused = vec![0; degree];
         unused.extend([0, 255, 0, 255, 0].repeat(3));
         let (mut record, mut sent) = ([0xA5; 55], [0xA5; 160]);
-        let answers = (
+        let mut swept = record;
+        let answers = [
             check(2, &weights, &costs, &mut record),
+            sweep(2, &weights, &costs, &mut swept),
             expand(2, &weights, &unused, &mut sent),
-        );
+        ];
         if (2..=32).contains(&degree) {
-            assert_eq!(answers, (Ok(degree + 15), Ok(4 * degree)));
+            assert_eq!(answers, [degree + 15, degree + 15, 4 * degree].map(Ok));
             assert_eq!(record[..degree + 15], unused);
         } else {
-            assert_eq!(answers, (Err(Refusal::Degree), Err(Refusal::Degree)));
+            assert_eq!(answers, [Err(Refusal::Degree); 3]);
             assert_eq!((record, sent), ([0xA5; 55], [0xA5; 160]));
         }
+        assert_eq!(swept, record);
     }
 }
 
@@ -142,12 +145,100 @@ fn check_and_expand_of_the_min_max_edition() {
     assert_eq!(record[24], 0xA5);
 }
 
+/// A first byte, weights, costs, and the record.
+type Swept = (u8, &'static [u8], &'static [u8], &'static [u8]);
+
+/// The bench table's check with both k in both editions, another whose decisions are not all 0, two columns,
+/// and weights 1, 2, 3 with decisions 1.
+const SWEPT: [Swept; 7] = [
+    (0x02, &[1, 1, 1], &COSTS, &RECORD),
+    (
+        0x12,
+        &[1, 1, 1],
+        &COSTS,
+        &[0, 0, 0, 3, 1, 5, 2, 4, 2, 2, 5, 255, 0, 3, 1, 5, 255, 0],
+    ),
+    (
+        0x22,
+        &[1, 1, 1],
+        &COSTS,
+        &[
+            0, 0, 0, 4, 1, 5, 255, 0, 255, 0, 2, 2, 7, 255, 0, 255, 0, 3, 1, 7, 255, 0, 255, 0,
+        ],
+    ),
+    (
+        0x32,
+        &[1, 1, 1],
+        &COSTS,
+        &[
+            0, 0, 0, 3, 1, 5, 2, 4, 255, 0, 2, 2, 5, 255, 0, 255, 0, 3, 1, 5, 255, 0, 255, 0,
+        ],
+    ),
+    (
+        0x02,
+        &[1, 1, 1],
+        &[5, 0, 9, 7, 0, 4, 8, 3, 0, 6, 2, 10],
+        &[0, 1, 1, 4, 1, 5, 255, 0, 2, 2, 7, 255, 0, 3, 1, 7, 255, 0],
+    ),
+    (
+        0x02,
+        &[1, 1],
+        &[0, 9, 1, 9, 0, 9, 9, 1],
+        &[0, 0, 9, 255, 0, 255, 0, 1, 0, 9, 255, 0, 1, 1, 9, 255, 0],
+    ),
+    (
+        0x02,
+        &[1, 2, 3],
+        &[255, 0, 255, 255, 255, 0, 255, 255, 255, 0, 255, 255],
+        &[
+            1, 2, 3, 255, 255, 0, 255, 0, 255, 255, 0, 255, 0, 255, 255, 0, 255, 0,
+        ],
+    ),
+];
+
+/// Document 02, §7: "It writes the same record for each accepted check".
+#[test]
+fn sweep_writes_the_record_and_nothing_else() {
+    for (first, weights, costs, expected) in SWEPT {
+        let mut record = [0xA5; 26];
+        let written = sweep(first, weights, costs, &mut record);
+        assert_eq!(written, Ok(expected.len()));
+        assert_eq!(lengths::record(first, weights.len()), Some(expected.len()));
+        assert_eq!(record[..expected.len()], *expected);
+        assert!(record[expected.len()..].iter().all(|&byte| byte == 0xA5));
+        let mut of_check = [0xA5; 26];
+        assert_eq!(check(first, weights, costs, &mut of_check), written);
+        assert_eq!(of_check, record);
+    }
+}
+
+/// "refuses the same ones with the same numbers": each refusal with all that come after it.
+#[test]
+fn a_refused_sweep_writes_nothing() {
+    let no_zero = [9; 12];
+    for (first, weights, costs, refusal) in [
+        (7, &[0][..], &no_zero[..11], Refusal::FieldSize),
+        (2, &[0], &no_zero[..11], Refusal::Degree),
+        (2, &[1, 0, 1], &no_zero[..11], Refusal::Weight),
+        (2, &[1, 4, 1], &no_zero[..11], Refusal::Weight),
+        (2, &[1, 1, 1], &no_zero[..11], Refusal::CostCount),
+        (2, &[1, 1, 1], &no_zero, Refusal::NoZeroCost),
+        (2, &[1, 1, 1], &COSTS, Refusal::ShortStore),
+    ] {
+        let mut record = [0xA5; 17];
+        let answer = sweep(first, weights, costs, &mut record);
+        assert_eq!((answer, record), (Err(refusal), [0xA5; 17]));
+        assert_eq!(check(first, weights, costs, &mut record), Err(refusal));
+    }
+}
+
 /// Of every first byte; the product takes p alone.
 #[test]
 fn empty_slices_are_answered() {
     for first in 0..=u8::MAX {
         let refusal = Rule::try_from(first).map_or_else(|refusal| refusal, |_| Refusal::Degree);
         assert_eq!(check(first, &[], &[], &mut []), Err(refusal));
+        assert_eq!(sweep(first, &[], &[], &mut []), Err(refusal));
         assert_eq!(expand(first, &[], &[], &mut []), Err(refusal));
         let expected = match first {
             2..=6 => Ok(0),
