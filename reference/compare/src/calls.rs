@@ -17,7 +17,7 @@ use reference_decoder::sample::Generator;
 use crate::comparison::Difference;
 use crate::tally::{Class, Tally};
 
-pub use check::CHECK;
+pub use check::{CHECK, SWEEP};
 pub use decode::DECODE;
 pub use encode::ENCODE;
 pub use expand::EXPAND;
@@ -25,7 +25,7 @@ pub use line::LINE;
 pub use product::PRODUCT;
 
 /// Every entry point.
-pub const ENTRY_POINTS: [EntryPoint; 6] = [PRODUCT, CHECK, EXPAND, LINE, DECODE, ENCODE];
+pub const ENTRY_POINTS: [EntryPoint; 7] = [PRODUCT, CHECK, SWEEP, EXPAND, LINE, DECODE, ENCODE];
 
 /// An entry point and how it is compared.
 pub struct EntryPoint {
@@ -63,7 +63,7 @@ impl EntryPoint {
     }
 
     /// Makes the calls that are few enough to be made all: every product, every line of two bytes, and
-    /// a check, an expansion, a decoding and an encoding with every first byte.
+    /// a check, a sweep, an expansion, a decoding and an encoding with every first byte.
     ///
     /// # Errors
     ///

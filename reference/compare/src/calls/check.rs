@@ -1,4 +1,5 @@
-//! `check`.
+//! `check` and `sweep`. Document 02, §7: the trellis sweep engine "writes the same record for each accepted
+//! check, and refuses the same ones with the same numbers."
 
 mod seen;
 
@@ -16,12 +17,56 @@ use crate::tally::Tally;
 pub const CHECK: EntryPoint = EntryPoint {
     name: "check",
     expected: seen::expected,
-    call,
-    every,
+    call: |generator, tally| call(&OF_CHECK, generator, tally),
+    every: |tally| every(&OF_CHECK, tally),
 };
 
-/// A random call.
-fn call(generator: &mut Generator, tally: &mut Tally) -> Result<(), Difference> {
+/// `sweep`, and beside it `check` on the same inputs. The same seed makes the inputs that it makes for
+/// `check`.
+pub const SWEEP: EntryPoint = EntryPoint {
+    name: "sweep",
+    expected: seen::expected,
+    call: |generator, tally| call(&OF_SWEEP, generator, tally),
+    every: |tally| every(&OF_SWEEP, tally),
+};
+
+/// A call on a first byte, weights, costs and a record buffer.
+type Call = fn(u8, &[u8], &[u8], &mut [u8]) -> Result<usize, u16>;
+
+/// The calls that are made on each input.
+struct Sides {
+    /// The library's, each with its name; all must answer and leave what the reference decoder's does.
+    library: &'static [(&'static str, Call)],
+    reference: Call,
+}
+
+const OF_CHECK: Sides = Sides {
+    library: &[("check", library_check)],
+    reference: |first, weights, costs, record| {
+        of_reference(reference_decoder::check(first, weights, costs, record))
+    },
+};
+
+const OF_SWEEP: Sides = Sides {
+    library: &[
+        ("sweep", library_sweep),
+        ("check beside sweep", library_check),
+    ],
+    reference: |first, weights, costs, record| {
+        of_reference(reference_decoder::sweep(first, weights, costs, record))
+    },
+};
+
+fn library_check(first: u8, weights: &[u8], costs: &[u8], record: &mut [u8]) -> Result<usize, u16> {
+    of_library(petsivola::check(first, weights, costs, record))
+}
+
+fn library_sweep(first: u8, weights: &[u8], costs: &[u8], record: &mut [u8]) -> Result<usize, u16> {
+    of_library(petsivola::sweep(first, weights, costs, record))
+}
+
+/// Calls on a random input.
+fn call(sides: &Sides, generator: &mut Generator, tally: &mut Tally) -> Result<(), Difference> {
     let first = first_byte::drawn(generator);
     let accepted = accepted(generator, first);
     let length = room(generator, &accepted);
@@ -30,18 +75,20 @@ fn call(generator: &mut Generator, tally: &mut Tally) -> Result<(), Difference> 
     } else {
         accepted
     };
-    compare(generator, &input, length, tally)
+    let lent = Lending::new(generator, [&input.weights, &input.costs], length);
+    compare(sides, &lent, &input, tally)
 }
 
-/// A call with every first byte.
-fn every(tally: &mut Tally) -> Result<(), Difference> {
+/// Calls with every first byte.
+fn every(sides: &Sides, tally: &mut Tally) -> Result<(), Difference> {
     let mut generator = Generator::new(0);
     for first in first_byte::ALL {
         let accepted_first = first_byte::accepted_or_drawn(&mut generator, first);
         let mut input = accepted(&mut generator, accepted_first);
         let length = record::length(input.rule(), input.degree());
         input.first = first;
-        compare(&mut generator, &input, length, tally)?;
+        let lent = Lending::new(&mut generator, [&input.weights, &input.costs], length);
+        compare(sides, &lent, &input, tally)?;
     }
     Ok(())
 }
@@ -64,43 +111,48 @@ fn lengths(input: &CheckSample) -> [usize; 2] {
     })
 }
 
+/// Makes the calls, each with the slices as they are lent to all, and compares them.
 fn compare(
-    generator: &mut Generator,
+    sides: &Sides,
+    lent: &Lending,
     input: &CheckSample,
-    length: usize,
     tally: &mut Tally,
 ) -> Result<(), Difference> {
     let first = input.first;
-    let mut lent = Lending::new(generator, [&input.weights, &input.costs], length);
-    let mut lent_expected = lent.clone();
-    let expected = lent_expected.to(|weights, costs, record| {
-        of_reference(reference_decoder::check(first, weights, costs, record))
-    });
-    let answer = lent
-        .to(|weights, costs, record| of_library(petsivola::check(first, weights, costs, record)));
+    let lend = |call: Call| {
+        let mut lent = lent.clone();
+        let answer = lent.to(|weights, costs, record| call(first, weights, costs, record));
+        (answer, lent)
+    };
+    let (expected, lent_expected) = lend(sides.reference);
+    see(tally, input, &expected, lent_expected.filled());
+    for &(name, call) in sides.library {
+        let (answer, lent_after) = lend(call);
+        let mut comparison = Comparison::default();
+        comparison.answers(&answer, &expected);
+        let names = ["weights", "costs", "record"];
+        lent_after.compare(&mut comparison, names, &lent_expected);
+        comparison.end(name, || {
+            Inputs::default()
+                .number("first byte", usize::from(first))
+                .bytes("weights", &input.weights)
+                .bytes("costs", &input.costs)
+                .number("record length", lent.filled().len())
+        })?;
+    }
+    Ok(())
+}
 
-    tally.answer(class_of(&expected));
-    see_refused(tally, input.degree(), expected == Err(9));
-    if matches!(expected, Ok(_) | Err(4)) {
-        seen::see_room(tally, input, length);
+/// Counts an answer and what an input and its record show.
+fn see(tally: &mut Tally, input: &CheckSample, answer: &Result<usize, u16>, lent: &[u8]) {
+    tally.answer(class_of(answer));
+    see_refused(tally, input.degree(), *answer == Err(9));
+    if matches!(answer, Ok(_) | Err(4)) {
+        seen::see_room(tally, input, lent.len());
     }
-    if let Ok(written) = expected {
-        seen::see(tally, input, &lent_expected.filled()[..written]);
+    if let Ok(written) = *answer {
+        seen::see(tally, input, &lent[..written]);
     }
-    let mut comparison = Comparison::default();
-    comparison.answers(&answer, &expected);
-    lent.compare(
-        &mut comparison,
-        ["weights", "costs", "record"],
-        &lent_expected,
-    );
-    comparison.end("check", || {
-        Inputs::default()
-            .number("first byte", usize::from(first))
-            .bytes("weights", &input.weights)
-            .bytes("costs", &input.costs)
-            .number("record length", length)
-    })
 }
 
 /// An accepted check of any size, more often than not of a degree between the limits, with all
