@@ -1,6 +1,7 @@
 //! The times of one check, with k = 2 and with k = 3 and in both editions, and of one expansion by p and d.
 
 mod expansions;
+pub mod swept;
 
 use std::fmt::Debug;
 
@@ -179,6 +180,7 @@ impl Row {
             Engine::Proved | Engine::ProvedTwo | Engine::ProvedSum => {
                 Contender::new(inputs, lent, check_by(petsivola::check))
             }
+            Engine::ProvedSweep => Contender::new(inputs, lent, check_by(petsivola::sweep)),
             Engine::Rust | Engine::RustTwo | Engine::RustSum => {
                 Contender::new(inputs, lent, check_by(same::check))
             }

@@ -8,6 +8,8 @@ use crate::timing::Times;
 pub enum Engine {
     /// The proved library.
     Proved,
+    /// The proved library's other call for a check, the trellis sweep engine.
+    ProvedSweep,
     /// The same algorithm in Rust.
     Rust,
     /// The search over kept entries in Rust.
@@ -35,6 +37,7 @@ impl Engine {
     pub fn name(self) -> &'static str {
         match self {
             Engine::Proved => "proved",
+            Engine::ProvedSweep => "proved sweep",
             Engine::Rust => "Rust",
             Engine::Search => "search",
             Engine::Sse2 => "C, SSE2",

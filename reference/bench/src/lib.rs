@@ -1,9 +1,9 @@
 //! The benchmark: "time per check by (p, d) and per iteration and coded bits per second by
 //! code, beside (a) the same algorithm in Rust built with -O, (b) the textbook forward and backward
 //! sweeps in Rust, (c) expansion and record sizes against the d·q bytes of plain messages. All in one
-//! run, as ratios". Beside these, for the check: k = 3 beside k = 2, the Min-Max edition beside the sum, a search
-//! over kept entries in Rust, and the same algorithm by hand in C with SSE2 and AVX2; and symbols per second
-//! of encoding.
+//! run, as ratios". Beside these, for the check: k = 3 beside k = 2, the Min-Max edition beside the sum, the
+//! proved library's own sweep beside its check, a search over kept entries in Rust, and the same algorithm by hand
+//! in C with SSE2 and AVX2; and symbols per second of encoding.
 
 #![deny(unsafe_code)]
 #![deny(missing_docs)]

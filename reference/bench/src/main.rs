@@ -55,6 +55,7 @@ fn options(mut arguments: impl Iterator<Item = String>) -> Option<Options> {
 fn run(rounds: usize, out: Option<&Path>) -> io::Result<()> {
     let kinds = [Costs::Channel, Costs::Uniform];
     let [channel, uniform] = kinds.map(|costs| checks::table(costs, rounds));
+    let swept = checks::swept::table(rounds);
     eprintln!("check, growth from d = 16 to d = 32 at p = 6");
     let growth = kinds.map(|costs| checks::growth(costs, rounds));
     let jobs = inputs::jobs();
@@ -71,6 +72,7 @@ fn run(rounds: usize, out: Option<&Path>) -> io::Result<()> {
     let report = Report {
         channel: &channel,
         uniform: &uniform,
+        swept: &swept,
         growth,
         codes: &codes,
         encoding: &encoding,

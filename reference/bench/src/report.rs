@@ -3,7 +3,9 @@
 mod deviations;
 mod editions;
 mod older;
+mod swept;
 
+use crate::checks::swept::Swept;
 use crate::checks::Row;
 use crate::decoding::{self, LIMIT, SCALE};
 use crate::encoding;
@@ -16,6 +18,8 @@ pub struct Report<'a> {
     pub channel: &'a [Row],
     /// The checks with uniform costs.
     pub uniform: &'a [Row],
+    /// The proved library's sweep.
+    pub swept: &'a [Swept],
     /// How many times as long d = 32 takes as d = 16 at p = 6, with costs from the channel and uniform.
     pub growth: [f64; 2],
     /// The codes.
@@ -37,6 +41,7 @@ impl Report<'_> {
             self.checks(),
             deviations::section(self.channel, self.uniform),
             editions::section(self.channel, self.uniform),
+            swept::section(self.swept),
             self.expansions(),
             self.decodings(),
             self.encodings(),
@@ -55,7 +60,8 @@ impl Report<'_> {
              | Rust | the same algorithm in Rust without unsafe code, built with -O |\n\
              | search | for a check: a search over kept entries in Rust, whose time hardly grows with d |\n\
              | C, SSE2 and AVX2 | for a check: the same algorithm by hand with intrinsics, gcc -O3 |\n\
-             | sweeps | the textbook forward and backward sweeps in Rust |\n\n\
+             | sweeps | the textbook forward and backward sweeps in Rust; the proved library's own sweep, \
+             `petsivola_sweep`, has a section further down |\n\n\
              The library and all but AVX2 use what every x86-64 processor has. They run in turn, in one \
              process and in short stretches; a time is the median over all stretches of {} rounds, and a \
              ratio the median of the ratios within each stretch. Each round has checks of its own, and \

@@ -1,5 +1,6 @@
 //! The document of a run: every measured size is in it, with both k and in both editions.
 
+use bench::checks::swept::Swept;
 use bench::checks::Row;
 use bench::inputs::{self, Costs};
 use bench::report::Report;
@@ -14,9 +15,12 @@ fn row(p: u8, degree: usize) -> Row {
 
 /// The document of these sizes alone.
 fn markdown(rows: &[Row]) -> String {
+    let mut swept = [Swept::new(2, 3), Swept::new(3, 8)];
+    swept.iter_mut().for_each(|size| size.measure(0, 4));
     let report = Report {
         channel: rows,
         uniform: rows,
+        swept: &swept,
         growth: [1.0, 1.0],
         codes: &[],
         encoding: &encoding::measure(inputs::encodable(), 1),
@@ -61,6 +65,25 @@ fn every_size_stands_in_it_in_both_editions() {
     let chart = charts::min_max_by_sum(&rows);
     assert_eq!(chart.series.len(), 10);
     assert!(chart.svg().contains("target: at most 1.1"));
+}
+
+#[test]
+fn the_proved_sweep_stands_beside_the_proved_check_with_both_k() {
+    let text = markdown(&[row(2, 3)]);
+    let (_, section) = text
+        .split_once("## The proved sweep beside the proved check")
+        .expect("the section");
+    let (section, _) = section.split_once("\n## ").expect("another section");
+    let (of_two, of_three) = section.split_once("With k = 3.").expect("both k");
+    for of_k in [of_two, of_three] {
+        for size in ["| 2 | 3 | ", "| 3 | 8 | "] {
+            let of_size = of_k.lines().filter(|line| line.starts_with(size));
+            let cells = of_size.map(|line| line.matches(" | ").count() + 1);
+            assert_eq!(cells.collect::<Vec<_>>(), [7]);
+        }
+        assert!(of_k.contains("| proved sweep / proved check | proved sweep / sweeps (Rust) |"));
+    }
+    assert!(of_two.contains("The proved sweep takes "));
 }
 
 #[test]
