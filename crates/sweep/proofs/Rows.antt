@@ -2,13 +2,18 @@
 use mathlib.Core.Path.{_≡_, refl, _∙_}
 use mathlib.Core.Bool.{Bool}
 use mathlib.Core.List.{List}
-use Prim.Native.Nat.{ℕ, _+_, _-_, _*_, _≤_}
+use Prim.Native.Nat.{ℕ, _+_, _-_, _*_, _≤_, _<_}
 use native.Mathlib.Nat.{add-sub-cancel-left, mul-le-mul}
 use native.Mathlib.Omega.{arith}
 use lib.ListN.{length, getD, take, drop}
 use Rattle.trellis.specs.Lists.{tab}
 use Rattle.trellis.specs.Field.{xor}
+use Rattle.checknode.proofs.Refusals.{part-room}
 use Rattle.sweep.specs.inner.Joins.{joinAt, Bytes, cellsBefore, cellsBehind, sentRow}
+
+-- part n from the front and from the back
+pub both-rooms : (n d w : ℕ) → n < d → (n * w + w ≤ d * w) × ((d - 1 - n) * w + w ≤ d * w)
+both-rooms n d w h = let k : d - 1 - n < d = omega arith in (part-room n d w h, part-room (d - 1 - n) d w k)
 
 pub row-sizes : (q k d : ℕ) → q ≤ 64 → k ≤ 3 → d ≤ 32 → ((k + 1) * q ≤ 256) × ((d * ((k + 1) * q) ≤ 8192) × (d * q ≤ 2048))
 row-sizes q k d a b c =

@@ -10,7 +10,7 @@ use Rattle.sweep.specs.inner.Joins.{sentRow}
 use Rattle.trellis.proofs.Loops.{block-more, block-end, length-tab}
 use Rattle.checknode.proofs.Refusals.{part-room}
 use Rattle.sweep.proofs.Laws.{part-length, drop-none}
-use Rattle.sweep.proofs.Rows.{row-sizes, row-bytes, row-is}
+use Rattle.sweep.proofs.Rows.{both-rooms, row-sizes, row-bytes, row-is}
 use Rattle.sweep.proofs.join.sent_all.Statement.{statement}
 use Rattle.sweep.proofs.join.sent_all.Tie as tie
 
@@ -39,13 +39,13 @@ mul-a : tie.Need-mul-a Inv-loop μ-loop
 mul-a c =
     let at-loop = c .before in
     let start = at-loop .before .before .before .before .before in
-    omega (arith, part-room (at-loop .loop .n) (length (start .args .shifts .now)) (((start .args .k) + 1) * (start .args .q)) (c .loop-test .taken), start .pre .of-before)
+    omega (arith, both-rooms (at-loop .loop .n) (length (start .args .shifts .now)) (((start .args .k) + 1) * (start .args .q)) (c .loop-test .taken), start .pre .of-before)
 
 add-b : tie.Need-add-b Inv-loop μ-loop
 add-b c =
     let at-loop = c .before in
     let start = at-loop .before .before .before .before .before in
-    omega (arith, part-room (at-loop .loop .n) (length (start .args .shifts .now)) (((start .args .k) + 1) * (start .args .q)) (c .loop-test .taken), start .pre .of-before)
+    omega (arith, both-rooms (at-loop .loop .n) (length (start .args .shifts .now)) (((start .args .k) + 1) * (start .args .q)) (c .loop-test .taken), start .pre .of-before)
 
 sub-m : tie.Need-sub-m Inv-loop μ-loop
 sub-m c = omega (arith, c .loop-test .taken)
@@ -57,15 +57,13 @@ mul-c : tie.Need-mul-c Inv-loop μ-loop
 mul-c c =
     let at-loop = c .before in
     let start = at-loop .before .before .before .before .before in
-    let shifts = start .args .shifts .now in
-    omega (arith, (let u : ((length shifts) - 1 - (at-loop .loop .n)) < (length shifts) = omega (arith, c .loop-test .taken) in part-room ((length shifts) - 1 - (at-loop .loop .n)) (length shifts) (((start .args .k) + 1) * (start .args .q)) u), start .pre .of-after)
+    omega (arith, both-rooms (at-loop .loop .n) (length (start .args .shifts .now)) (((start .args .k) + 1) * (start .args .q)) (c .loop-test .taken), start .pre .of-after)
 
 add-e : tie.Need-add-e Inv-loop μ-loop
 add-e c =
     let at-loop = c .before in
     let start = at-loop .before .before .before .before .before in
-    let shifts = start .args .shifts .now in
-    omega (arith, (let u : ((length shifts) - 1 - (at-loop .loop .n)) < (length shifts) = omega (arith, c .loop-test .taken) in part-room ((length shifts) - 1 - (at-loop .loop .n)) (length shifts) (((start .args .k) + 1) * (start .args .q)) u), start .pre .of-after)
+    omega (arith, both-rooms (at-loop .loop .n) (length (start .args .shifts .now)) (((start .args .k) + 1) * (start .args .q)) (c .loop-test .taken), start .pre .of-after)
 
 mul-x : tie.Need-mul-x Inv-loop μ-loop
 mul-x c =
@@ -87,7 +85,7 @@ mul-sent-row : tie.Need-mul-sent-row Inv-loop μ-loop
 mul-sent-row c =
     let at-loop = c .before in
     let start = at-loop .before .before .before .before .before in
-    omega (arith, part-room (at-loop .loop .n) (length (start .args .shifts .now)) (((start .args .k) + 1) * (start .args .q)) (c .loop-test .taken), start .pre .of-before)
+    omega (arith, both-rooms (at-loop .loop .n) (length (start .args .shifts .now)) (((start .args .k) + 1) * (start .args .q)) (c .loop-test .taken), start .pre .of-before)
 
 sub-sent-row : tie.Need-sub-sent-row Inv-loop μ-loop
 sub-sent-row c = search needs
@@ -99,15 +97,14 @@ part-sent-row-end : tie.Need-part-sent-row-end Inv-loop μ-loop
 part-sent-row-end c =
     let at-loop = c .before in
     let start = at-loop .before .before .before .before .before in
-    omega (arith, part-room (at-loop .loop .n) (length (start .args .shifts .now)) (((start .args .k) + 1) * (start .args .q)) (c .loop-test .taken), start .pre .of-before)
+    omega (arith, both-rooms (at-loop .loop .n) (length (start .args .shifts .now)) (((start .args .k) + 1) * (start .args .q)) (c .loop-test .taken), start .pre .of-before)
 
 mul-sent-row-2 : tie.Need-mul-sent-row-2 Inv-loop μ-loop
 mul-sent-row-2 c =
     let at-loop-test = c .before in
     let at-loop = at-loop-test .before in
     let start = at-loop .before .before .before .before .before in
-    let shifts = start .args .shifts .now in
-    omega (arith, (let u : ((length shifts) - 1 - (at-loop .loop .n)) < (length shifts) = omega (arith, at-loop-test .loop-test .taken) in part-room ((length shifts) - 1 - (at-loop .loop .n)) (length shifts) (((start .args .k) + 1) * (start .args .q)) u), start .pre .of-after)
+    omega (arith, both-rooms (at-loop .loop .n) (length (start .args .shifts .now)) (((start .args .k) + 1) * (start .args .q)) (at-loop-test .loop-test .taken), start .pre .of-after)
 
 sub-sent-row-2 : tie.Need-sub-sent-row-2 Inv-loop μ-loop
 sub-sent-row-2 c = search needs
@@ -120,8 +117,7 @@ part-sent-row-end-2 c =
     let at-loop-test = c .before in
     let at-loop = at-loop-test .before in
     let start = at-loop .before .before .before .before .before in
-    let shifts = start .args .shifts .now in
-    omega (arith, (let u : ((length shifts) - 1 - (at-loop .loop .n)) < (length shifts) = omega (arith, at-loop-test .loop-test .taken) in part-room ((length shifts) - 1 - (at-loop .loop .n)) (length shifts) (((start .args .k) + 1) * (start .args .q)) u), start .pre .of-after)
+    omega (arith, both-rooms (at-loop .loop .n) (length (start .args .shifts .now)) (((start .args .k) + 1) * (start .args .q)) (at-loop-test .loop-test .taken), start .pre .of-after)
 
 shared-slice-read-index : tie.Need-shared-slice-read-index Inv-loop μ-loop
 shared-slice-read-index c = search needs
@@ -157,7 +153,7 @@ sent-row-requires c κs =
       start .pre .sums,
       (
         (omega (arith, at-index .index .ensures, start .pre .below (at-loop .loop .n) l), (part-length (at-loop .loop .out) ((at-loop .loop .n) * q) q (omega (arith, part-room (at-loop .loop .n) (length shifts) q (at-loop-test .loop-test .taken), start .pre .of-out, at-loop .loop .inv .1 .0)), start .pre .counts)),
-        ((part-length before ((at-loop .loop .n) * ((k + 1) * q)) ((k + 1) * q) (omega (arith, part-room (at-loop .loop .n) (length shifts) ((k + 1) * q) (at-loop-test .loop-test .taken), start .pre .of-before)), part-length after (((length shifts) - 1 - (at-loop .loop .n)) * ((k + 1) * q)) ((k + 1) * q) (omega (arith, (let u : ((length shifts) - 1 - (at-loop .loop .n)) < (length shifts) = omega (arith, at-loop-test .loop-test .taken) in part-room ((length shifts) - 1 - (at-loop .loop .n)) (length shifts) ((k + 1) * q) u), start .pre .of-after))), row-bytes (start .args .greatest) q k before after shifts (at-loop .loop .n) (at-index .index .ensures .0) (start .pre .bytes (at-loop .loop .n) l)),
+        ((part-length before ((at-loop .loop .n) * ((k + 1) * q)) ((k + 1) * q) (omega (arith, both-rooms (at-loop .loop .n) (length shifts) ((k + 1) * q) (at-loop-test .loop-test .taken), start .pre .of-before)), part-length after (((length shifts) - 1 - (at-loop .loop .n)) * ((k + 1) * q)) ((k + 1) * q) (omega (arith, both-rooms (at-loop .loop .n) (length shifts) ((k + 1) * q) (at-loop-test .loop-test .taken), start .pre .of-after))), row-bytes (start .args .greatest) q k before after shifts (at-loop .loop .n) (at-index .index .ensures .0) (start .pre .bytes (at-loop .loop .n) l)),
       ),
     )
 
@@ -176,11 +172,17 @@ loop-again c =
     let at-index = at-sent-row .before .before in
     let at-loop-test = at-index .before .before .before .before in
     let at-loop = at-loop-test .before in
-    let start = at-loop .before .before .before .before .before in (
+    let start = at-loop .before .before .before .before .before in
+    let shifts = start .args .shifts .now in
+    let before = start .args .before .now in
+    let after = start .args .after .now in
+    let greatest = start .args .greatest in
+    let k = start .args .k in
+    let q = start .args .q in (
       omega (arith, at-loop-test .loop-test .taken),
       (
         omega (arith, at-loop .loop .inv .1 .0),
-        block-more (sentRow (start .args .greatest) (start .args .q) (start .args .k) (start .args .before .now) (start .args .after .now) (start .args .shifts .now)) (start .args .q) (λ j. length-tab _ (start .args .q)) (start .args .out .now) (at-loop .loop .out) (at-loop .loop .n) (at-loop .loop .inv .1 .1) (row-is (start .args .greatest) (start .args .q) (start .args .k) (start .args .before .now) (start .args .after .now) (start .args .shifts .now) (at-loop .loop .n) (at-index .index .ensures .0) (at-sent-row .sent-row .ensures)),
+        block-more (sentRow greatest q k before after shifts) q (λ j. length-tab _ q) (start .args .out .now) (at-loop .loop .out) (at-loop .loop .n) (at-loop .loop .inv .1 .1) (row-is greatest q k before after shifts (at-loop .loop .n) (at-index .index .ensures .0) (at-sent-row .sent-row .ensures)),
       ),
     )
 
