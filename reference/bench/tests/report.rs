@@ -16,7 +16,7 @@ fn row(p: u8, degree: usize) -> Row {
 /// The document of these sizes alone.
 fn markdown(rows: &[Row]) -> String {
     let mut swept = [Swept::new(2, 3), Swept::new(3, 8)];
-    swept.iter_mut().for_each(|size| size.measure(0, 4));
+    swept.iter_mut().for_each(|size| size.measure([4, 5], 4));
     let report = Report {
         channel: rows,
         uniform: rows,

@@ -41,11 +41,11 @@ impl Swept {
         self.checks[k - 2].ratio(Engine::ProvedSweep, Engine::Proved)
     }
 
-    /// Measures so many checks of a round with each k.
-    pub fn measure(&mut self, round: usize, count: usize) {
+    /// Measures so many checks of the first round with k = 2, and as many of the second with k = 3.
+    pub fn measure(&mut self, rounds: [usize; 2], count: usize) {
         let size = Row::new(self.p, self.degree);
-        let inputs = inputs::checks(self.p, self.degree, Costs::Channel, round, count);
-        for k in DEVIATIONS {
+        for (k, round) in DEVIATIONS.into_iter().zip(rounds) {
+            let inputs = inputs::checks(self.p, self.degree, Costs::Channel, round, count);
             let contender = |engine| size.checking(engine, k, Edition::Sum, &inputs);
             let times = race(&mut SWEEPING.map(contender), round, &RECORDS);
             self.checks[k - 2].append(&SWEEPING, times);
@@ -53,7 +53,7 @@ impl Swept {
     }
 }
 
-/// Measures every size in each round, on checks that no other round has.
+/// Measures every size in each round, on checks that no other round and no other table has.
 pub fn table(rounds: usize) -> Vec<Swept> {
     let sizes = PS.iter();
     let sizes = sizes.flat_map(|&p| DEGREES.map(|degree| Swept::new(p, degree)));
@@ -61,7 +61,8 @@ pub fn table(rounds: usize) -> Vec<Swept> {
     for round in 0..rounds {
         eprintln!("sweep, round {} of {rounds}", round + 1);
         for row in &mut rows {
-            row.measure(round, COUNT << (6 - row.p));
+            let races = [4, 5].map(|race| race * rounds + round);
+            row.measure(races, COUNT << (6 - row.p));
         }
     }
     rows
