@@ -5,3 +5,4 @@ pub mod Rows
 pub mod Swept
 pub mod Pairing
 pub mod Sending
+pub mod Worked

@@ -1,5 +1,6 @@
 -- What the two sweeps of an accepted check keep: "for each partial sum and each count of deviations up to k, the least cost over the
--- columns before n, and the same over the columns after n", "with a mark where no choice exists". Which number that is, trellis says (Keeps).
+-- columns before n, and the same over the columns after n", "with a mark where no choice exists". Which number that is, trellis says
+-- (Keeps).
 use mathlib.Core.List.{List}
 use Prim.Native.Nat.{ℕ, suc, _+_, _-_, _*_, _≤_, _<_}
 use lib.ListN.{length, getD, take, drop}

@@ -8,20 +8,20 @@ ghost use lib.ListN.{length, getD, set};
 ghost use Rattle.trellis.specs.Lists.{tab};
 ghost use Rattle.trellis.specs.Field.{xor};
 ghost use Rattle.trellis.specs.Sweep.{mark};
-ghost use Rattle.sweep.specs.inner.Cells.{Sums, Steps, moveCost, deviationAt, layerOf, countAt, stepCells};
+ghost use Rattle.sweep.specs.inner.Cells.{Sums, Steps, moveCost, deviationAt, layers, countAt, stepCells};
 
 // The cheapest deviation of the column that leads to sum t, from the costs of one deviation fewer.
-fn deviation_at(row: &[u8], moves: &[u16], lower: &[u16], t: usize, greatest: bool) -> u32
+fn deviation_at(row: &[u8], moves: &[u16], low: &[u16], t: usize, greatest: bool) -> u32
     requires { ⌜ Steps (now row) (now moves) ⌝ }
-    requires { ⌜ (length (now lower) ≡ length (now row)) × (t < length (now row)) ⌝ }
-    ensures { λ r. ⌜ (r ≡ deviationAt greatest (now (row .entry)) (now (moves .entry)) (now (lower .entry)) t) × (r ≤ 1024) ⌝ }
+    requires { ⌜ (length (now low) ≡ length (now row)) × (t < length (now row)) ⌝ }
+    ensures { λ r. ⌜ (r ≡ deviationAt greatest (now (row .entry)) (now (moves .entry)) (now (low .entry)) t) × (r ≤ 1024) ⌝ }
 {
     let mut e: u32 = 1024;
     let mut x = 0;
     while x < row.len() {
         e = num::least(
             e,
-            num::join_of(greatest, moves[x], lower[num::plus(t, num::index(row[x]))]),
+            num::join_of(greatest, moves[x], low[num::plus(t, num::index(row[x]))]),
         );
         x += 1;
     }
@@ -32,21 +32,21 @@ fn deviation_at(row: &[u8], moves: &[u16], lower: &[u16], t: usize, greatest: bo
 fn layer(
     row: &[u8],
     moves: &[u16],
-    lower: &[u16],
+    low: &[u16],
     same: &[u16],
     s: usize,
     greatest: bool,
     out: &mut [u16],
 )
     requires { ⌜ Steps (now row) (now moves) ⌝ }
-    requires { ⌜ (length (now lower) ≡ length (now row)) × (length (now same) ≡ length (now row)) ⌝ }
+    requires { ⌜ (length (now low) ≡ length (now row)) × (length (now same) ≡ length (now row)) ⌝ }
     requires { ⌜ (length (now out) ≡ length (now row)) × (s < length (now row)) ⌝ }
-    ensures { λ _. ⌜ now (out .exit) ≡ layerOf greatest (now (row .entry)) (now (moves .entry)) (now (lower .entry)) (now (same .entry)) s ⌝ }
+    ensures { λ _. ⌜ now (out .exit) ≡ layers greatest (now (row .entry)) (now (moves .entry)) (now (low .entry)) (now (same .entry)) s ⌝ }
 {
     let mut t = 0;
     while t < out.len() {
         let kept = num::whole(same[num::plus(t, s)]);
-        out[t] = num::half(num::least(kept, deviation_at(row, moves, lower, t, greatest)));
+        out[t] = num::half(num::least(kept, deviation_at(row, moves, low, t, greatest)));
         t += 1;
     }
 }

@@ -31,14 +31,14 @@ moveCost costs z x = cond (eqb x z) mark (getD costs x 0)
 
 -- the cheapest deviation that leads to sum t: by the products of the column's weight with each symbol, and the costs of a deviation
 unfoldable pub deviationAt : Bool → List ℕ → List ℕ → List ℕ → ℕ → ℕ
-deviationAt g row moves lower t = leastTo (λ x. joinOf g (getD moves x 0) (getD lower (xor t (getD row x 0)) 0)) (length row)
+deviationAt g row moves low t = leastTo (λ x. joinOf g (getD moves x 0) (getD low (xor t (getD row x 0)) 0)) (length row)
 
 -- one column more, for one count: the decision, whose product is s, from the costs of that count, or a deviation from those of one fewer
 unfoldable pub layerAt : Bool → List ℕ → List ℕ → List ℕ → List ℕ → ℕ → ℕ → ℕ
-layerAt g row moves lower same s t = min (getD same (xor t s) 0) (deviationAt g row moves lower t)
+layerAt g row moves low same s t = min (getD same (xor t s) 0) (deviationAt g row moves low t)
 
-abbrev pub layerOf : Bool → List ℕ → List ℕ → List ℕ → List ℕ → ℕ → List ℕ
-layerOf g row moves lower same s = tab (layerAt g row moves lower same s) (length row)
+abbrev pub layers : Bool → List ℕ → List ℕ → List ℕ → List ℕ → ℕ → List ℕ
+layers g row moves low same s = tab (layerAt g row moves low same s) (length row)
 
 -- a column's products and the costs of its deviations, for as many sums
 pub record Steps (row moves : List ℕ) : Type 0 where

@@ -14,10 +14,10 @@ use Rattle.sweep.proofs.step.deviation_at.Statement.{statement}
 use Rattle.sweep.proofs.step.deviation_at.Tie as tie
 
 abbrev Inv-loop : tie.InvT-loop
-Inv-loop row moves lower t greatest e₀ x₀ e x = (x ≤ length row) × (e ≡ leastTo (λ x. joinOf greatest (getD moves x 0) (getD lower (xor t (getD row x 0)) 0)) x)
+Inv-loop row moves low t greatest e₀ x₀ e x = (x ≤ length row) × (e ≡ leastTo (λ x. joinOf greatest (getD moves x 0) (getD low (xor t (getD row x 0)) 0)) x)
 
 abbrev μ-loop : tie.MeasureT-loop
-μ-loop row moves lower t greatest e₀ x₀ e x = length row - x
+μ-loop row moves low t greatest e₀ x₀ e x = length row - x
 
 loop-holds : tie.Need-loop-holds Inv-loop μ-loop
 loop-holds c = search needs
@@ -74,19 +74,19 @@ loop-again : tie.Need-loop-again Inv-loop μ-loop
 loop-again c =
     let at-loop = c .before .before .before .before .before .before .before .before in
     let start = at-loop .before .before .before .before in
-    (omega arith, least-turn (λ x. joinOf (start .args .greatest) (getD (start .args .moves .now) x 0) (getD (start .args .lower .now) (xor (start .args .t) (getD (start .args .row .now) x 0)) 0)) (at-loop .loop .x) (at-loop .loop .inv .1) (cc) (c .least .ensures))
+    (omega arith, least-turn (λ x. joinOf (start .args .greatest) (getD (start .args .moves .now) x 0) (getD (start .args .low .now) (xor (start .args .t) (getD (start .args .row .now) x 0)) 0)) (at-loop .loop .x) (at-loop .loop .inv .1) (cc) (c .least .ensures))
 
 returns : tie.Need-returns Inv-loop μ-loop
 unfolding deviationAt
 returns c =
     let at-loop = c .before in
     let start = at-loop .before .before .before .before in
-    let lower = start .args .lower .now in
+    let low = start .args .low .now in
     let moves = start .args .moves .now in
     let row = start .args .row .now in
     let greatest = start .args .greatest in
     let t = start .args .t in
-    let e : at-loop .loop .x ≡ length row = omega arith in (at-loop .loop .inv .1 ∙ ap (leastTo (λ x. joinOf greatest (getD moves x 0) (getD lower (xor t (getD row x 0)) 0))) e, omega (arith, at-loop .loop .inv .1, leastTo-mark (λ x. joinOf greatest (getD moves x 0) (getD lower (xor t (getD row x 0)) 0)) (at-loop .loop .x)))
+    let e : at-loop .loop .x ≡ length row = omega arith in (at-loop .loop .inv .1 ∙ ap (leastTo (λ x. joinOf greatest (getD moves x 0) (getD low (xor t (getD row x 0)) 0))) e, omega (arith, at-loop .loop .inv .1, leastTo-mark (λ x. joinOf greatest (getD moves x 0) (getD low (xor t (getD row x 0)) 0)) (at-loop .loop .x)))
 
 pub deviation-at-spec : {M : Type 1} → statement M
 deviation-at-spec =

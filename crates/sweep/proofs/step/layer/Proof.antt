@@ -12,10 +12,10 @@ use Rattle.sweep.proofs.step.layer.Statement.{statement}
 use Rattle.sweep.proofs.step.layer.Tie as tie
 
 abbrev Inv-loop : tie.InvT-loop
-Inv-loop row moves lower same s greatest out₀ t₀ out t = (t ≤ length out₀) × ((length out ≡ length out₀) × (out ≡ tab (layerAt greatest row moves lower same s) t ++ drop t out₀))
+Inv-loop row moves low same s greatest out₀ t₀ out t = (t ≤ length out₀) × ((length out ≡ length out₀) × (out ≡ tab (layerAt greatest row moves low same s) t ++ drop t out₀))
 
 abbrev μ-loop : tie.MeasureT-loop
-μ-loop row moves lower same s greatest out₀ t₀ out t = length out₀ - t
+μ-loop row moves low same s greatest out₀ t₀ out t = length out₀ - t
 
 loop-holds : tie.Need-loop-holds Inv-loop μ-loop
 loop-holds c = search needs
@@ -71,7 +71,7 @@ loop-again c =
     let at-loop = c .before .before .before .before .before .before .before in
     let start = at-loop .before .before .before .before .before .before in
     let s = start .args .s in
-    (omega arith, (simp length-set (omega arith), tab-turn (layerAt (start .args .greatest) (start .args .row .now) (start .args .moves .now) (start .args .lower .now) (start .args .same .now) s) (at-loop .loop .out) (start .args .out .now) (at-loop .loop .t) (omega arith) (at-loop .loop .inv .1 .1) (cc)))
+    (omega arith, (simp length-set (omega arith), tab-turn (layerAt (start .args .greatest) (start .args .row .now) (start .args .moves .now) (start .args .low .now) (start .args .same .now) s) (at-loop .loop .out) (start .args .out .now) (at-loop .loop .t) (omega arith) (at-loop .loop .inv .1 .1) (cc)))
 
 same-length : tie.Need-same-length Inv-loop μ-loop
 same-length c = search needs
@@ -81,7 +81,7 @@ returns c =
     let at-loop = c .before in
     let start = at-loop .before .before .before .before .before .before in
     let s = start .args .s in
-    tab-end (layerAt (start .args .greatest) (start .args .row .now) (start .args .moves .now) (start .args .lower .now) (start .args .same .now) s) (at-loop .loop .out) (start .args .out .now) (at-loop .loop .t) (at-loop .loop .inv .1 .1) (omega arith) (start .pre .1 .1 .0)
+    tab-end (layerAt (start .args .greatest) (start .args .row .now) (start .args .moves .now) (start .args .low .now) (start .args .same .now) s) (at-loop .loop .out) (start .args .out .now) (at-loop .loop .t) (at-loop .loop .inv .1 .1) (omega arith) (start .pre .1 .1 .0)
 
 pub layer-spec : {M : Type 1} → statement M
 layer-spec =
