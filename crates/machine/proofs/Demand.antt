@@ -20,28 +20,9 @@ use Rattle.machine.specs.Decoding.{Buffers, storeOf, roomFault, admitted
 use Rattle.trellis.proofs.Records.{records-equal}
 use Rattle.trellis.proofs.Loops.{blocks-same, blocks-ext}
 use Rattle.machine.proofs.Lines.{GoodCode, parse-good}
+use Rattle.machine.proofs.Buffers.{accepted-call}
 use Rattle.machine.proofs.Literal.{sent-least}
 use Rattle.machine.proofs.Updates.{IsMade, run-reached, last-made, last-proper, last-record, last-length, length-records}
-
--- with room in the buffers none of 2, 3, 4 and 19 applies
-pub room-passes : (C : Code) (b : Buffers) → Room C b → roomFault C b ≡ 0
-unfolding roomFault
-room-passes C b M =
-    simp (
-      le-ltb (length (b .symbols)) (C .columns) (M .for-symbols),
-      le-ltb (length (b .costs)) (C .columns * size C) (M .for-costs),
-      le-ltb (length (b .store)) (used C) (M .for-store),
-      le-ltb (length (b .margins)) (C .columns) (M .for-margins),
-    )
-
-pub admits : (code f : List ℕ) (b : Buffers) (C : Code) → Accepts code f C → Room C b → admitted code f b ≡ good C
-unfolding admitted
-admits code f b C A M = rw (A .line, A .fits, room-passes C b M)
-
--- an accepted call with room in its buffers is filled from the run
-pub accepted-call : (code f : List ℕ) (b : Buffers) (C : Code) → Accepts code f C → Room C b → decoding code f b ≡ decodingUnder (good C) f b
-unfolding decoding
-accepted-call code f b C A M = rw (admits code f b C A M)
 
 module _ (C : Code) (G : GoodCode C) (f : List ℕ) (some : 0 < run C f .end .t) where
   abbrev final : State

@@ -20,7 +20,7 @@ use Rattle.machine.specs.Decoding.{Buffers, Room, decoding}
 use Rattle.machine.specs.Encoding.{encodeFault, encoding, Codeword, Undisturbed, FoundAtOnce}
 use Rattle.machine.proofs.Lists.{at-upTo}
 use Rattle.machine.proofs.Encoding.{encode-call}
-use Rattle.machine.proofs.Demand.{accepted-call}
+use Rattle.machine.proofs.Buffers.{accepted-call}
 
 -- the first 0 is where nothing before it is 0
 first-at : (l : List ℕ) (x : ℕ) → x < length l → getD l x 0 ≡ 0 → ((y : ℕ) → y < x → 0 < getD l y 0) → firstZero l ≡ x

@@ -126,7 +126,7 @@ module _ (C : Code) (G : GoodCode C) (s₀ : List ℕ) (room : used C ≤ length
           ∙ patch-at (blocks (λ m. pieceOf C s₀ m (lastOf s m)) m) (pieceOf C s₀ m (lastOf s m)) (b .0) (recordOf (rule C) cs) _ _ (length-front m (omega arith)) (length-piece m h (lastOf s m) (K .fine m h)))
 
   -- what a record's expansion says is what its columns were sent
-  heard-made : (es : List Edge) → GoodCheck (C .columns) (size C) es → (cs : List Column) → Made C es cs → (n : ℕ) → n < length es
+  pub heard-made : (es : List Edge) → GoodCheck (C .columns) (size C) es → (cs : List Column) → Made C es cs → (n : ℕ) → n < length es
       → heard (rule C) (C .scale) false (weightsOf es) (recordOf (rule C) cs) n ≡ message (rule C) (C .scale) (made cs) n
   unfolding heard message
   heard-made es H cs M n h =
@@ -184,7 +184,7 @@ module _ (C : Code) (G : GoodCode C) (s₀ : List ℕ) (room : used C ≤ length
   unfolding pass iteration held
   pass-stands start s K w = turns-stand start (record { costs = s .costs; last = s .last; t = s .t + 1 }) (record { full = K .full; fine = K .fine }) w (length (C .checks)) (omega arith)
 
-  iteration-t : (s : State) → iteration C s .t ≡ s .t + 1
+  pub iteration-t : (s : State) → iteration C s .t ≡ s .t + 1
   unfolding iteration update
   iteration-t s = keeps (record { costs = s .costs; last = s .last; t = s .t + 1 }) (length (C .checks))
     where
@@ -197,7 +197,7 @@ module _ (C : Code) (G : GoodCode C) (s₀ : List ℕ) (room : used C ≤ length
     pub kept : Kept C s
     pub when : (m : ℕ) → m < length (C .checks) → When C (eqb (s .t) 0) (lastOf s m)
 
-  iteration-ready : (s : State) → Ready s → Ready (iteration C s)
+  pub iteration-ready : (s : State) → Ready s → Ready (iteration C s)
   iteration-ready s R =
       let r = iteration-kept C G s (R .kept) in
       let e : eqb (iteration C s .t) 0 ≡ false = ne-eqb (iteration C s .t) 0 (λ (z : iteration C s .t ≡ 0). omega (arith, iteration-t s)) in
@@ -243,7 +243,7 @@ module _ (C : Code) (G : GoodCode C) (s₀ : List ℕ) (room : used C ≤ length
       same m none i = absurd i
       same m (made cs) i = refl
 
-  held-end : (s : State) → Ready s → held C s₀ s ≡ pick (eqb (s .t) 0) s₀ (records C s ++ drop (used C) s₀)
+  pub held-end : (s : State) → Ready s → held C s₀ s ≡ pick (eqb (s .t) 0) s₀ (records C s ++ drop (used C) s₀)
   held-end s R = at (eqb (s .t) 0) (R .when)
     where
       at : (b : Bool) → ((m : ℕ) → m < length (C .checks) → When C b (lastOf s m)) → held C s₀ s ≡ pick b s₀ (records C s ++ drop (used C) s₀)

@@ -15,15 +15,15 @@ use Rattle.trellis.proofs.Rules.{first-power}
 use Rattle.machine.specs.CodeLine.{Read, good, bad, then, Edge, Code, edge, wordAt, readEdge, edges, checkAt, checks, parse, power, size, check, edgeAt, Numbers, numbersOf}
 
 -- tests that refuse, in their order
-abbrev guard : {A : Type 0} → List (Bool × ℕ) → Read A → Read A
+abbrev pub guard : {A : Type 0} → List (Bool × ℕ) → Read A → Read A
 guard [] y = y
 guard (x ∷ l) y = pick (x .0) (bad (x .1)) (guard l y)
 
-abbrev AllFalse : List (Bool × ℕ) → Type 0
+abbrev pub AllFalse : List (Bool × ℕ) → Type 0
 AllFalse [] = Unit {0}
 AllFalse (x ∷ l) = (x .0 ≡ false) × AllFalse l
 
-passed : {A : Type 0} (l : List (Bool × ℕ)) (y : Read A) (a : A) → guard l y ≡ good a → AllFalse l × (y ≡ good a)
+pub passed : {A : Type 0} (l : List (Bool × ℕ)) (y : Read A) (a : A) → guard l y ≡ good a → AllFalse l × (y ≡ good a)
 passed [] y a h = (tt, h)
 passed (x ∷ l) y a h = go (x .0) refl (passed l y a) h
   where
@@ -31,11 +31,11 @@ passed (x ∷ l) y a h = go (x .0) refl (passed l y a) h
     go true e f k = let z : _≡_ {A = ℕ} 0 1 = cc in absurd (omega arith)
     go false e f k = ((e, f k .0), f k .1)
 
-then-good : {A B : Type 0} (r : Read A) (k : A → Read B) (b : B) → then r k ≡ good b → (a : A) × (r ≡ good a) × (k a ≡ good b)
+pub then-good : {A B : Type 0} (r : Read A) (k : A → Read B) (b : B) → then r k ≡ good b → (a : A) × (r ≡ good a) × (k a ≡ good b)
 then-good (good a) k b h = (a, refl, h)
 then-good (bad n) k b h = let z : _≡_ {A = ℕ} 0 1 = cc in absurd (omega arith)
 
-good-one : {A : Type 0} (a b : A) → _≡_ {A = Read A} (good a) (good b) → a ≡ b
+pub good-one : {A : Type 0} (a b : A) → _≡_ {A = Read A} (good a) (good b) → a ≡ b
 good-one a b h = cc
 
 pub record GoodEdge (n q : ℕ) (e : Edge) : Type 0 where

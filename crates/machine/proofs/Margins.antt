@@ -18,7 +18,7 @@ use Rattle.machine.specs.Margins.{symbolIn, marginIn, costIn, Margin, Ma
 use Rattle.machine.proofs.Lists.{at-upTo}
 use Rattle.machine.proofs.Lines.{GoodCode, parse-good}
 use Rattle.machine.proofs.Ranges.{Ranged, column-room, run-ranged}
-use Rattle.machine.proofs.Demand.{accepted-call}
+use Rattle.machine.proofs.Buffers.{accepted-call}
 
 -- a part of a list of small numbers
 take-small : (b n : ℕ) (l : List ℕ) → ((i : ℕ) → getD l i 0 ≤ b) → (i : ℕ) → getD (take n l) i 0 ≤ b

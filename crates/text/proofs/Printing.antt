@@ -20,7 +20,7 @@ use Rattle.machine.specs.Decoding.{Buffers, Decodes, admitted, decoding, outcom
 use Rattle.machine.specs.Printing.{digitsOf, said, ofFrame, frameSaid, printed}
 use Rattle.machine.proofs.Lines.{parse-good}
 use Rattle.machine.proofs.Rooms.{roomy}
-use Rattle.machine.proofs.Demand.{accepted-call}
+use Rattle.machine.proofs.Buffers.{accepted-call}
 use Rattle.layered.specs.Answers.{answerReply}
 use Rattle.layered.specs.declared.Answer.{Answer}
 use Rattle.text.specs.Lines.{asLine, over}

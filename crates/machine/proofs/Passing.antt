@@ -1,0 +1,146 @@
+-- One iteration from any costs in range and any records of accepted form, not only those of a run: what each update needs is there, and what it
+-- leaves is in range and of accepted form.
+use mathlib.Core.Path.{_≡_, refl, sym, ap, ap₂, _∙_}
+use mathlib.Core.Bool.{Bool, true, false}
+use mathlib.Core.Logic.{_≢_}
+use mathlib.Core.List.{List, _++_}
+use Prim.Native.Nat.{ℕ, zero, suc, _+_, _*_, _-_, _≤_, _<_}
+use native.Mathlib.Nat.{not-suc-le-zero}
+use native.Mathlib.Decide.{ℕ-discrete, decLt}
+use native.Mathlib.Omega.{arith}
+use lib.ListN.{length, take, drop, length-append, length-take, length-drop, take-append-drop}
+use lib.Seq.{take-at, drop-at, drop-append-add, drop-drop, length-take-le}
+use Rattle.trellis.specs.Lists.{pick, upto, part, patch}
+use Rattle.trellis.specs.Check.{Column}
+use Rattle.trellis.specs.Record.{recordLength, recordOf, recordOk}
+use Rattle.trellis.proofs.Form.{record-length, record-ok}
+use Rattle.machine.specs.CodeLine.{Edge, Code, size, rule, check}
+use Rattle.machine.specs.Machine.{made, message, arriving, spread, place, used}
+use Rattle.machine.specs.Lent.{Lent, weightsOf, heard, gathered, turn, pass}
+use Rattle.machine.proofs.Lines.{GoodCheck, GoodCode}
+use Rattle.machine.proofs.Updates.{Made, made-proper, arriving-made}
+use Rattle.machine.proofs.Ranges.{Ranged, part-front, length-patch, part-patch, spread-ranged}
+use Rattle.machine.proofs.Lent.{len, place-suc, place-mono, spread-ext, heard-made}
+
+-- a part that does not meet the patched one is as it was
+module _ (l s : List ℕ) (a n : ℕ) (fits : a + n ≤ length l) (full : length s ≡ n) where
+  front : length (take a l) ≡ a
+  front = length-take-le a l (omega arith)
+
+  part-below : (c k : ℕ) → c + k ≤ a → part (patch l a n s) c k ≡ part l c k
+  part-below c k h =
+      part-front (take a l) _ c k (omega (arith, front))
+      ∙ sym (part-front (take a l) (drop a l) c k (omega (arith, front)))
+      ∙ ap (λ x. part x c k) (take-append-drop a l)
+
+  part-above : (c k : ℕ) → a + n ≤ c → part (patch l a n s) c k ≡ part l c k
+  part-above c k h = ap (take k) (two ∙ sym three)
+    where
+      e : c ≡ a + (n + (c - (a + n)))
+      e = omega arith
+
+      two : drop c (patch l a n s) ≡ drop (c - (a + n)) (drop n (drop a l))
+      two =
+          ap (λ k. drop k (patch l a n s)) (e ∙ ap (λ k. k + (n + (c - (a + n)))) (sym front))
+          ∙ drop-append-add (take a l) (s ++ drop n (drop a l)) (n + (c - (a + n)))
+          ∙ ap (λ k. drop (k + (c - (a + n))) (s ++ drop n (drop a l))) (sym full)
+          ∙ drop-append-add s (drop n (drop a l)) (c - (a + n))
+
+      three : drop c l ≡ drop (c - (a + n)) (drop n (drop a l))
+      three = ap (λ k. drop k l) e ∙ sym (drop-drop (n + (c - (a + n))) a l) ∙ sym (drop-drop (c - (a + n)) n (drop a l))
+
+module _ (C : Code) (G : GoodCode C) where
+  abbrev pub pieceIn : Lent → ℕ → List ℕ
+  pieceIn l m = part (l .store) (place C m) (len C m)
+
+  abbrev pub Formed : Lent → ℕ → Type 0
+  Formed l m = recordOk (rule C) (length (check C m)) (pieceIn l m) ≡ true
+
+  -- costs in range, room in the store, and records of accepted form but in the first iteration
+  pub record Passable (start : Bool) (l : Lent) : Type 0 where
+    pub ranged : Ranged C (l .costs)
+    pub room : used C ≤ length (l .store)
+    pub formed : start ≡ false → (m : ℕ) → m < length (C .checks) → Formed l m
+
+  module _ (start : Bool) (l : Lent) (R : Ranged C (l .costs)) (room : used C ≤ length (l .store)) (m : ℕ) (h : m < length (C .checks)) where
+    es : List Edge
+    es = check C m
+
+    pub cs : List Column
+    cs = gathered (rule C) (C .scale) start (check C m) (pieceIn l m) (l .costs)
+
+    H : GoodCheck (C .columns) (size C) (check C m)
+    H = G .each-check m h
+
+    M : Made C (check C m) cs
+    unfolding cs
+    M = arriving-made C (check C m) H _ (l .costs)
+
+    in-store : place C m + len C m ≤ length (l .store)
+    in-store = omega (arith, place-suc C m, place-mono C (suc m) (length (C .checks)) h)
+
+    long : length (recordOf (rule C) cs) ≡ len C m
+    long = record-length (rule C) cs (made-proper C G (check C m) H cs M) ∙ ap (recordLength (rule C)) (M .count)
+
+    -- the costs sent are those of this Q, as the machine has them
+    pub turn-costs : turn C start m l .costs ≡ spread (size C) (check C m) cs (message (rule C) (C .scale) (made cs)) (l .costs)
+    unfolding turn cs
+    turn-costs = spread-ext (size C) (check C m) cs _ _ (l .costs) (heard-made C G (l .store) room (check C m) H cs M)
+
+    turn-store : turn C start m l .store ≡ patch (l .store) (place C m) (len C m) (recordOf (rule C) cs)
+    unfolding turn cs
+    turn-store = refl
+
+    pub turn-ranged : Ranged C (turn C start m l .costs)
+    turn-ranged = rw turn-costs (spread-ranged C G (check C m) H cs M (l .costs) R)
+
+    pub turn-length : length (turn C start m l .store) ≡ length (l .store)
+    turn-length = rw turn-store (length-patch (l .store) (recordOf (rule C) cs) (place C m) (len C m) in-store long)
+
+    -- its record is of accepted form
+    pub turn-formed : Formed (turn C start m l) m
+    turn-formed =
+        rw (turn-store, part-patch (l .store) (recordOf (rule C) cs) (place C m) (len C m) in-store long, ← M .count)
+        (record-ok (rule C) cs (made-proper C G (check C m) H cs M))
+
+    -- the others are as they were
+    pub turn-others : (j : ℕ) → j < length (C .checks) → j ≢ m → pieceIn (turn C start m l) j ≡ pieceIn l j
+    turn-others j k n =
+        rw turn-store
+        (elim (decLt j m) [
+          | yes e ↦ part-below (l .store) (recordOf (rule C) cs) (place C m) (len C m) in-store long (place C j) (len C j) (omega (arith, place-suc C j, place-mono C (suc j) m e))
+          | no e ↦ part-above (l .store) (recordOf (rule C) cs) (place C m) (len C m) in-store long (place C j) (len C j) (omega (arith, place-suc C m, place-mono C (suc m) j (omega arith)))
+        ])
+
+  -- before check k of a pass
+  pub record Before (start : Bool) (l : Lent) (k : ℕ) : Type 0 where
+    pub ranged : Ranged C (upto (turn C start) k l .costs)
+    pub room : length (upto (turn C start) k l .store) ≡ length (l .store)
+    pub done : (m : ℕ) → m < k → Formed (upto (turn C start) k l) m
+    pub waiting : (m : ℕ) → k ≤ m → m < length (C .checks) → pieceIn (upto (turn C start) k l) m ≡ pieceIn l m
+
+  pub turns-before : (start : Bool) (l : Lent) → Ranged C (l .costs) → used C ≤ length (l .store) → (k : ℕ) → k ≤ length (C .checks) → Before start l k
+  turns-before start l R room zero h = record { ranged = R; room = refl; done = λ m i. absurd (not-suc-le-zero i); waiting = λ m i j. refl }
+  turns-before start l R room (suc k) h =
+      let B = turns-before start l R room k (omega arith) in
+      let now : Lent = upto (turn C start) k l in
+      let r : used C ≤ length (now .store) = omega (arith, B .room) in
+      record {
+        ranged = turn-ranged start now (B .ranged) r k h;
+        room = turn-length start now (B .ranged) r k h ∙ B .room;
+        done = λ m i. elim (ℕ-discrete m k) [
+          | yes e ↦ rw e (turn-formed start now (B .ranged) r k h)
+          | no e ↦ rw (turn-others start now (B .ranged) r k h m (omega arith) e) (B .done m (omega arith))
+        ];
+        waiting = λ m i j. turn-others start now (B .ranged) r k h m j (omega arith) ∙ B .waiting m (omega arith) j;
+      }
+
+  -- so each turn finds the record it needs, and after a pass the next one may follow
+  pub turn-needs : (start : Bool) (l : Lent) → Passable start l → (k : ℕ) → k < length (C .checks) → start ≡ false → Formed (upto (turn C start) k l) k
+  turn-needs start l P k h e = rw (turns-before start l (P .ranged) (P .room) k (omega arith) .waiting k (omega arith) h) (P .formed e k h)
+
+  pub pass-passable : (start : Bool) (l : Lent) → Ranged C (l .costs) → used C ≤ length (l .store) → Passable false (pass C start l)
+  unfolding pass
+  pass-passable start l R room =
+      let B = turns-before start l R room (length (C .checks)) (omega arith) in
+      record { ranged = B .ranged; room = omega (arith, B .room); formed = λ e m h. B .done m h }
