@@ -1,6 +1,6 @@
 -- What decode's tests and the run leave is what decoding says: each refusal by its own test, and the run by the machine over the lent buffers.
 use mathlib.Core.Path.{_≡_, refl, sym, ap, ap₂, _∙_}
-use mathlib.Core.Bool.{Bool, true, false}
+use mathlib.Core.Bool.{Bool, true, false, true≢false}
 use mathlib.Core.List.{List, _++_}
 use Prim.Native.Nat.{ℕ, _+_, _-_, _*_, _≤_, _<_}
 use native.Mathlib.Nat.{add-sub-cancel-left}
@@ -16,13 +16,14 @@ use Rattle.trellis.specs.Rules.{firstOk, sizeOf}
 use Rattle.trellis.proofs.Margins.{first-most}
 use Rattle.trellis.proofs.Loops.{tab-whole, length-tab, getD-tab}
 use Rattle.trellis.specs.Reply.{Reply, refusal}
-use Rattle.machine.specs.CodeLine.{good, bad, Code, numbersOf, parse, size, columnOf, zeroIn, frameFault}
+use Rattle.machine.specs.CodeLine.{Read, good, bad, Code, numbersOf, parse, size, columnOf, zeroIn, frameFault}
 use Rattle.machine.specs.Machine.{none as none′, Status, lastOf, symbols, margins, start, run, used}
 use Rattle.machine.specs.Lent.{Lent, Ended, ended, goLent}
 use Rattle.machine.specs.Decoding.{Buffers, After, lending, outcome, storeOf, roomFault as faultOfRoom, admittedUnder, admitted, decodingUnder, decoding, Decodes, Room}
 use Rattle.machine.specs.Tables.{Tabled}
 use Rattle.machine.proofs.Lines.{parse-good}
 use Rattle.machine.proofs.Ranges.{frame-ranged}
+use Rattle.machine.proofs.Buffers.{room-of}
 use Rattle.machine.proofs.Lent.{held-none, run-stands}
 use Rattle.codeline.specs.declared.Header.{Header}
 use Rattle.codeline.specs.declared.Header.the-variants.{Read as HeaderRead, Refused as HeaderRefused}
@@ -90,40 +91,23 @@ module _ (first n : ℕ) (ds f : List ℕ) (y c s v k : ℕ) (e : k ≡ frameFau
   unfolding faultOf
   fault-room h w u r i j o = o ∙ rw (i, j, frame-counted first n f (sym e ∙ h), eq-eqb (frameFaultOf first n f) 0 (sym e ∙ h))
 
--- decoding by the number of its refusal, 0 for none
+-- what decoding's refusals lead to, by the number of the refusal, 0 for none
 module _ (C : Code) (f : List ℕ) (b : Buffers) where
-  abbrev faultIn : ℕ
+  abbrev pub faultIn : ℕ
   faultIn = pick (eqb (frameFault C f) 0) (faultOfRoom C b) (frameFault C f)
 
-  by-fault : decodingOf C f b ≡ pick (eqb faultIn 0) (decodingUnder (good C) f b) (decodingUnder (bad faultIn) f b)
-  by-fault = go (eqb (frameFault C f) 0) refl
+  pub by-fault : {A : Type 0} (h : Read Code → A) → h (admittedUnder (good C) f b) ≡ pick (eqb faultIn 0) (h (good C)) (h (bad faultIn))
+  by-fault {A} h = go (eqb (frameFault C f) 0) refl
     where
-      picked : (i : Bool) (k : ℕ) → decodingUnder (pick i (good C) (bad k)) f b ≡ pick i (decodingUnder (good C) f b) (decodingUnder (bad k) f b)
+      picked : (i : Bool) (k : ℕ) → h (pick i (good C) (bad k)) ≡ pick i (h (good C)) (h (bad k))
       picked true k = refl
       picked false k = refl
 
       go : (i : Bool) → eqb (frameFault C f) 0 ≡ i
-          → decodingUnder (pick i (pick (eqb (faultOfRoom C b) 0) (good C) (bad (faultOfRoom C b))) (bad (frameFault C f))) f b
-          ≡ pick (eqb (pick i (faultOfRoom C b) (frameFault C f)) 0) (decodingUnder (good C) f b) (decodingUnder (bad (pick i (faultOfRoom C b) (frameFault C f))) f b)
+          → h (pick i (pick (eqb (faultOfRoom C b) 0) (good C) (bad (faultOfRoom C b))) (bad (frameFault C f)))
+          ≡ pick (eqb (pick i (faultOfRoom C b) (frameFault C f)) 0) (h (good C)) (h (bad (pick i (faultOfRoom C b) (frameFault C f))))
       go true e = picked (eqb (faultOfRoom C b) 0) (faultOfRoom C b)
       go false e = rw e
-
--- what no refusal says of the buffers
-room-none : (C : Code) (b : Buffers) → faultOfRoom C b ≡ 0 → Room C b
-unfolding faultOfRoom
-room-none C b h =
-    go (ltb (length (b .symbols)) (C .columns)) refl (ltb (length (b .costs)) (C .columns * size C)) refl (ltb (length (b .store)) (used C)) refl
-    (ltb (length (b .margins)) (C .columns)) refl h
-  where
-    go : (i : Bool) → ltb (length (b .symbols)) (C .columns) ≡ i → (j : Bool) → ltb (length (b .costs)) (C .columns * size C) ≡ j
-        → (k : Bool) → ltb (length (b .store)) (used C) ≡ k → (l : Bool) → ltb (length (b .margins)) (C .columns) ≡ l
-        → _≡_ {A = ℕ} (pick i 2 (pick j 3 (pick k 4 (pick l 19 0)))) 0 → Room C b
-    go true a j c k d l e h = absurd (omega arith)
-    go false a true c k d l e h = absurd (omega arith)
-    go false a false c true d l e h = absurd (omega arith)
-    go false a false c false d true e h = absurd (omega arith)
-    go false a false c false d false e h =
-        record { for-symbols = ltb-false _ _ a; for-costs = ltb-false _ _ c; for-store = ltb-false _ _ d; for-margins = ltb-false _ _ e }
 
 -- no number but 0 in two steps
 split-fault : (x r : ℕ) → pick (eqb x 0) r x ≡ 0 → (x ≡ 0) × (r ≡ 0)
@@ -165,23 +149,23 @@ module _ (C : Code) (first n m g limit : ℕ) (ds cs ws : List ℕ) (H : Coded C
     abbrev b : Buffers
     b = lending y c s v
 
-    fault-is : k ≡ faultIn C f b
+    pub fault-is : k ≡ faultIn C f b
     unfolding faultOf frameFaultOf frameFault roomFault faultOfRoom
     fault-is = e ∙ rw (used-is, H .first-is, H .columns-is)
 
     -- a refusal
     pub refused-leaves : (k ≡ 0 → ⊥) → Leaves (decodingOf C f b) (refusal k) b
     refused-leaves h =
-        let x : decodingOf C f b ≡ decodingUnder (bad k) f b = by-fault C f b ∙ rw (← fault-is, ne-eqb k 0 h) in
+        let x : decodingOf C f b ≡ decodingUnder (bad k) f b = by-fault C f b (λ r. decodingUnder r f b) ∙ rw (← fault-is, ne-eqb k 0 h) in
         rw x record { replies = refl; symbols-then = refl; costs-then = refl; store-then = refl; margins-then = refl }
 
     -- no refusal
     module _ (z : k ≡ 0) where
-      none : (frameFault C f ≡ 0) × (faultOfRoom C b ≡ 0)
+      pub none : (frameFault C f ≡ 0) × (faultOfRoom C b ≡ 0)
       none = split-fault (frameFault C f) _ (sym fault-is ∙ z)
 
-      rooms : Room C b
-      rooms = room-none C b (none .1)
+      pub rooms : Room C b
+      rooms = room-of C b (none .1)
 
       pub frame-length : length f ≡ n * sizeOf first
       unfolding frameFaultOf frameFault
@@ -194,19 +178,12 @@ module _ (C : Code) (first n m g limit : ℕ) (ds cs ws : List ℕ) (H : Coded C
       -- the run starts on the frame with no record
       pub start-room : Below 255 f → (P x : List ℕ) → P ≡ f → length x ≡ n → RunRoom (graph first g (take m ds) cs ws) true P s x
       start-room d P x i l =
-          let no-record : (j : ℕ) → j < length (C .checks) → lastOf (start C f) j ≡ none′ = λ j h. getD-replicate (length (C .checks)) j none′ none′ h in
           record {
             running = record {
               code = C;
               good = H .good;
               tables = coded-tables;
-              old = s;
-              room = rooms .for-store;
-              state = start C f;
-              kept = record { full = length-replicate (length (C .checks)) none′; fine = λ j h. rw (no-record j h) tt };
-              when = no-record;
-              ranged = frame-ranged C f (none .0) d;
-              holds = ap₂ lent i (sym (held-none C (H .good) s (rooms .for-store) (start C f) no-record));
+              passable = rw i record { ranged = frame-ranged C f (none .0) d; room = rooms .for-store; formed = λ e. absurd (true≢false e) };
             };
             symbols = l ∙ H .columns-is;
           }
@@ -230,7 +207,7 @@ module _ (C : Code) (first n m g limit : ℕ) (ds cs ws : List ℕ) (H : Coded C
             let q′ : x′ ≡ margins C (run C f .end .costs) =
             j′ ∙ ap₂ (λ a b. marginsOf (sizeOf a) P b) (H .first-is) (H .columns-is) ∙ ap (λ l. marginsOf (size C) l (C .columns)) costs-are ∙ margins-are C cs ws (H .tabled .columns) (H .tabled .weights) (run C f .end .costs) in
             let w : length f ≡ C .columns * size C = frame-length ∙ ap₂ (λ a b. a * sizeOf b) (H .columns-is) (H .first-is) in
-            let d : decodingOf C f b ≡ decodingUnder (good C) f b = by-fault C f b ∙ rw (← fault-is, eq-eqb k 0 z) in
+            let d : decodingOf C f b ≡ decodingUnder (good C) f b = by-fault C f b (λ r. decodingUnder r f b) ∙ rw (← fault-is, eq-eqb k 0 z) in
             rw d
             record {
               replies = ends .0;
@@ -242,7 +219,7 @@ module _ (C : Code) (first n m g limit : ℕ) (ds cs ws : List ℕ) (H : Coded C
 
       -- the same with the costs copied into the front of the cost buffer
       module _ (f′ : List ℕ) (i : f′ ≡ f) where
-        copied-front : take (length f) (f′ ++ drop (length f) c) ≡ f
+        pub copied-front : take (length f) (f′ ++ drop (length f) c) ≡ f
         copied-front = ap (λ a. take (length f) (a ++ drop (length f) c)) i ∙ take-at f (drop (length f) c) (length f) refl
 
         pub copied-room : Below 255 f → (x : List ℕ) → length x ≡ n → RunRoom (graph first g (take m ds) cs ws) true (take (length f) (f′ ++ drop (length f) c)) s x

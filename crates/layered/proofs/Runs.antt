@@ -1,5 +1,4 @@
--- What the buffers of a run hold is a state of the machine, so its ranges, its records and its store give all that an update, a test and the next
--- iteration ask for.
+-- Costs in range and records of accepted form give all that an update, a test and the next iteration ask for.
 use mathlib.Core.Path.{_≡_, sym, ap, ap₂, _∙_}
 use mathlib.Core.Bool.{Bool, true, false}
 use mathlib.Core.List.{List}
@@ -11,19 +10,17 @@ use lib.Dec.{eqb}
 use lib.ListN.{length, take, getD}
 use borrow.Author.Tests.{ne-eqb}
 use Rattle.trellis.specs.Lists.{upto, part, patch}
-use Rattle.trellis.specs.Record.{groupLength, recordLength, recordOk, recordOf}
+use Rattle.trellis.specs.Record.{groupLength, recordLength}
 use Rattle.trellis.specs.Rules.{powerOf, sizeOf, ruleFor}
-use Rattle.trellis.proofs.Form.{record-ok}
 use Rattle.trellis.proofs.Instances.{first-zero}
 use Rattle.trellis.proofs.Recurrence.{size-64}
 use Rattle.machine.specs.CodeLine.{Code, power, size, rule, check, edgeAt, columnOf}
-use Rattle.machine.specs.Machine.{Last, none, made, State, lastOf, update, iteration, place, used}
 use Rattle.machine.specs.Tables.{tablesOf, before}
-use Rattle.machine.specs.Lent.{Lent, pass}
+use Rattle.machine.specs.Lent.{Lent, turn, pass}
 use Rattle.machine.proofs.Lines.{GoodCode, GoodEdge}
-use Rattle.machine.proofs.Updates.{Fine, Kept, made-proper, updates-kept, iteration-kept}
-use Rattle.machine.proofs.Ranges.{Ranged, updates-ranged, iteration-ranged, column-room}
-use Rattle.machine.proofs.Lent.{place-suc, place-mono, pieceOf, held, lentOf, When, held-part, length-held, turns-stand, untouched, pass-stands}
+use Rattle.machine.proofs.Ranges.{column-room}
+use Rattle.machine.proofs.Lent.{place-suc, place-mono}
+use Rattle.machine.proofs.Passing.{Passable, turns-before, turn-needs, pass-passable}
 use Rattle.layered.specs.Parity.{SettledRoom}
 use Rattle.layered.specs.Turns.{costsNow, recordNow, UpdateRoom}
 use Rattle.layered.specs.Passes.{Graph, graph, lent, tableAt, lengthAt, placeAt, recordAt, turnAt, passOver, Running, RunRoom}
@@ -32,44 +29,30 @@ use Rattle.machine.proofs.Places.{count, degree-at, in-columns, in-weights, sam
 use Rattle.layered.proofs.Passes.{place-is, turns-are, tables-pass}
 
 module _ (C : Code) (G : GoodCode C) (cs ws : List ℕ) (hc : take (length (tablesOf (C .checks) .edges .columns)) cs ≡ tablesOf (C .checks) .edges .columns)
-    (hw : take (length (tablesOf (C .checks) .edges .weights)) ws ≡ tablesOf (C .checks) .edges .weights) (s₀ : List ℕ) (room : used C ≤ length s₀)
-    (st : State) (K : Kept C st) (start : Bool) (W : (m : ℕ) → m < length (C .checks) → When C start (lastOf st m)) (Rg : Ranged C (st .costs)) where
+    (hw : take (length (tablesOf (C .checks) .edges .weights)) ws ≡ tablesOf (C .checks) .edges .weights) (start : Bool) (l : Lent) (Pa : Passable C G start l) where
   abbrev T : Graph
   T = graph (C .first) (C .scale) (tablesOf (C .checks) .degrees) cs ws
 
-  abbrev after : ℕ → State
-  after m = upto (update C) m st
+  abbrev after : ℕ → Lent
+  after m = upto (turn C start) m l
 
-  turns-at : (m : ℕ) → m ≤ length (C .checks) → upto (turnAt T start) m (lentOf C s₀ st) ≡ lentOf C s₀ (after m)
-  turns-at m h = turns-are C cs ws hc hw start m h (lentOf C s₀ st) ∙ turns-stand C G s₀ room start st K W m h
+  turns-at : (m : ℕ) → m ≤ length (C .checks) → upto (turnAt T start) m l ≡ after m
+  turns-at m h = turns-are C cs ws hc hw start m h l
 
   module _ (m : ℕ) (h : m < length (C .checks)) where
-    -- after the first iteration check m has a record of accepted form
-    form-at : start ≡ false → recordOk (rule C) (length (check C m)) (pieceOf C s₀ m (lastOf st m)) ≡ true
-    form-at e = go (lastOf st m) (K .fine m h) (rw e at (W m h))
-      where
-        go : (l : Last) → Fine C (check C m) l → When C false l → recordOk (rule C) (length (check C m)) (pieceOf C s₀ m l) ≡ true
-        go none f w = absurd w
-        go (made c) f w = ap (λ d. recordOk (rule C) d (recordOf (rule C) c)) (sym (f .count)) ∙ record-ok (rule C) c (made-proper C G (check C m) (G .each-check m h) c f)
-
-    held-at : part (held C s₀ (after m)) (placeAt (C .first) (T .degrees) m) (lengthAt (C .first) (T .degrees) m) ≡ pieceOf C s₀ m (lastOf st m)
-    held-at =
-        rw (place-is C cs ws hc hw m, degree-at C cs ws hc hw m)
-        (held-part C G s₀ room (after m) (updates-kept C G st K m (omega arith) .0) m h ∙ ap (pieceOf C s₀ m) (untouched C G s₀ room st K m (omega arith) m (omega arith)))
-
-    pub in-store : placeAt (C .first) (T .degrees) m + lengthAt (C .first) (T .degrees) m ≤ length s₀
+    pub in-store : placeAt (C .first) (T .degrees) m + lengthAt (C .first) (T .degrees) m ≤ length (l .store)
     in-store =
-        rw (place-is C cs ws hc hw m, degree-at C cs ws hc hw m) (omega (arith, place-suc C m, place-mono C (suc m) (length (C .checks)) h))
+        rw (place-is C cs ws hc hw m, degree-at C cs ws hc hw m) (omega (arith, Pa .room, place-suc C m, place-mono C (suc m) (length (C .checks)) h))
 
     update-room : (Q S : List ℕ) → length Q ≡ getD (T .degrees) m 0 * size C → length S ≡ getD (T .degrees) m 0 * size C
-        → UpdateRoom (C .first) (C .scale) start (tableAt (T .degrees) cs m) (tableAt (T .degrees) ws m) (after m .costs) (part (held C s₀ (after m)) (placeAt (C .first) (T .degrees) m) (lengthAt (C .first) (T .degrees) m)) Q S
+        → UpdateRoom (C .first) (C .scale) start (tableAt (T .degrees) cs m) (tableAt (T .degrees) ws m) (after m .costs) (part (after m .store) (placeAt (C .first) (T .degrees) m) (lengthAt (C .first) (T .degrees) m)) Q S
     update-room Q S i j =
         let H = G .each-check m h in
         let d : length (tableAt (T .degrees) ws m) ≡ length (check C m) = weights-length C cs ws hc hw m h in
         let e : length (tableAt (T .degrees) cs m) ≡ length (tableAt (T .degrees) ws m) = same-length C cs ws hc hw m h in
         let n : getD (T .degrees) m 0 ≡ length (tableAt (T .degrees) ws m) = degree-at C cs ws hc hw m ∙ sym d in
-        let R = updates-ranged C G st Rg m (omega arith) in
-        let l : length (held C s₀ (after m)) ≡ length s₀ = length-held C G s₀ room (after m) (updates-kept C G st K m (omega arith) .0) in
+        let B = turns-before C G start l (Pa .ranged) (Pa .room) m (omega arith) in
+        let R = B .ranged in
         record {
           recall = record {
             weighed = record {
@@ -79,14 +62,14 @@ module _ (C : Code) (G : GoodCode C) (cs ws : List ℕ) (hc : take (length (tabl
               some = λ k u. rw (weight-table C cs ws hc hw m h k) (H .each-edge k (omega arith) .weight-some);
               small = λ k u. rw (weight-table C cs ws hc hw m h k) (H .each-edge k (omega arith) .weight-small);
             };
-            form = λ f. rw (d, held-at) (form-at f);
+            form = λ f. rw (d, place-is C cs ws hc hw m, degree-at C cs ws hc hw m) (turn-needs C G start l Pa m h f);
             full = j ∙ ap (λ x. x * size C) n;
           };
           same = e;
           columns = λ k u. rw (column-table C cs ws hc hw m h k) (omega (arith, R .full, column-room (edgeAt (check C m) k .column) (C .columns) (size C) (H .each-edge k (omega arith) .column-small)));
           small = R .small;
           scale = G .scale-high;
-          for-record = length-part (held C s₀ (after m)) (placeAt (C .first) (T .degrees) m) (lengthAt (C .first) (T .degrees) m) (omega (arith, in-store)) ∙ ap (recordLength (rule C)) n;
+          for-record = length-part (after m .store) (placeAt (C .first) (T .degrees) m) (lengthAt (C .first) (T .degrees) m) (omega (arith, in-store, B .room)) ∙ ap (recordLength (rule C)) n;
           for-costs = i ∙ ap (λ x. x * size C) n;
         }
 
@@ -103,12 +86,8 @@ module _ (first g : ℕ) (ds cs ws P s : List ℕ) (start : Bool) (R : Running (
       rw (R .tables .first-is, R .tables .scale-is, R .tables .degrees-is) (λ h l e Q S i j.
       let D : Graph = graph (C .first) (C .scale) (tablesOf (C .checks) .degrees) cs ws in
       let k : m < length (C .checks) = omega (arith, count C cs ws (R .tables .columns) (R .tables .weights)) in
-      let x : l ≡ lentOf C (R .old) (upto (update C) m (R .state)) =
-      e ∙ ap (upto (turnAt D start) m) (R .holds) ∙ turns-at C (R .good) cs ws (R .tables .columns) (R .tables .weights) (R .old) (R .room) (R .state) (R .kept) start (R .when) (R .ranged) m (omega arith) in
-      rw x (update-room C (R .good) cs ws (R .tables .columns) (R .tables .weights) (R .old) (R .room) (R .state) (R .kept) start (R .when) (R .ranged) m k Q S i j))
-
-  pub store-length : length s ≡ length (R .old)
-  store-length = ap (λ (l : Lent). length (l .store)) (R .holds) ∙ length-held C (R .good) (R .old) (R .room) (R .state) (R .kept)
+      let x : l ≡ upto (turn C start) m (lent P s) = e ∙ turns-at C (R .good) cs ws (R .tables .columns) (R .tables .weights) start (lent P s) (R .passable) m (omega arith) in
+      rw x (update-room C (R .good) cs ws (R .tables .columns) (R .tables .weights) start (lent P s) (R .passable) m k Q S i j))
 
   -- its parts of the tables, of the store and of the lists to work in are inside
   pub turn-fits : (m : ℕ) → m < length ds
@@ -117,50 +96,39 @@ module _ (first g : ℕ) (ds cs ws P s : List ℕ) (start : Bool) (R : Running (
       × (placeAt first ds m + lengthAt first ds m ≤ length s)
       × (getD ds m 0 * sizeOf first ≤ 2048)
   turn-fits m =
-      rw (store-length, R .tables .first-is, R .tables .degrees-is) (λ h.
+      rw (R .tables .first-is, R .tables .degrees-is) (λ h.
       let k : m < length (C .checks) = omega (arith, count C cs ws (R .tables .columns) (R .tables .weights)) in (
         in-columns C cs ws (R .tables .columns) (R .tables .weights) m k,
         in-weights C cs ws (R .tables .columns) (R .tables .weights) m k,
-        in-store C (R .good) cs ws (R .tables .columns) (R .tables .weights) (R .old) (R .room) (R .state) (R .kept) start (R .when) (R .ranged) m k,
+        in-store C (R .good) cs ws (R .tables .columns) (R .tables .weights) start (lent P s) (R .passable) m k,
         mul-le-mul {n₁ = getD (tablesOf (C .checks) .degrees) m 0} {n₂ = 32} (rw (degree-at C cs ws (R .tables .columns) (R .tables .weights) m) (R .good .each-check m k .high)) (size-64 (power C) (R .good .p-high)),
       ))
 
   -- after an iteration
   pub pass-running : (P′ s′ : List ℕ) → lent P′ s′ ≡ passOver (graph first g ds cs ws) start (lent P s) → Running (graph first g ds cs ws) false P′ s′
   pass-running P′ s′ e =
-      let k = iteration-kept C (R .good) (R .state) (R .kept) in
-      record {
-        code = C;
-        good = R .good;
-        tables = R .tables;
-        old = R .old;
-        room = R .room;
-        state = iteration C (R .state);
-        kept = k .0;
-        when = k .1;
-        ranged = iteration-ranged C (R .good) (R .state) (R .ranged);
-        holds = e ∙ tables-pass C first g ds cs ws (R .tables) start (lent P s) ∙ ap (pass C start) (R .holds) ∙ pass-stands C (R .good) (R .old) (R .room) start (R .state) (R .kept) (R .when);
-      }
+      let o : lent P′ s′ ≡ pass C start (lent P s) = e ∙ tables-pass C first g ds cs ws (R .tables) start (lent P s) in
+      record { code = C; good = R .good; tables = R .tables; passable = rw o (pass-passable C (R .good) start (lent P s) (R .passable .ranged) (R .passable .room)) }
 
   -- what the test asks
   pub test-room : (p : ℕ) → p ≡ powerOf first → (z : List ℕ) → length z ≡ C .columns → SettledRoom p ds cs ws P z
-  test-room p o z e = rw (o, R .tables .first-is, R .tables .degrees-is, ap (λ (l : Lent). l .costs) (R .holds)) (at-code z e)
+  test-room p o z e = rw (o, R .tables .first-is, R .tables .degrees-is) (at-code z e)
     where
-      at-code : (z : List ℕ) → length z ≡ C .columns → SettledRoom (power C) (tablesOf (C .checks) .degrees) cs ws (R .state .costs) z
+      at-code : (z : List ℕ) → length z ≡ C .columns → SettledRoom (power C) (tablesOf (C .checks) .degrees) cs ws P z
       at-code z e =
           record {
             low = R .good .p-low;
             high = R .good .p-high;
-            costs = rw (e, R .ranged .full) (omega arith);
-            zeros = λ c h. omega (arith, first-zero (R .ranged .zero-in c (omega arith)) .0, column-length c (omega arith));
+            costs = rw (e, R .passable .ranged .full) (omega arith);
+            zeros = λ c h. omega (arith, first-zero (R .passable .ranged .zero-in c (omega arith)) .0, column-length c (omega arith));
             in-columns = all-columns C cs ws (R .tables .columns) (R .tables .weights);
             in-weights = all-weights C cs ws (R .tables .columns) (R .tables .weights);
             columns = λ m n h i. rw (column-flat C cs ws (R .tables .columns) (R .tables .weights) m (some-check m h) n i, e) (edge-at m n h i .column-small);
             weights = λ m n h i. rw (weight-flat C cs ws (R .tables .columns) (R .tables .weights) m (some-check m h) n i) (edge-at m n h i .weight-small);
           }
         where
-          column-length : (c : ℕ) → c < C .columns → length (columnOf (size C) (R .state .costs) c) ≡ size C
-          column-length c h = length-part (R .state .costs) (c * size C) (size C) (omega (arith, R .ranged .full, column-room c (C .columns) (size C) h))
+          column-length : (c : ℕ) → c < C .columns → length (columnOf (size C) P c) ≡ size C
+          column-length c h = length-part P (c * size C) (size C) (omega (arith, R .passable .ranged .full, column-room c (C .columns) (size C) h))
 
           some-check : (m : ℕ) → m < length (tablesOf (C .checks) .degrees) → m < length (C .checks)
           some-check m h = omega (arith, count C cs ws (R .tables .columns) (R .tables .weights))

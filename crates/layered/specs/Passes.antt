@@ -9,13 +9,11 @@ use Rattle.trellis.specs.Lists.{pick, upto, part, patch}
 use Rattle.trellis.specs.Record.{recordLength}
 use Rattle.trellis.specs.Rules.{powerOf, sizeOf, ruleFor}
 use Rattle.machine.specs.CodeLine.{Code}
-use Rattle.machine.specs.Machine.{State, found, notFound, lastOf, used}
+use Rattle.machine.specs.Machine.{found, notFound}
 use Rattle.machine.specs.Tables.{tablesOf, before}
 use Rattle.machine.specs.Lent.{Lent, Ended, ended}
 use Rattle.machine.proofs.Lines.{GoodCode}
-use Rattle.machine.proofs.Updates.{Kept}
-use Rattle.machine.proofs.Ranges.{Ranged}
-use Rattle.machine.proofs.Lent.{lentOf, When}
+use Rattle.machine.proofs.Passing.{Passable}
 use Rattle.layered.specs.declared.Outcome.{Outcome}
 use Rattle.layered.specs.declared.Outcome.the-variants.{Found, NotFound}
 use Rattle.layered.specs.Parity.{decisionsOf, allHold}
@@ -82,18 +80,12 @@ pub record Tables (C : Code) (T : Graph) : Type 0 where
   pub columns : take (length (tablesOf (C .checks) .edges .columns)) (T .columns) ≡ tablesOf (C .checks) .edges .columns
   pub weights : take (length (tablesOf (C .checks) .edges .weights)) (T .weights) ≡ tablesOf (C .checks) .edges .weights
 
--- the buffers hold a state of a run of some accepted code; in the first iteration no check has a record, later each has
+-- the costs of some accepted code, in range, and room for its records; but in the first iteration each stored record is of accepted form
 pub record Running (T : Graph) (start : Bool) (P store : List ℕ) : Type 0 where
   pub code : Code
   pub good : GoodCode code
   pub tables : Tables code T
-  pub old : List ℕ
-  pub room : used code ≤ length old
-  pub state : State
-  pub kept : Kept code state
-  pub when : (m : ℕ) → m < length (code .checks) → When code start (lastOf state m)
-  pub ranged : Ranged code (state .costs)
-  pub holds : lent P store ≡ lentOf code old state
+  pub passable : Passable code good start (lent P store)
 
 -- room to work in: two lists for the largest check's columns
 pub record PassRoom (T : Graph) (start : Bool) (P store A S : List ℕ) : Type 0 where
