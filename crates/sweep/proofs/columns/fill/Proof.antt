@@ -1,7 +1,8 @@
 -- After i parts the table starts with the cells kept over 0, 1, .. i - 1 columns; the next follows from the last of them.
 use mathlib.Core.Path.{_≡_, refl, ap, _∙_, sym}
-use mathlib.Core.List.{_++_}
-use Prim.Native.Nat.{_-_, _*_, _≤_, _<_}
+use mathlib.Core.Bool.{Bool}
+use mathlib.Core.List.{List, _++_}
+use Prim.Native.Nat.{ℕ, _+_, _-_, _*_, _≤_, _<_}
 use native.Mathlib.Omega.{arith}
 use borrow.Author.Needs.{needs}
 use lib.ListN.{length, drop, length-take}
@@ -27,42 +28,43 @@ cells-requires c κs = search needs
 slice-relend-prefix-begin : tie.Need-slice-relend-prefix-begin Inv-loop μ-loop
 slice-relend-prefix-begin c =
     let start = c .before .before .before .before .before in
-    let weights = start .args .weights .now in
-    omega (arith, part-room 0 (length weights) (c .cells .result) (omega (arith, start .pre .0 .two)), ap (λ y. (length weights) * y) (c .cells .ensures .0), start .pre .1 .1)
+    omega (arith, part-room 0 (length (start .args .weights .now)) (c .cells .result) (omega (arith, start .pre .0 .two)), ap (λ y. (length (start .args .weights .now)) * y) (c .cells .ensures .0), start .pre .1 .1)
 
 slice-aggregate-begin : tie.Need-slice-aggregate-begin Inv-loop μ-loop
 slice-aggregate-begin c =
     let at-cells = c .before in
     let start = at-cells .before .before .before .before .before in
-    let weights = start .args .weights .now in
-    simp length-take (omega (arith, part-room 0 (length weights) (at-cells .cells .result) (omega (arith, start .pre .0 .two)), ap (λ y. (length weights) * y) (at-cells .cells .ensures .0), start .pre .1 .1))
+    simp length-take (omega (arith, part-room 0 (length (start .args .weights .now)) (at-cells .cells .result) (omega (arith, start .pre .0 .two)), ap (λ y. (length (start .args .weights .now)) * y) (at-cells .cells .ensures .0), start .pre .1 .1))
 
 begin-requires : tie.Need-begin-requires Inv-loop μ-loop
 begin-requires c κs =
     let at-cells = c .before in
     let start = at-cells .before .before .before .before .before in
-    let weights = start .args .weights .now in
-    simp length-take (omega (arith, part-room 0 (length weights) (at-cells .cells .result) (omega (arith, start .pre .0 .two)), ap (λ y. (length weights) * y) (at-cells .cells .ensures .0), start .pre .1 .1, at-cells .cells .ensures .0, cells-some (start .args .first) weights (start .args .costs .now) (start .pre .0)))
+    simp length-take (omega (arith, part-room 0 (length (start .args .weights .now)) (at-cells .cells .result) (omega (arith, start .pre .0 .two)), ap (λ y. (length (start .args .weights .now)) * y) (at-cells .cells .ensures .0), start .pre .1 .1, at-cells .cells .ensures .0, cells-some (start .args .first) (start .args .weights .now) (start .args .costs .now) (start .pre .0)))
 
 loop-holds : tie.Need-loop-holds Inv-loop μ-loop
 loop-holds c =
     let at-begin = c .before .before in
     let at-cells = at-begin .before .before in
     let start = at-cells .before .before .before .before .before in
-    let weights = start .args .weights .now in
-    let costs = start .args .costs .now in
-    let table = start .args .table .now in
-    let first = start .args .first in
-    let back = start .args .back in
-    (omega arith, (omega (arith, start .pre .0 .two), ((refl, at-cells .cells .ensures .0), (start .pre .1 .0, (start-length first weights costs (start .pre .0) back table (at-cells .cells .result) (omega (arith, part-room 0 (length weights) (at-cells .cells .result) (omega (arith, start .pre .0 .two)), ap (λ y. (length weights) * y) (at-cells .cells .ensures .0), start .pre .1 .1)) (at-begin .begin .ensures) ∙ omega (arith, start .pre .1 .1, ap (λ y. (length weights) * y) (at-cells .cells .ensures .0)), table-start first weights costs (start .pre .0) back table (at-cells .cells .result) (at-cells .cells .ensures .0) (omega (arith, part-room 0 (length weights) (at-cells .cells .result) (omega (arith, start .pre .0 .two)), ap (λ y. (length weights) * y) (at-cells .cells .ensures .0), start .pre .1 .1)) (at-begin .begin .ensures))))))
+    let f : ℕ = start .args .first in
+    let ws : List ℕ = start .args .weights .now in
+    let cs : List ℕ = start .args .costs .now in
+    let D = start .pre .0 in
+    let w : ℕ = at-cells .cells .result in
+    let we : w ≡ cellCount f = at-cells .cells .ensures .0 in
+    let wt : length ws * w ≡ length ws * cellCount f = ap (λ y. length ws * y) we in
+    let t : List ℕ = start .args .table .now in
+    let h : w ≤ length t = omega (arith, part-room 0 (length ws) w (omega (arith, D .two)), wt, start .pre .1 .1) in
+    let n = start-length f ws cs D (start .args .back) t w h (at-begin .begin .ensures) in
+    (omega arith, (omega (arith, D .two), ((refl, we), (start .pre .1 .0, (n ∙ omega (arith, start .pre .1 .1, wt), table-start f ws cs D (start .args .back) t w we h (at-begin .begin .ensures))))))
 
 mul-b : tie.Need-mul-b Inv-loop μ-loop
 mul-b c =
     let at-loop = c .before in
     let at-cells = at-loop .before .before .before .before .before in
     let start = at-cells .before .before .before .before .before in
-    let weights = start .args .weights .now in
-    omega (arith, part-room (at-loop .loop .i) (length weights) (at-cells .cells .result) (let u : (at-loop .loop .i) < (length weights) = omega (arith, c .loop-test .taken, at-loop .loop .inv .1 .1 .0 .0) in u), ap (λ y. (length weights) * y) (at-cells .cells .ensures .0), ready-sizes (start .args .first) weights (start .args .costs .now) (start .pre .0))
+    omega (arith, part-room (at-loop .loop .i) (length (start .args .weights .now)) (at-cells .cells .result) (let u : (at-loop .loop .i) < (length (start .args .weights .now)) = omega (arith, c .loop-test .taken, at-loop .loop .inv .1 .1 .0 .0) in u), ap (λ y. (length (start .args .weights .now)) * y) (at-cells .cells .ensures .0), ready-sizes (start .args .first) (start .args .weights .now) (start .args .costs .now) (start .pre .0))
 
 sub-a : tie.Need-sub-a Inv-loop μ-loop
 sub-a c =
@@ -75,16 +77,14 @@ add-e c =
     let at-loop = c .before in
     let at-cells = at-loop .before .before .before .before .before in
     let start = at-cells .before .before .before .before .before in
-    let weights = start .args .weights .now in
-    omega (arith, part-room (at-loop .loop .i) (length weights) (at-cells .cells .result) (let u : (at-loop .loop .i) < (length weights) = omega (arith, c .loop-test .taken, at-loop .loop .inv .1 .1 .0 .0) in u), ap (λ y. (length weights) * y) (at-cells .cells .ensures .0), ready-sizes (start .args .first) weights (start .args .costs .now) (start .pre .0))
+    omega (arith, part-room (at-loop .loop .i) (length (start .args .weights .now)) (at-cells .cells .result) (let u : (at-loop .loop .i) < (length (start .args .weights .now)) = omega (arith, c .loop-test .taken, at-loop .loop .inv .1 .1 .0 .0) in u), ap (λ y. (length (start .args .weights .now)) * y) (at-cells .cells .ensures .0), ready-sizes (start .args .first) (start .args .weights .now) (start .args .costs .now) (start .pre .0))
 
 mul-copy : tie.Need-mul-copy Inv-loop μ-loop
 mul-copy c =
     let at-loop = c .before in
     let at-cells = at-loop .before .before .before .before .before in
     let start = at-cells .before .before .before .before .before in
-    let weights = start .args .weights .now in
-    omega (arith, part-room (at-loop .loop .i) (length weights) (at-cells .cells .result) (let u : (at-loop .loop .i) < (length weights) = omega (arith, c .loop-test .taken, at-loop .loop .inv .1 .1 .0 .0) in u), ap (λ y. (length weights) * y) (at-cells .cells .ensures .0), ready-sizes (start .args .first) weights (start .args .costs .now) (start .pre .0), past-first (at-loop .loop .i) (at-cells .cells .result) (λ (z : (at-loop .loop .i) ≡ 0). omega (arith, at-loop .loop .inv .0)))
+    omega (arith, part-room (at-loop .loop .i) (length (start .args .weights .now)) (at-cells .cells .result) (let u : (at-loop .loop .i) < (length (start .args .weights .now)) = omega (arith, c .loop-test .taken, at-loop .loop .inv .1 .1 .0 .0) in u), ap (λ y. (length (start .args .weights .now)) * y) (at-cells .cells .ensures .0), ready-sizes (start .args .first) (start .args .weights .now) (start .args .costs .now) (start .pre .0), past-first (at-loop .loop .i) (at-cells .cells .result) (λ (z : (at-loop .loop .i) ≡ 0). omega (arith, at-loop .loop .inv .0)))
 
 sub-copy : tie.Need-sub-copy Inv-loop μ-loop
 sub-copy c = search needs
@@ -98,8 +98,7 @@ part-copy-end c =
     let at-loop = at-loop-test .before in
     let at-cells = at-loop .before .before .before .before .before in
     let start = at-cells .before .before .before .before .before in
-    let weights = start .args .weights .now in
-    omega (arith, part-room (at-loop .loop .i) (length weights) (at-cells .cells .result) (let u : (at-loop .loop .i) < (length weights) = omega (arith, at-loop-test .loop-test .taken, at-loop .loop .inv .1 .1 .0 .0) in u), ap (λ y. (length weights) * y) (at-cells .cells .ensures .0), ready-sizes (start .args .first) weights (start .args .costs .now) (start .pre .0), at-loop .loop .inv .1 .1 .1 .1 .0)
+    omega (arith, part-room (at-loop .loop .i) (length (start .args .weights .now)) (at-cells .cells .result) (let u : (at-loop .loop .i) < (length (start .args .weights .now)) = omega (arith, at-loop-test .loop-test .taken, at-loop .loop .inv .1 .1 .0 .0) in u), ap (λ y. (length (start .args .weights .now)) * y) (at-cells .cells .ensures .0), ready-sizes (start .args .first) (start .args .weights .now) (start .args .costs .now) (start .pre .0), at-loop .loop .inv .1 .1 .1 .1 .0)
 
 copy-requires : tie.Need-copy-requires Inv-loop μ-loop
 copy-requires c κs =
@@ -107,8 +106,17 @@ copy-requires c κs =
     let at-loop = at-loop-test .before in
     let at-cells = at-loop .before .before .before .before .before in
     let start = at-cells .before .before .before .before .before in
-    let weights = start .args .weights .now in
-    below-length (at-loop .loop .table) ((at-loop .loop .i) * (at-cells .cells .result)) (at-cells .cells .result) (past-first (at-loop .loop .i) (at-cells .cells .result) (λ (z : (at-loop .loop .i) ≡ 0). omega (arith, at-loop .loop .inv .0))) (omega (arith, part-room (at-loop .loop .i) (length weights) (at-cells .cells .result) (let u : (at-loop .loop .i) < (length weights) = omega (arith, at-loop-test .loop-test .taken, at-loop .loop .inv .1 .1 .0 .0) in u), ap (λ y. (length weights) * y) (at-cells .cells .ensures .0), ready-sizes (start .args .first) weights (start .args .costs .now) (start .pre .0), at-loop .loop .inv .1 .1 .1 .1 .0)) ∙ at-cells .cells .ensures .0 ∙ sym (at-loop .loop .inv .1 .1 .1 .0)
+    let f : ℕ = start .args .first in
+    let ws : List ℕ = start .args .weights .now in
+    let w : ℕ = at-cells .cells .result in
+    let we : w ≡ cellCount f = at-cells .cells .ensures .0 in
+    let i : ℕ = at-loop .loop .i in
+    let t : List ℕ = at-loop .loop .table in
+    let inv = at-loop .loop .inv .1 .1 in
+    let l : i < length ws = omega (arith, at-loop-test .loop-test .taken, inv .0 .0) in
+    let r : i * w + w ≤ length ws * w = part-room i (length ws) w l in
+    let p : w ≤ i * w = past-first i w (λ (z : i ≡ 0). omega (arith, at-loop .loop .inv .0)) in
+    below-length t (i * w) w p (omega (arith, r, inv .1 .1 .0)) ∙ we ∙ sym (inv .1 .0)
 
 sub-order : tie.Need-sub-order Inv-loop μ-loop
 sub-order c =
@@ -127,8 +135,7 @@ mul-turn c =
     let at-loop = at-loop-test .before in
     let at-cells = at-loop .before .before .before .before .before in
     let start = at-cells .before .before .before .before .before in
-    let weights = start .args .weights .now in
-    omega (arith, part-room (at-loop .loop .i) (length weights) (at-cells .cells .result) (let u : (at-loop .loop .i) < (length weights) = omega (arith, at-loop-test .loop-test .taken, at-loop .loop .inv .1 .1 .0 .0) in u), ap (λ y. (length weights) * y) (at-cells .cells .ensures .0), ready-sizes (start .args .first) weights (start .args .costs .now) (start .pre .0))
+    omega (arith, part-room (at-loop .loop .i) (length (start .args .weights .now)) (at-cells .cells .result) (let u : (at-loop .loop .i) < (length (start .args .weights .now)) = omega (arith, at-loop-test .loop-test .taken, at-loop .loop .inv .1 .1 .0 .0) in u), ap (λ y. (length (start .args .weights .now)) * y) (at-cells .cells .ensures .0), ready-sizes (start .args .first) (start .args .weights .now) (start .args .costs .now) (start .pre .0))
 
 sub-turn : tie.Need-sub-turn Inv-loop μ-loop
 sub-turn c = search needs
@@ -142,8 +149,7 @@ part-turn-end c =
     let at-loop = at-loop-test .before in
     let at-cells = at-loop .before .before .before .before .before in
     let start = at-cells .before .before .before .before .before in
-    let weights = start .args .weights .now in
-    omega (arith, part-room (at-loop .loop .i) (length weights) (at-cells .cells .result) (let u : (at-loop .loop .i) < (length weights) = omega (arith, at-loop-test .loop-test .taken, at-loop .loop .inv .1 .1 .0 .0) in u), ap (λ y. (length weights) * y) (at-cells .cells .ensures .0), ready-sizes (start .args .first) weights (start .args .costs .now) (start .pre .0), at-loop .loop .inv .1 .1 .1 .1 .0)
+    omega (arith, part-room (at-loop .loop .i) (length (start .args .weights .now)) (at-cells .cells .result) (let u : (at-loop .loop .i) < (length (start .args .weights .now)) = omega (arith, at-loop-test .loop-test .taken, at-loop .loop .inv .1 .1 .0 .0) in u), ap (λ y. (length (start .args .weights .now)) * y) (at-cells .cells .ensures .0), ready-sizes (start .args .first) (start .args .weights .now) (start .args .costs .now) (start .pre .0), at-loop .loop .inv .1 .1 .1 .1 .0)
 
 turn-requires : tie.Need-turn-requires Inv-loop μ-loop
 turn-requires c κs =
@@ -153,8 +159,17 @@ turn-requires c κs =
     let at-loop = at-loop-test .before in
     let at-cells = at-loop .before .before .before .before .before in
     let start = at-cells .before .before .before .before .before in
-    let weights = start .args .weights .now in
-    (start .pre .0, (omega (arith, at-order .order .ensures .1, at-loop .loop .inv .1 .1 .0 .0), (omega (arith, at-copy .copy .kept, at-loop .loop .inv .1 .1 .1 .0), part-length (at-loop .loop .table) ((at-loop .loop .i) * (at-cells .cells .result)) (at-cells .cells .result) (omega (arith, part-room (at-loop .loop .i) (length weights) (at-cells .cells .result) (let u : (at-loop .loop .i) < (length weights) = omega (arith, at-loop-test .loop-test .taken, at-loop .loop .inv .1 .1 .0 .0) in u), ap (λ y. (length weights) * y) (at-cells .cells .ensures .0), ready-sizes (start .args .first) weights (start .args .costs .now) (start .pre .0), at-loop .loop .inv .1 .1 .1 .1 .0)) ∙ at-cells .cells .ensures .0)))
+    let f : ℕ = start .args .first in
+    let ws : List ℕ = start .args .weights .now in
+    let D = start .pre .0 in
+    let w : ℕ = at-cells .cells .result in
+    let we : w ≡ cellCount f = at-cells .cells .ensures .0 in
+    let i : ℕ = at-loop .loop .i in
+    let t : List ℕ = at-loop .loop .table in
+    let inv = at-loop .loop .inv .1 .1 in
+    let l : i < length ws = omega (arith, at-loop-test .loop-test .taken, inv .0 .0) in
+    let r : i * w + w ≤ length ws * w = part-room i (length ws) w l in
+    (D, (omega (arith, at-order .order .ensures .1, inv .0 .0), (omega (arith, at-copy .copy .kept, inv .1 .0), part-length t (i * w) w (omega (arith, r, inv .1 .1 .0)) ∙ we)))
 
 add-i : tie.Need-add-i Inv-loop μ-loop
 add-i c =
@@ -175,15 +190,23 @@ loop-again c =
     let at-loop = at-loop-test .before in
     let at-cells = at-loop .before .before .before .before .before in
     let start = at-cells .before .before .before .before .before in
-    let weights = start .args .weights .now in
-    let costs = start .args .costs .now in
-    let first = start .args .first in
-    let back = start .args .back in
-    let l : (at-loop .loop .i) < (length weights) = omega (arith, at-loop-test .loop-test .taken, at-loop .loop .inv .1 .1 .0 .0) in
-    let c = table-copied first weights costs (start .pre .0) back (at-loop .loop .i) (at-loop .loop .inv .0) (at-cells .cells .result) (at-cells .cells .ensures .0) (at-loop .loop .table) (at-loop .loop .inv .1 .1 .1 .1 .1) (at-copy .copy .ensures) in
-    let n = at-order .order .ensures .0 ∙ ap (λ y. orderOf back y ((at-loop .loop .i) - 1)) (at-loop .loop .inv .1 .1 .0 .0) in
-    let k = table-turn first weights costs (start .pre .0) back (at-loop .loop .i) (at-loop .loop .inv .0) (at-cells .cells .result) (at-cells .cells .ensures .0) (at-order .order .result) l n (omega (arith, at-order .order .ensures .1, at-loop .loop .inv .1 .1 .0 .0)) c (at-turn .turn .ensures) in
-    (omega arith, (omega (arith, l), (at-loop .loop .inv .1 .1 .0, (omega (arith, at-copy .copy .kept, at-loop .loop .inv .1 .1 .1 .0), (next-length first weights costs (start .pre .0) back (at-loop .loop .i) (at-loop .loop .inv .0) (at-cells .cells .result) (at-cells .cells .ensures .0) (at-loop .loop .table) (omega (arith, part-room (at-loop .loop .i) (length weights) (at-cells .cells .result) l, at-loop .loop .inv .1 .1 .1 .1 .0)) k ∙ at-loop .loop .inv .1 .1 .1 .1 .0, table-next first weights costs (start .pre .0) back (at-loop .loop .i) (at-loop .loop .inv .0) (at-cells .cells .result) (at-cells .cells .ensures .0) (at-loop .loop .table) (at-loop .loop .inv .1 .1 .1 .1 .1) k)))))
+    let f : ℕ = start .args .first in
+    let ws : List ℕ = start .args .weights .now in
+    let cs : List ℕ = start .args .costs .now in
+    let D = start .pre .0 in
+    let w : ℕ = at-cells .cells .result in
+    let we : w ≡ cellCount f = at-cells .cells .ensures .0 in
+    let i : ℕ = at-loop .loop .i in
+    let t : List ℕ = at-loop .loop .table in
+    let inv = at-loop .loop .inv .1 .1 in
+    let l : i < length ws = omega (arith, at-loop-test .loop-test .taken, inv .0 .0) in
+    let r : i * w + w ≤ length ws * w = part-room i (length ws) w l in
+    let back : Bool = start .args .back in
+    let c = table-copied f ws cs D back i (at-loop .loop .inv .0) w we t (inv .1 .1 .1) (at-copy .copy .ensures) in
+    let n = at-order .order .ensures .0 ∙ ap (λ y. orderOf back y (i - 1)) (inv .0 .0) in
+    let k = table-turn f ws cs D back i (at-loop .loop .inv .0) w we (at-order .order .result) l n (omega (arith, at-order .order .ensures .1, inv .0 .0)) c (at-turn .turn .ensures) in
+    let m = next-length f ws cs D back i (at-loop .loop .inv .0) w we t (omega (arith, r, inv .1 .1 .0)) k in
+    (omega arith, (omega (arith, l), (inv .0, (omega (arith, at-copy .copy .kept, inv .1 .0), (m ∙ inv .1 .1 .0, table-next f ws cs D back i (at-loop .loop .inv .0) w we t (inv .1 .1 .1) k)))))
 
 same-length : tie.Need-same-length Inv-loop μ-loop
 same-length c = search needs
@@ -200,8 +223,16 @@ returns c =
     let at-loop = c .before in
     let at-cells = at-loop .before .before .before .before .before in
     let start = at-cells .before .before .before .before .before in
-    let weights = start .args .weights .now in
-    let e : (at-loop .loop .i) ≡ (length weights) = omega (arith, c .loop-test .left, at-loop .loop .inv .1 .0, at-loop .loop .inv .1 .1 .0 .0) in table-end (start .args .first) weights (start .args .costs .now) (start .pre .0) (start .args .back) (at-loop .loop .i) (at-loop .loop .inv .0) (at-cells .cells .result) (at-cells .cells .ensures .0) (at-loop .loop .table) (length weights) (at-loop .loop .inv .1 .1 .1 .1 .1) e (at-loop .loop .inv .1 .1 .1 .1 .0)
+    let f : ℕ = start .args .first in
+    let ws : List ℕ = start .args .weights .now in
+    let cs : List ℕ = start .args .costs .now in
+    let D = start .pre .0 in
+    let w : ℕ = at-cells .cells .result in
+    let we : w ≡ cellCount f = at-cells .cells .ensures .0 in
+    let i : ℕ = at-loop .loop .i in
+    let inv = at-loop .loop .inv .1 .1 in
+    let e : i ≡ length ws = omega (arith, c .loop-test .left, at-loop .loop .inv .1 .0, inv .0 .0) in
+    table-end f ws cs D (start .args .back) i (at-loop .loop .inv .0) w we (at-loop .loop .table) (length ws) (inv .1 .1 .1) e (inv .1 .1 .0)
 
 pub fill-spec : {M : Type 1} → statement M
 fill-spec =

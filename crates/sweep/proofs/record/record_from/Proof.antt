@@ -1,9 +1,10 @@
 -- Shifts, then groups, are the record: the rows joined from both sweeps are the sent costs.
-use mathlib.Core.Path.{refl, ap, ap₂, _∙_, sym}
-use Prim.Native.Nat.{_+_, _-_, _*_}
+use mathlib.Core.Path.{_≡_, refl, ap, ap₂, _∙_, sym}
+use mathlib.Core.List.{List}
+use Prim.Native.Nat.{ℕ, _+_, _-_, _*_, _<_}
 use native.Mathlib.Omega.{arith}
 use borrow.Author.Needs.{needs}
-use lib.ListN.{length, length-append, length-take, length-drop}
+use lib.ListN.{length, getD, length-append, length-take, length-drop}
 use lib.Seq.{take-at}
 use lib.Pow.{pow-pos}
 use native.Mathlib.Nat.{mul-comm}
@@ -60,10 +61,18 @@ sent-all-requires c κs =
     let at-rule-of = at-size .before in
     let at-shared-slice-known2 = at-rule-of .before .before .before .before .before in
     let start = at-shared-slice-known2 .before .before in
-    let weights = start .args .weights .now in
-    let costs = start .args .costs .now in
-    let first = start .args .first in
-    rows-joinable first weights costs (start .pre .0) (λ i. omega (arith, at-shared-slice-known2 .shared-slice-known2 .given i)) (start .args .before .now) (start .args .after .now) (start .pre .1 .0) (ap (λ (r : Rule). r .greatest) (at-rule-of .rule-of .ensures)) (at-size .size .ensures .0) (at-index .index .ensures .0 ∙ ap (λ (r : Rule). r .k) (at-rule-of .rule-of .ensures)) (take-at _ _ (length weights) (ap length (at-shifts .shifts .ensures) ∙ shifts-length first weights costs (start .pre .0)) ∙ at-shifts .shifts .ensures) (start .args .sent .now) (start .pre .1 .1 .0)
+    let ws : List ℕ = start .args .weights .now in
+    let cs : List ℕ = start .args .costs .now in
+    let f : ℕ = start .args .first in
+    let D = start .pre .0 in
+    let bytes : (i : ℕ) → getD cs i 0 < 256 = λ i. omega (arith, at-shared-slice-known2 .shared-slice-known2 .given i) in
+    let eq = at-size .size .ensures .0 in
+    let ek = at-index .index .ensures .0 ∙ ap (λ (r : Rule). r .k) (at-rule-of .rule-of .ensures) in
+    let eg = ap (λ (r : Rule). r .greatest) (at-rule-of .rule-of .ensures) in
+    let S : List ℕ = shiftsOf (powerOf f) ws cs in
+    let sl : length S ≡ length ws = shifts-length f ws cs D in
+    let es = take-at _ _ (length ws) (ap length (at-shifts .shifts .ensures) ∙ sl) ∙ at-shifts .shifts .ensures in
+    rows-joinable f ws cs D bytes (start .args .before .now) (start .args .after .now) (start .pre .1 .0) eg eq ek es (start .args .sent .now) (start .pre .1 .1 .0)
 
 sub-groups : tie.Need-sub-groups
 sub-groups c =
@@ -87,10 +96,24 @@ groups-requires c κs =
     let at-rule-of = at-size .before in
     let at-shared-slice-known2 = at-rule-of .before .before .before .before .before in
     let start = at-shared-slice-known2 .before .before in
-    let weights = start .args .weights .now in
-    let costs = start .args .costs .now in
-    let first = start .args .first in
-    ((omega (arith, at-sent-all .sent-all .kept, start .pre .1 .1 .0, ap (λ y. (length weights) * y) (at-size .size .ensures .0)), (omega (arith, start .pre .0 .few), (omega (arith, (at-index .index .ensures .0 ∙ ap (λ (r : Rule). r .k) (at-rule-of .rule-of .ensures)), most-few first), omega (arith, (at-size .size .ensures .0), pow-pos (powerOf first))))), (sent-fits first weights costs (start .pre .0) (λ i. omega (arith, at-shared-slice-known2 .shared-slice-known2 .given i)) (at-size .size .ensures .0) (at-index .index .ensures .0 ∙ ap (λ (r : Rule). r .k) (at-rule-of .rule-of .ensures)) _ (rows-are first weights costs (start .pre .0) (λ i. omega (arith, at-shared-slice-known2 .shared-slice-known2 .given i)) (start .args .before .now) (start .args .after .now) (start .pre .1 .0) (ap (λ (r : Rule). r .greatest) (at-rule-of .rule-of .ensures)) (at-size .size .ensures .0) (at-index .index .ensures .0 ∙ ap (λ (r : Rule). r .k) (at-rule-of .rule-of .ensures)) (take-at _ _ (length weights) (ap length (at-shifts .shifts .ensures) ∙ shifts-length first weights costs (start .pre .0)) ∙ at-shifts .shifts .ensures) (at-sent-all .sent-all .ensures)), rest-length (shiftsOf (powerOf first) weights costs) (start .args .out .now) (length weights) _ ((1 + 2 * mostOf first) * (sizeOf first - 1)) (at-shifts .shifts .ensures) (shifts-length first weights costs (start .pre .0)) refl (start .pre .1 .1 .1) ∙ (ap₂ (λ k q. (1 + 2 * k) * (q - 1)) (sym (at-index .index .ensures .0 ∙ ap (λ (r : Rule). r .k) (at-rule-of .rule-of .ensures))) (sym (at-size .size .ensures .0)) ∙ mul-comm (1 + 2 * (at-index .index .result)) ((at-size .size .result) - 1))))
+    let ws : List ℕ = start .args .weights .now in
+    let cs : List ℕ = start .args .costs .now in
+    let f : ℕ = start .args .first in
+    let D = start .pre .0 in
+    let bytes : (i : ℕ) → getD cs i 0 < 256 = λ i. omega (arith, at-shared-slice-known2 .shared-slice-known2 .given i) in
+    let eq = at-size .size .ensures .0 in
+    let ek = at-index .index .ensures .0 ∙ ap (λ (r : Rule). r .k) (at-rule-of .rule-of .ensures) in
+    let eg = ap (λ (r : Rule). r .greatest) (at-rule-of .rule-of .ensures) in
+    let S : List ℕ = shiftsOf (powerOf f) ws cs in
+    let sl : length S ≡ length ws = shifts-length f ws cs D in
+    let es = take-at _ _ (length ws) (ap length (at-shifts .shifts .ensures) ∙ sl) ∙ at-shifts .shifts .ensures in
+    let R = rows-are f ws cs D bytes (start .args .before .now) (start .args .after .now) (start .pre .1 .0) eg eq ek es (at-sent-all .sent-all .ensures) in
+    let n = rest-length S (start .args .out .now) (length ws) _ ((1 + 2 * mostOf f) * (sizeOf f - 1)) (at-shifts .shifts .ensures) sl refl (start .pre .1 .1 .1) in
+    let m : (1 + 2 * mostOf f) * (sizeOf f - 1) ≡ (at-size .size .result - 1) * (1 + 2 * at-index .index .result) =
+    ap₂ (λ k q. (1 + 2 * k) * (q - 1)) (sym ek) (sym eq) ∙ mul-comm (1 + 2 * at-index .index .result) (at-size .size .result - 1) in (
+      (omega (arith, at-sent-all .sent-all .kept, start .pre .1 .1 .0, ap (λ y. length ws * y) eq), (omega (arith, D .few), (omega (arith, ek, most-few f), omega (arith, eq, pow-pos (powerOf f))))),
+      (sent-fits f ws cs D bytes eq ek _ R, n ∙ m),
+    )
 
 same-length : tie.Need-same-length
 same-length c = search needs
@@ -108,10 +131,20 @@ returns c =
     let at-rule-of = at-size .before in
     let at-shared-slice-known2 = at-rule-of .before .before .before .before .before in
     let start = at-shared-slice-known2 .before .before in
-    let weights = start .args .weights .now in
-    let costs = start .args .costs .now in
-    let first = start .args .first in
-    two-parts (shiftsOf (powerOf first) weights costs) _ (start .args .out .now) (length weights) _ (at-shifts .shifts .ensures) (at-groups .groups .ensures) (shifts-length first weights costs (start .pre .0)) refl (omega (arith, start .pre .1 .1 .1)) ∙ record-is first weights costs (start .pre .0) (λ i. omega (arith, at-shared-slice-known2 .shared-slice-known2 .given i)) (at-size .size .ensures .0) (at-index .index .ensures .0 ∙ ap (λ (r : Rule). r .k) (at-rule-of .rule-of .ensures)) _ (rows-are first weights costs (start .pre .0) (λ i. omega (arith, at-shared-slice-known2 .shared-slice-known2 .given i)) (start .args .before .now) (start .args .after .now) (start .pre .1 .0) (ap (λ (r : Rule). r .greatest) (at-rule-of .rule-of .ensures)) (at-size .size .ensures .0) (at-index .index .ensures .0 ∙ ap (λ (r : Rule). r .k) (at-rule-of .rule-of .ensures)) (take-at _ _ (length weights) (ap length (at-shifts .shifts .ensures) ∙ shifts-length first weights costs (start .pre .0)) ∙ at-shifts .shifts .ensures) (at-sent-all .sent-all .ensures))
+    let ws : List ℕ = start .args .weights .now in
+    let cs : List ℕ = start .args .costs .now in
+    let f : ℕ = start .args .first in
+    let D = start .pre .0 in
+    let bytes : (i : ℕ) → getD cs i 0 < 256 = λ i. omega (arith, at-shared-slice-known2 .shared-slice-known2 .given i) in
+    let eq = at-size .size .ensures .0 in
+    let ek = at-index .index .ensures .0 ∙ ap (λ (r : Rule). r .k) (at-rule-of .rule-of .ensures) in
+    let eg = ap (λ (r : Rule). r .greatest) (at-rule-of .rule-of .ensures) in
+    let S : List ℕ = shiftsOf (powerOf f) ws cs in
+    let sl : length S ≡ length ws = shifts-length f ws cs D in
+    let es = take-at _ _ (length ws) (ap length (at-shifts .shifts .ensures) ∙ sl) ∙ at-shifts .shifts .ensures in
+    let R = rows-are f ws cs D bytes (start .args .before .now) (start .args .after .now) (start .pre .1 .0) eg eq ek es (at-sent-all .sent-all .ensures) in
+    two-parts S _ (start .args .out .now) (length ws) _ (at-shifts .shifts .ensures) (at-groups .groups .ensures) sl refl (omega (arith, start .pre .1 .1 .1))
+    ∙ record-is f ws cs D bytes eq ek _ R
 
 pub record-from-spec : {M : Type 1} → statement M
 record-from-spec =

@@ -14,8 +14,7 @@ cells-requires c κs = search needs
 mul-n : tie.Need-mul-n
 mul-n c =
     let start = c .before .before .before .before .before .before .before .before in
-    let weights = start .args .weights .now in
-    omega (arith, ready-sizes (start .args .first) weights (start .args .costs .now) (start .pre .0), c .cells .ensures .0, ap (λ y. (length weights) * y) (c .cells .ensures .0))
+    omega (arith, ready-sizes (start .args .first) (start .args .weights .now) (start .args .costs .now) (start .pre .0), c .cells .ensures .0, ap (λ y. (length (start .args .weights .now)) * y) (c .cells .ensures .0))
 
 size-requires : tie.Need-size-requires
 size-requires c κs = search needs
@@ -23,81 +22,77 @@ size-requires c κs = search needs
 mul-m : tie.Need-mul-m
 mul-m c =
     let start = c .before .before .before .before .before .before .before .before .before in
-    let weights = start .args .weights .now in
-    omega (arith, ready-sizes (start .args .first) weights (start .args .costs .now) (start .pre .0), ap (λ y. (length weights) * y) (c .size .ensures .0))
+    omega (arith, ready-sizes (start .args .first) (start .args .weights .now) (start .args .costs .now) (start .pre .0), ap (λ y. (length (start .args .weights .now)) * y) (c .size .ensures .0))
 
 slice-relend-prefix-record-with : tie.Need-slice-relend-prefix-record-with
 slice-relend-prefix-record-with c =
     let at-cells = c .before in
     let start = at-cells .before .before .before .before .before .before .before .before in
-    let weights = start .args .weights .now in
-    omega (arith, ready-sizes (start .args .first) weights (start .args .costs .now) (start .pre .0), at-cells .cells .ensures .0, ap (λ y. (length weights) * y) (at-cells .cells .ensures .0), c .size .ensures .0, ap (λ y. (length weights) * y) (c .size .ensures .0), start .pre .1 .0, start .pre .1 .1 .0)
+    omega (arith, ready-sizes (start .args .first) (start .args .weights .now) (start .args .costs .now) (start .pre .0), at-cells .cells .ensures .0, ap (λ y. (length (start .args .weights .now)) * y) (at-cells .cells .ensures .0), c .size .ensures .0, ap (λ y. (length (start .args .weights .now)) * y) (c .size .ensures .0), start .pre .1 .0, start .pre .1 .1 .0)
 
 slice-aggregate-record-with : tie.Need-slice-aggregate-record-with
 slice-aggregate-record-with c =
     let at-size = c .before in
     let at-cells = at-size .before in
     let start = at-cells .before .before .before .before .before .before .before .before in
-    let weights = start .args .weights .now in
-    simp length-take (omega (arith, ready-sizes (start .args .first) weights (start .args .costs .now) (start .pre .0), at-cells .cells .ensures .0, ap (λ y. (length weights) * y) (at-cells .cells .ensures .0), at-size .size .ensures .0, ap (λ y. (length weights) * y) (at-size .size .ensures .0), start .pre .1 .0, start .pre .1 .1 .0))
+    simp length-take (omega (arith, ready-sizes (start .args .first) (start .args .weights .now) (start .args .costs .now) (start .pre .0), at-cells .cells .ensures .0, ap (λ y. (length (start .args .weights .now)) * y) (at-cells .cells .ensures .0), at-size .size .ensures .0, ap (λ y. (length (start .args .weights .now)) * y) (at-size .size .ensures .0), start .pre .1 .0, start .pre .1 .1 .0))
 
 slice-relend-prefix-record-with-2 : tie.Need-slice-relend-prefix-record-with-2
 slice-relend-prefix-record-with-2 c =
     let at-size = c .before in
     let at-cells = at-size .before in
     let start = at-cells .before .before .before .before .before .before .before .before in
-    let weights = start .args .weights .now in
-    omega (arith, ready-sizes (start .args .first) weights (start .args .costs .now) (start .pre .0), at-cells .cells .ensures .0, ap (λ y. (length weights) * y) (at-cells .cells .ensures .0), at-size .size .ensures .0, ap (λ y. (length weights) * y) (at-size .size .ensures .0), start .pre .1 .0, start .pre .1 .1 .0)
+    omega (arith, ready-sizes (start .args .first) (start .args .weights .now) (start .args .costs .now) (start .pre .0), at-cells .cells .ensures .0, ap (λ y. (length (start .args .weights .now)) * y) (at-cells .cells .ensures .0), at-size .size .ensures .0, ap (λ y. (length (start .args .weights .now)) * y) (at-size .size .ensures .0), start .pre .1 .0, start .pre .1 .1 .0)
 
 slice-aggregate-record-with-2 : tie.Need-slice-aggregate-record-with-2
 slice-aggregate-record-with-2 c =
     let at-size = c .before .before in
     let at-cells = at-size .before in
     let start = at-cells .before .before .before .before .before .before .before .before in
-    let weights = start .args .weights .now in
-    simp length-take (omega (arith, ready-sizes (start .args .first) weights (start .args .costs .now) (start .pre .0), at-cells .cells .ensures .0, ap (λ y. (length weights) * y) (at-cells .cells .ensures .0), at-size .size .ensures .0, ap (λ y. (length weights) * y) (at-size .size .ensures .0), start .pre .1 .0, start .pre .1 .1 .0))
+    simp length-take (omega (arith, ready-sizes (start .args .first) (start .args .weights .now) (start .args .costs .now) (start .pre .0), at-cells .cells .ensures .0, ap (λ y. (length (start .args .weights .now)) * y) (at-cells .cells .ensures .0), at-size .size .ensures .0, ap (λ y. (length (start .args .weights .now)) * y) (at-size .size .ensures .0), start .pre .1 .0, start .pre .1 .1 .0))
 
 slice-relend-prefix-record-with-3 : tie.Need-slice-relend-prefix-record-with-3
 slice-relend-prefix-record-with-3 c =
     let at-size = c .before .before in
     let at-cells = at-size .before in
     let start = at-cells .before .before .before .before .before .before .before .before in
-    let weights = start .args .weights .now in
-    omega (arith, ready-sizes (start .args .first) weights (start .args .costs .now) (start .pre .0), at-cells .cells .ensures .0, ap (λ y. (length weights) * y) (at-cells .cells .ensures .0), at-size .size .ensures .0, ap (λ y. (length weights) * y) (at-size .size .ensures .0), start .pre .1 .0, start .pre .1 .1 .0)
+    omega (arith, ready-sizes (start .args .first) (start .args .weights .now) (start .args .costs .now) (start .pre .0), at-cells .cells .ensures .0, ap (λ y. (length (start .args .weights .now)) * y) (at-cells .cells .ensures .0), at-size .size .ensures .0, ap (λ y. (length (start .args .weights .now)) * y) (at-size .size .ensures .0), start .pre .1 .0, start .pre .1 .1 .0)
 
 slice-aggregate-record-with-3 : tie.Need-slice-aggregate-record-with-3
 slice-aggregate-record-with-3 c =
     let at-size = c .before .before .before in
     let at-cells = at-size .before in
     let start = at-cells .before .before .before .before .before .before .before .before in
-    let weights = start .args .weights .now in
-    simp length-take (omega (arith, ready-sizes (start .args .first) weights (start .args .costs .now) (start .pre .0), at-cells .cells .ensures .0, ap (λ y. (length weights) * y) (at-cells .cells .ensures .0), at-size .size .ensures .0, ap (λ y. (length weights) * y) (at-size .size .ensures .0), start .pre .1 .0, start .pre .1 .1 .0))
+    simp length-take (omega (arith, ready-sizes (start .args .first) (start .args .weights .now) (start .args .costs .now) (start .pre .0), at-cells .cells .ensures .0, ap (λ y. (length (start .args .weights .now)) * y) (at-cells .cells .ensures .0), at-size .size .ensures .0, ap (λ y. (length (start .args .weights .now)) * y) (at-size .size .ensures .0), start .pre .1 .0, start .pre .1 .1 .0))
 
 slice-relend-prefix-record-with-4 : tie.Need-slice-relend-prefix-record-with-4
 slice-relend-prefix-record-with-4 c =
     let at-size = c .before .before .before in
     let at-cells = at-size .before in
     let start = at-cells .before .before .before .before .before .before .before .before in
-    let weights = start .args .weights .now in
-    omega (arith, ready-sizes (start .args .first) weights (start .args .costs .now) (start .pre .0), at-cells .cells .ensures .0, ap (λ y. (length weights) * y) (at-cells .cells .ensures .0), at-size .size .ensures .0, ap (λ y. (length weights) * y) (at-size .size .ensures .0), start .pre .1 .0, start .pre .1 .1 .0)
+    omega (arith, ready-sizes (start .args .first) (start .args .weights .now) (start .args .costs .now) (start .pre .0), at-cells .cells .ensures .0, ap (λ y. (length (start .args .weights .now)) * y) (at-cells .cells .ensures .0), at-size .size .ensures .0, ap (λ y. (length (start .args .weights .now)) * y) (at-size .size .ensures .0), start .pre .1 .0, start .pre .1 .1 .0)
 
 slice-aggregate-record-with-4 : tie.Need-slice-aggregate-record-with-4
 slice-aggregate-record-with-4 c =
     let at-size = c .before .before .before .before in
     let at-cells = at-size .before in
     let start = at-cells .before .before .before .before .before .before .before .before in
-    let weights = start .args .weights .now in
-    simp length-take (omega (arith, ready-sizes (start .args .first) weights (start .args .costs .now) (start .pre .0), at-cells .cells .ensures .0, ap (λ y. (length weights) * y) (at-cells .cells .ensures .0), at-size .size .ensures .0, ap (λ y. (length weights) * y) (at-size .size .ensures .0), start .pre .1 .0, start .pre .1 .1 .0))
+    simp length-take (omega (arith, ready-sizes (start .args .first) (start .args .weights .now) (start .args .costs .now) (start .pre .0), at-cells .cells .ensures .0, ap (λ y. (length (start .args .weights .now)) * y) (at-cells .cells .ensures .0), at-size .size .ensures .0, ap (λ y. (length (start .args .weights .now)) * y) (at-size .size .ensures .0), start .pre .1 .0, start .pre .1 .1 .0))
 
 record-with-requires : tie.Need-record-with-requires
 record-with-requires c κs =
     let at-size = c .before .before .before .before .before in
     let at-cells = at-size .before in
     let start = at-cells .before .before .before .before .before .before .before .before in
-    let weights = start .args .weights .now in
-    let costs = start .args .costs .now in
-    let first = start .args .first in
-    (start .pre .0, (simp length-take (omega (arith, ready-sizes first weights costs (start .pre .0), at-cells .cells .ensures .0, ap (λ y. (length weights) * y) (at-cells .cells .ensures .0), at-size .size .ensures .0, ap (λ y. (length weights) * y) (at-size .size .ensures .0), start .pre .1 .0, start .pre .1 .1 .0)), (simp length-take (omega (arith, ready-sizes first weights costs (start .pre .0), at-cells .cells .ensures .0, ap (λ y. (length weights) * y) (at-cells .cells .ensures .0), at-size .size .ensures .0, ap (λ y. (length weights) * y) (at-size .size .ensures .0), start .pre .1 .0, start .pre .1 .1 .0)), (simp length-take (omega (arith, ready-sizes first weights costs (start .pre .0), at-cells .cells .ensures .0, ap (λ y. (length weights) * y) (at-cells .cells .ensures .0), at-size .size .ensures .0, ap (λ y. (length weights) * y) (at-size .size .ensures .0), start .pre .1 .0, start .pre .1 .1 .0)), (simp length-take (omega (arith, ready-sizes first weights costs (start .pre .0), at-cells .cells .ensures .0, ap (λ y. (length weights) * y) (at-cells .cells .ensures .0), at-size .size .ensures .0, ap (λ y. (length weights) * y) (at-size .size .ensures .0), start .pre .1 .0, start .pre .1 .1 .0)), start .pre .1 .1 .1)))))
+    let a = (start .args) in
+    let D = start .pre .0 in
+    let z = ready-sizes (a .first) (a .weights .now) (a .costs .now) D in
+    let w = at-cells .cells .ensures .0 in
+    let v = ap (λ y. length (a .weights .now) * y) w in
+    let u = ap (λ y. length (a .weights .now) * y) (at-size .size .ensures .0) in
+    let p = start .pre .1 .0 in
+    let r = start .pre .1 .1 .0 in
+    (D, (simp length-take (omega (arith, z, w, p)), (simp length-take (omega (arith, z, v, r)), (simp length-take (omega (arith, z, v, r)), (simp length-take (omega (arith, z, u, p)), start .pre .1 .1 .1)))))
 
 same-length : tie.Need-same-length
 same-length c = search needs
