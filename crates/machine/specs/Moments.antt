@@ -84,7 +84,7 @@ onward code f zero m = m
 onward code f (suc n) m = pick (eqb (m .stage .state) 1) (onward code f n (iterating code f (m .t) (m .buffers))) m
 
 -- a load, and iterations while running, I of them or more, end with the outcome, t and buffers of one decode call on the buffers as the load found
--- them. Code line and frame are bytes
+-- them. The frame is bytes
 abbrev pub Load-then-steps : Type 0
 Load-then-steps =
     (code f : List ℕ) (C : Code) (b : Buffers) → Accepts code f C → Room C b → ((i : ℕ) → getD f i 0 ≤ 255) → (n : ℕ) → C .limit ≤ n
