@@ -133,7 +133,7 @@ module _ (C : Code) (first n m g limit : ℕ) (ds cs ws : List ℕ) (H : Coded C
         weights = H .tabled .weights;
       }
 
-  degree-count : length (take m ds) ≡ length (C .checks)
+  pub degree-count : length (take m ds) ≡ length (C .checks)
   degree-count = ap length (coded-tables .degrees-is) ∙ length-map (C .checks) (λ es. length es)
 
   pub degree-slice : m ≡ length (take m ds)
@@ -248,12 +248,12 @@ module _ (s₀ : List ℕ) (h : Header) (e : headerNumbers h ≡ numbersOf (pars
       }
 
   module _ (first n m g limit : ℕ) (i : h ≡ HeaderRead first n m g limit) where
-    read : Accepted s₀ first n m g limit
+    pub read : Accepted s₀ first n m g limit
     read = header-read s₀ h e first n m g limit i
 
     -- with the numbers as wider ones
     module _ (N M G : ℕ) (j : N ≡ n) (k : M ≡ m) (l : G ≡ g) (ds cs ws : List ℕ) (T : (C : Code) → parse s₀ ≡ good C → Tabled C ds cs ws) where
-      coded : Coded (read .code) first N M G limit ds cs ws
+      pub coded : Coded (read .code) first N M G limit ds cs ws
       coded =
           record {
             good = parse-good s₀ (read .code) (read .parsed);

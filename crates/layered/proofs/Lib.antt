@@ -4,5 +4,7 @@ pub mod Satisfied
 pub mod Turns
 pub mod Passes
 pub mod Runs
+pub mod Resuming
 pub mod Decoded
+pub mod Steps
 pub mod TwoCalls

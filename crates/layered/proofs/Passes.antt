@@ -29,7 +29,7 @@ pub upto-ext : {A : Type 0} (n : ℕ) (f g : ℕ → A → A) (s : A) → ((k : 
 upto-ext zero f g s h = refl
 upto-ext (suc n) f g s h = h n (omega arith) (upto f n s) ∙ ap (g n) (upto-ext n f g s (λ k i. h k (omega arith)))
 
-all-ext : (n : ℕ) (f g : ℕ → Bool) → ((k : ℕ) → k < n → f k ≡ g k) → allTo f n ≡ allTo g n
+pub all-ext : (n : ℕ) (f g : ℕ → Bool) → ((k : ℕ) → k < n → f k ≡ g k) → allTo f n ≡ allTo g n
 all-ext zero f g h = refl
 all-ext (suc n) f g h = ap₂ (λ a b. a && b) (all-ext n f g (λ k i. h k (omega arith))) (h n (omega arith))
 

@@ -1,5 +1,5 @@
 -- Costs in range and records of accepted form give all that an update, a test and the next iteration ask for.
-use mathlib.Core.Path.{_≡_, sym, ap, ap₂, _∙_}
+use mathlib.Core.Path.{_≡_, refl, sym, ap, ap₂, _∙_}
 use mathlib.Core.Bool.{Bool, true, false}
 use mathlib.Core.List.{List}
 use Prim.Native.Nat.{ℕ, suc, _+_, _-_, _*_, _≤_, _<_}
@@ -109,6 +109,10 @@ module _ (first g : ℕ) (ds cs ws P s : List ℕ) (start : Bool) (R : Running (
   pass-running P′ s′ e =
       let o : lent P′ s′ ≡ pass C start (lent P s) = e ∙ tables-pass C first g ds cs ws (R .tables) start (lent P s) in
       record { code = C; good = R .good; tables = R .tables; passable = rw o (pass-passable C (R .good) start (lent P s) (R .passable .ranged) (R .passable .room)) }
+
+  pub running-columns : (P′ s′ : List ℕ) (e : lent P′ s′ ≡ passOver (graph first g ds cs ws) start (lent P s)) → pass-running P′ s′ e .code .columns ≡ C .columns
+  unfolding pass-running
+  running-columns P′ s′ e = refl
 
   -- what the test asks
   pub test-room : (p : ℕ) → p ≡ powerOf first → (z : List ℕ) → length z ≡ C .columns → SettledRoom p ds cs ws P z

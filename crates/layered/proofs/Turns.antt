@@ -128,7 +128,7 @@ heard-old first g true ws r n h = heard-zeros first g ws r n h
 heard-old first g false ws r n h = heard-expansion first g ws r n h
 
 -- check and expand accept: none of 6, 9, 11
-weights-pass : (first : ℕ) (ws : List ℕ) → Weighed first ws → weightsOk (sizeOf first) ws ≡ true
+pub weights-pass : (first : ℕ) (ws : List ℕ) → Weighed first ws → weightsOk (sizeOf first) ws ≡ true
 unfolding weightOk
 weights-pass first ws W = to-true (all-of _ (length ws) (λ n h. rw (ne-eqb (getD ws n 0) 0 (W .some n h)) (lt→ltb _ _ (W .small n h))))
 

@@ -5,3 +5,4 @@ pub mod Parity
 pub mod Turns
 pub mod Passes
 pub mod Frames
+pub mod Stages

@@ -59,8 +59,11 @@ unfoldable pub passOver : Graph → Bool → Lent → Lent
 passOver T start l = upto (turnAt T start) (length (T .degrees)) l
 
 -- the decisions of n columns satisfy every check
+abbrev pub testOn : ℕ → List ℕ → List ℕ → List ℕ → ℕ → List ℕ → Bool
+testOn first ds cs ws n P = allHold (powerOf first) ds cs ws (decisionsOf (sizeOf first) P n) (length ds)
+
 abbrev pub settledOn : Graph → ℕ → List ℕ → Bool
-settledOn T n P = allHold (powerOf (T .first)) (T .degrees) (T .columns) (T .weights) (decisionsOf (sizeOf (T .first)) P n) (length (T .degrees))
+settledOn T n P = testOn (T .first) (T .degrees) (T .columns) (T .weights) n P
 
 -- at most k iterations more, after t
 unfoldable pub goOn : Graph → ℕ → ℕ → ℕ → Lent → Ended

@@ -12,7 +12,7 @@ ghost use Rattle.layered.specs.Parity.{decisionsOf, marginsOf};
 ghost use Rattle.layered.specs.Passes.{graph, lent, passOver, goOn, endedIn, PassRoom, RunRoom};
 
 // "An iteration .. takes the checks in code order." The places of a check's edges and of its record are carried along.
-fn pass(
+pub fn pass(
     first: u8,
     g: u16,
     start: bool,

@@ -5,13 +5,17 @@ mod frame;
 mod iterate;
 mod num;
 mod parity;
+mod resume;
+mod stages;
 mod update;
 
 ghost use mathlib.Core.Path.{_≡_};
 ghost use Prim.Native.Nat.{_≤_};
 ghost use Rattle.machine.specs.CodeLine.{parse, numbersOf, columnsRead};
 ghost use Rattle.machine.specs.Decoding.{lending, Decodes};
+ghost use Rattle.machine.specs.Moments.{Moves, loading, iterating};
 ghost use Rattle.layered.specs.Answers.{answerReply};
+ghost use Rattle.layered.specs.Stages.{stageOf};
 
 // How a run of the machine ended, with its iterations.
 pub enum Outcome {
@@ -65,6 +69,76 @@ pub fn decode_counted(
     let mut arrived = [0u8; 2048];
     let mut sent = [0u8; 2048];
     decoding::decode_in(
+        code,
+        frame,
+        symbols,
+        costs,
+        store,
+        margins,
+        &mut degrees,
+        &mut columns,
+        &mut weights,
+        &mut arrived,
+        &mut sent,
+    )
+}
+
+// Where a load or an iteration ended.
+pub enum Stage {
+    Running,
+    Found,
+    NotFound,
+    Refused(u8),
+}
+
+// Loads a frame and runs the first test: the buffers hold the first decisions with their margins and the frame as costs; the store is only
+// asked for its length. Refuses as decode does.
+pub fn load(
+    code: &[u8],
+    frame: &[u8],
+    symbols: &mut [u8],
+    costs: &mut [u16],
+    store: &[u8],
+    margins: &mut [u16],
+) -> Stage
+    ensures { λ r. ⌜ Moves (loading (now (code .entry)) (now (frame .entry)) (lending (now (symbols .entry)) (now (costs .entry)) (now (store .entry)) (now (margins .entry)))) (stageOf r) (lending (now (symbols .exit)) (now (costs .exit)) (now (store .entry)) (now (margins .exit))) ⌝ }
+{
+    let mut degrees = [0u8; 128];
+    let mut columns = [0u16; 1024];
+    let mut weights = [0u8; 1024];
+    stages::load_in(
+        code,
+        frame,
+        symbols,
+        costs,
+        store,
+        margins,
+        &mut degrees,
+        &mut columns,
+        &mut weights,
+    )
+}
+
+// One iteration after t of them, which goes on from the lent costs and records, whoever wrote them. Refused: as decode, then 13, a cost above
+// 510 or a column without a 0 in the cost buffer, then, if t is not 0, 16, a stored record that is not of accepted form.
+pub fn step(
+    t: u8,
+    code: &[u8],
+    frame: &[u8],
+    symbols: &mut [u8],
+    costs: &mut [u16],
+    store: &mut [u8],
+    margins: &mut [u16],
+) -> Stage
+    ensures { λ r. ⌜ Moves (iterating (now (code .entry)) (now (frame .entry)) t (lending (now (symbols .entry)) (now (costs .entry)) (now (store .entry)) (now (margins .entry)))) (stageOf r) (lending (now (symbols .exit)) (now (costs .exit)) (now (store .exit)) (now (margins .exit))) ⌝ }
+{
+    let mut degrees = [0u8; 128];
+    let mut columns = [0u16; 1024];
+    let mut weights = [0u8; 1024];
+    let mut arrived = [0u8; 2048];
+    let mut sent = [0u8; 2048];
+    stages::step_in(
+        t,
         code,
         frame,
         symbols,

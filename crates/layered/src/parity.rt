@@ -44,7 +44,7 @@ fn margin_at(costs: &[u16], z: usize) -> u16
 }
 
 // "the smallest symbol of cost 0", with its margin; without a cost of 0 the number of costs. The search yields by `break`.
-fn decide(costs: &[u16]) -> Decision
+pub fn decide(costs: &[u16]) -> Decision
     ensures { λ r. ⌜ ((r .symbol ≡ decideOf (now (costs .entry)) .symbol) × (r .margin ≡ decideOf (now (costs .entry)) .margin)) × (r .symbol ≤ length (now (costs .entry))) ⌝ }
 {
     let mut x = 0;

@@ -26,6 +26,14 @@ pub record Moment : Type 0 where
 abbrev pub moment : ℕ → ℕ → ℕ → Buffers → Moment
 moment state number t b = record { stage = record { state = state; number = number }; t = t; buffers = b }
 
+-- what a load or an iteration promises: where it ends, and each buffer afterwards
+pub record Moves (m : Moment) (stage : Stage) (b : Buffers) : Type 0 where
+  pub staged : stage ≡ m .stage
+  pub symbols-then : b .symbols ≡ m .buffers .symbols
+  pub costs-then : b .costs ≡ m .buffers .costs
+  pub store-then : b .store ≡ m .buffers .store
+  pub margins-then : b .margins ≡ m .buffers .margins
+
 -- "After a load the state is 4 if decoding would refuse, else 2 if the test holds, else 1." "Entering 4 changes no buffer and sets byte 3 to 0."
 abbrev pub loadingUnder : Read Code → List ℕ → Buffers → Moment
 loadingUnder (bad k) f b = moment 4 k 0 b

@@ -1,0 +1,66 @@
+-- Each cost passed is at most 510; one above ends the loop.
+use mathlib.Core.Path.{_≡_, ap, _∙_, sym}
+use Prim.Native.Nat.{_-_, _≤_}
+use native.Mathlib.Omega.{arith}
+use borrow.Author.Needs.{needs}
+use mathlib.Core.Bool.{true}
+use Rattle.trellis.specs.Lists.{allTo}
+use Rattle.layered.specs.Stages.{lowAt}
+use Rattle.layered.proofs.Resuming.{low-more, low-not}
+use Rattle.layered.proofs.resume.low_costs.Statement.{statement}
+use Rattle.layered.proofs.resume.low_costs.Tie as tie
+
+abbrev Inv-loop : tie.InvT-loop
+Inv-loop costs w i₀ i = (i ≤ w) × (allTo (lowAt costs) i ≡ true)
+
+abbrev μ-loop : tie.MeasureT-loop
+μ-loop costs w i₀ i = w - i
+
+loop-holds : tie.Need-loop-holds Inv-loop μ-loop
+loop-holds c = search needs
+
+mul-if1 : tie.Need-mul-if1 Inv-loop μ-loop
+mul-if1 c = search needs
+
+shared-slice-read-if1 : tie.Need-shared-slice-read-if1 Inv-loop μ-loop
+shared-slice-read-if1 c = search needs
+
+returns : tie.Need-returns Inv-loop μ-loop
+returns c =
+    let l = c .before .before .before in
+    let a = l .before .args in
+    sym (low-not (a .costs .now) (l .loop .i) (a .w) (omega arith) (c .if1 .taken))
+
+add-i : tie.Need-add-i Inv-loop μ-loop
+add-i c = search needs
+
+loop-less : tie.Need-loop-less Inv-loop μ-loop
+loop-less c = search needs
+
+loop-again : tie.Need-loop-again Inv-loop μ-loop
+loop-again c =
+    let l = c .before .before .before in
+    let a = l .before .args in
+    (omega arith, low-more (a .costs .now) (l .loop .i) (omega arith) (l .loop .inv .1))
+
+returns-2 : tie.Need-returns-2 Inv-loop μ-loop
+returns-2 c =
+    let l = c .before in
+    let a = l .before .args in
+    let e : l .loop .i ≡ a .w = omega arith in
+    sym (ap (allTo (lowAt (a .costs .now))) (sym e) ∙ l .loop .inv .1)
+
+pub low-costs-spec : {M : Type 1} → statement M
+low-costs-spec =
+    tie.close
+    (tie.spec
+    Inv-loop
+    μ-loop
+    loop-holds
+    mul-if1
+    shared-slice-read-if1
+    returns
+    add-i
+    loop-less
+    loop-again
+    returns-2)

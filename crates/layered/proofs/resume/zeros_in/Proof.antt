@@ -1,0 +1,94 @@
+-- Each column passed has a cost of 0; a column that has none ends the loop.
+use mathlib.Core.Path.{_≡_, sym, ap, _∙_}
+use mathlib.Core.Bool.{true}
+use Prim.Native.Nat.{_+_, _-_, _*_, _≤_}
+use native.Mathlib.Omega.{arith}
+use borrow.Author.Needs.{needs}
+use lib.ListN.{length}
+use Rattle.trellis.specs.Lists.{allTo}
+use Rattle.machine.specs.CodeLine.{zeroIn}
+use Rattle.machine.proofs.Ranges.{column-room}
+use Rattle.layered.proofs.Decoded.{zeros-more, zeros-not}
+use Rattle.layered.proofs.resume.zeros_in.Statement.{statement}
+use Rattle.layered.proofs.resume.zeros_in.Tie as tie
+
+abbrev Inv-loop : tie.InvT-loop
+Inv-loop costs q n c₀ c = (c ≤ n) × (allTo (zeroIn q costs) c ≡ true)
+
+abbrev μ-loop : tie.MeasureT-loop
+μ-loop costs q n c₀ c = n - c
+
+-- column c's costs are inside
+room : (c : tie.In-loop Inv-loop μ-loop) → let s = c .before .before .before .args in c .before .loop .c * s .q + s .q ≤ length (s .costs .now)
+room c =
+    let s = c .before .before .before in
+    omega (arith, column-room (c .before .loop .c) (s .args .n) (s .args .q) (omega arith))
+
+loop-holds : tie.Need-loop-holds Inv-loop μ-loop
+loop-holds c = search needs
+
+mul-a : tie.Need-mul-a Inv-loop μ-loop
+mul-a c = omega (arith, room c)
+
+add-e : tie.Need-add-e Inv-loop μ-loop
+add-e c = omega (arith, room c)
+
+mul-decide : tie.Need-mul-decide Inv-loop μ-loop
+mul-decide c = omega (arith, room c)
+
+sub-decide : tie.Need-sub-decide Inv-loop μ-loop
+sub-decide c = omega (arith, room c)
+
+part-decide-start : tie.Need-part-decide-start Inv-loop μ-loop
+part-decide-start c = omega (arith, room c)
+
+part-decide-end : tie.Need-part-decide-end Inv-loop μ-loop
+part-decide-end c = omega (arith, room c)
+
+decide-requires : tie.Need-decide-requires Inv-loop μ-loop
+decide-requires c κs = search needs
+
+returns : tie.Need-returns Inv-loop μ-loop
+returns c =
+    let l = c .before .before .before .before .before in
+    let a = l .before .before .args in
+    sym (zeros-not (a .q) (a .n) (l .loop .c) (c .before .before .decide .result .symbol) (a .costs .now) (room (c .before .before .before .before)) (c .before .before .decide .ensures .0 .0) (c .if1 .taken) (omega arith))
+
+add-c : tie.Need-add-c Inv-loop μ-loop
+add-c c = search needs
+
+loop-less : tie.Need-loop-less Inv-loop μ-loop
+loop-less c = search needs
+
+loop-again : tie.Need-loop-again Inv-loop μ-loop
+loop-again c =
+    let l = c .before .before .before .before .before in
+    let a = l .before .before .args in
+    (omega arith, zeros-more (a .q) (a .n) (l .loop .c) (c .before .before .decide .result .symbol) (a .costs .now) (room (c .before .before .before .before)) (c .before .before .decide .ensures .0 .0) (c .if1 .left) (l .loop .inv .1))
+
+returns-2 : tie.Need-returns-2 Inv-loop μ-loop
+returns-2 c =
+    let l = c .before in
+    let a = l .before .before .args in
+    let e : l .loop .c ≡ a .n = omega arith in
+    sym (ap (allTo (zeroIn (a .q) (a .costs .now))) (sym e) ∙ l .loop .inv .1)
+
+pub zeros-in-spec : {M : Type 1} → statement M
+zeros-in-spec =
+    tie.close
+    (tie.spec
+    Inv-loop
+    μ-loop
+    loop-holds
+    mul-a
+    add-e
+    mul-decide
+    sub-decide
+    part-decide-start
+    part-decide-end
+    decide-requires
+    returns
+    add-c
+    loop-less
+    loop-again
+    returns-2)
