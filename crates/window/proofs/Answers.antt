@@ -202,7 +202,7 @@ fit-going false false t h i j =
     }
 
 record Fits (r : Registers) : Type 0 where
-  pub fit : Fit (r .state) (r .refusal) (r .done)
+  pub fit : Fit (r .state) (r .refusal) (r .iterations)
   pub two-bits : r .pending < 4
   pub mask-low : r .mask ≤ 255
 
@@ -268,20 +268,20 @@ module _ (code f : List ℕ) (bytes : Bytes code) where
 
   iterate-fits : (w : Window) → Fits (w .registers) → w .registers .state ≡ 1 → Fits (iterate code f w .registers)
   unfolding iterating
-  iterate-fits w F s = go (resumable code f (w .registers .done) (w .buffers)) refl (known-resumable code f (w .registers .done) (w .buffers))
+  iterate-fits w F s = go (resumable code f (w .registers .iterations) (w .buffers)) refl (known-resumable code f (w .registers .iterations) (w .buffers))
     where
-      go : (r : Read Code) → resumable code f (w .registers .done) (w .buffers) ≡ r → Known r → Fits (taking (iteratingUnder r (w .registers .done) (w .buffers)) (w .registers) .registers)
+      go : (r : Read Code) → resumable code f (w .registers .iterations) (w .buffers) ≡ r → Known r → Fits (taking (iteratingUnder r (w .registers .iterations) (w .buffers)) (w .registers) .registers)
       go (bad k) e h = entering-fits 4 k 0 (w .registers) F (fit-refused k (h .0) (h .1))
       go (good C) e h =
-          let l : C .limit ≤ 255 = omega (arith, limit-is code C (resumable-line code f (w .registers .done) (w .buffers) C e), bytes 5) in
-          let d : w .registers .done < 255 = F .fit .running-low s in
-          let t : ℕ = w .registers .done + 1 in
-          entering-fits (stateAfter C t (further C (w .registers .done) (w .buffers) .costs)) 0 t (w .registers) F
-          (fit-going (settled C (further C (w .registers .done) (w .buffers) .costs)) (leb (C .limit) t) t (omega arith) (λ e. omega arith) (λ e. omega (arith, leb-false (C .limit) t e)))
+          let l : C .limit ≤ 255 = omega (arith, limit-is code C (resumable-line code f (w .registers .iterations) (w .buffers) C e), bytes 5) in
+          let d : w .registers .iterations < 255 = F .fit .running-low s in
+          let t : ℕ = w .registers .iterations + 1 in
+          entering-fits (stateAfter C t (further C (w .registers .iterations) (w .buffers) .costs)) 0 t (w .registers) F
+          (fit-going (settled C (further C (w .registers .iterations) (w .buffers) .costs)) (leb (C .limit) t) t (omega arith) (λ e. omega arith) (λ e. omega (arith, leb-false (C .limit) t e)))
 
   write-fits : (a v : ℕ) → v ≤ 255 → (w : Window) → Fits (w .registers) → Fits (write code f a v w .registers)
   unfolding write command second
-  write-fits a v small w F = go (eqb a 0) (eqb v 1) (eqb v 2) (eqb v 3) (eqb a 4) (eqb (w .registers .state) 1) refl (eqb (w .registers .done) 255)
+  write-fits a v small w F = go (eqb a 0) (eqb v 1) (eqb v 2) (eqb v 3) (eqb a 4) (eqb (w .registers .state) 1) refl (eqb (w .registers .iterations) 255)
     where
       go : (i j k l m x : Bool) → eqb (w .registers .state) 1 ≡ x → (y : Bool)
           → Fits (pick i (pick j (load code f w) (pick k (pick x (pick y w (iterate code f w)) w) (pick l (cleared w) w))) (pick m (masked v w) w) .registers)
@@ -311,7 +311,7 @@ shows r F =
       bytes = each;
     }
   where
-    past : (a : ℕ) → 5 < a → getD (0 ∷ r .state ∷ r .refusal ∷ r .done ∷ r .mask ∷ r .pending ∷ []) a 0 ≡ 0
+    past : (a : ℕ) → 5 < a → getD (0 ∷ r .state ∷ r .refusal ∷ r .iterations ∷ r .mask ∷ r .pending ∷ []) a 0 ≡ 0
     past zero h = absurd (omega arith)
     past (suc zero) h = absurd (omega arith)
     past (suc (suc zero)) h = absurd (omega arith)
@@ -323,7 +323,7 @@ shows r F =
     number-low : r .refusal ≤ 255
     number-low = elim (ℕ-discrete (r .state) 4) [ yes e ↦ omega (arith, F .fit .number e) | no e ↦ omega (arith, F .fit .no-number e) ]
 
-    each : (a : ℕ) → getD (0 ∷ r .state ∷ r .refusal ∷ r .done ∷ r .mask ∷ r .pending ∷ []) a 0 ≤ 255
+    each : (a : ℕ) → getD (0 ∷ r .state ∷ r .refusal ∷ r .iterations ∷ r .mask ∷ r .pending ∷ []) a 0 ≤ 255
     each zero = omega arith
     each (suc zero) = omega (arith, F .fit .states)
     each (suc (suc zero)) = number-low
@@ -344,7 +344,7 @@ record Acted (w w′ : Window) : Type 0 where
   pub mask : w′ .registers .mask ≡ w .registers .mask
   pub pending : w′ .registers .pending ≡ setting (w .registers .pending) (bitFor (w′ .registers .state))
   pub refusing : w′ .registers .state ≡ 4 → w′ .buffers ≡ w .buffers
-  pub done : (w′ .registers .done ≡ 0) ⊎ (w′ .registers .done ≡ w .registers .done + 1)
+  pub iterations : (w′ .registers .iterations ≡ 0) ⊎ (w′ .registers .iterations ≡ w .registers .iterations + 1)
 
 not-four : (a b : Bool) → _≡_ {A = ℕ} (pick a 2 (pick b 3 1)) 4 → ⊥
 not-four true b e = omega arith
@@ -356,40 +356,40 @@ unfolding loading
 load-acts code f w = go (admitted code f (w .buffers))
   where
     go : (r : Read Code) → Acted w (taking (loadingUnder r f (w .buffers)) (w .registers))
-    go (bad k) = record { mask = refl; pending = refl; refusing = λ e. refl; done = inl refl }
-    go (good C) = record { mask = refl; pending = refl; refusing = λ e. absurd (not-four (settled C f) false e); done = inl refl }
+    go (bad k) = record { mask = refl; pending = refl; refusing = λ e. refl; iterations = inl refl }
+    go (good C) = record { mask = refl; pending = refl; refusing = λ e. absurd (not-four (settled C f) false e); iterations = inl refl }
 
 iterate-acts : (code f : List ℕ) (w : Window) → Acted w (iterate code f w)
 unfolding iterating
-iterate-acts code f w = go (resumable code f (w .registers .done) (w .buffers))
+iterate-acts code f w = go (resumable code f (w .registers .iterations) (w .buffers))
   where
-    go : (r : Read Code) → Acted w (taking (iteratingUnder r (w .registers .done) (w .buffers)) (w .registers))
-    go (bad k) = record { mask = refl; pending = refl; refusing = λ e. refl; done = inl refl }
+    go : (r : Read Code) → Acted w (taking (iteratingUnder r (w .registers .iterations) (w .buffers)) (w .registers))
+    go (bad k) = record { mask = refl; pending = refl; refusing = λ e. refl; iterations = inl refl }
     go (good C) =
         record {
           mask = refl;
           pending = refl;
-          refusing = λ e. absurd (not-four (settled C (further C (w .registers .done) (w .buffers) .costs)) (leb (C .limit) (w .registers .done + 1)) e);
-          done = inr refl;
+          refusing = λ e. absurd (not-four (settled C (further C (w .registers .iterations) (w .buffers) .costs)) (leb (C .limit) (w .registers .iterations + 1)) e);
+          iterations = inr refl;
         }
 
 -- what a write changes, by the outcomes of its tests: whether it acts, writes byte 4, clears pending
 record Changed (act four clear : Bool) (v : ℕ) (w w′ : Window) : Type 0 where
   pub quiet : act ≡ false
-      → (w′ .registers .state ≡ w .registers .state) × (w′ .registers .refusal ≡ w .registers .refusal) × (w′ .registers .done ≡ w .registers .done) × (w′ .buffers ≡ w .buffers)
+      → (w′ .registers .state ≡ w .registers .state) × (w′ .registers .refusal ≡ w .registers .refusal) × (w′ .registers .iterations ≡ w .registers .iterations) × (w′ .buffers ≡ w .buffers)
   pub mask : w′ .registers .mask ≡ pick four v (w .registers .mask)
   pub pending : w′ .registers .pending ≡ pick clear 0 (pick act (setting (w .registers .pending) (bitFor (w′ .registers .state))) (w .registers .pending))
   pub refusing : w′ .registers .state ≡ 4 → w′ .buffers ≡ w .buffers
-  pub done : (w′ .registers .done ≡ w .registers .done) ⊎ ((w′ .registers .done ≡ 0) ⊎ (w′ .registers .done ≡ w .registers .done + 1))
+  pub iterations : (w′ .registers .iterations ≡ w .registers .iterations) ⊎ ((w′ .registers .iterations ≡ 0) ⊎ (w′ .registers .iterations ≡ w .registers .iterations + 1))
 
 true-false : true ≡ false → ⊥
 true-false e = let z : _≡_ {A = ℕ} 0 1 = cc in omega arith
 
 acted : (v : ℕ) (w w′ : Window) → Acted w w′ → Changed true false false v w w′
-acted v w w′ A = record { quiet = λ e. absurd (true-false e); mask = A .mask; pending = A .pending; refusing = A .refusing; done = inr (A .done) }
+acted v w w′ A = record { quiet = λ e. absurd (true-false e); mask = A .mask; pending = A .pending; refusing = A .refusing; iterations = inr (A .iterations) }
 
 unchanged : (v : ℕ) (w : Window) → Changed false false false v w w
-unchanged v w = record { quiet = λ e. (refl, refl, refl, refl); mask = refl; pending = refl; refusing = λ e. refl; done = inl refl }
+unchanged v w = record { quiet = λ e. (refl, refl, refl, refl); mask = refl; pending = refl; refusing = λ e. refl; iterations = inl refl }
 
 module _ (code f : List ℕ) (v : ℕ) (w : Window) where
   changed : (i j k l m x y : Bool) → (i ≡ true → m ≡ false) → (j ≡ true → l ≡ false) → (k ≡ true → l ≡ false)
@@ -402,9 +402,9 @@ module _ (code f : List ℕ) (v : ℕ) (w : Window) where
   changed true false true false false true true a b c = unchanged v w
   changed true false true false false true false a b c = acted v w (iterate code f w) (iterate-acts code f w)
   changed true false true false false false y a b c = unchanged v w
-  changed true false false true false x y a b c = record { quiet = λ e. (refl, refl, refl, refl); mask = refl; pending = refl; refusing = λ e. refl; done = inl refl }
+  changed true false false true false x y a b c = record { quiet = λ e. (refl, refl, refl, refl); mask = refl; pending = refl; refusing = λ e. refl; iterations = inl refl }
   changed true false false false false x y a b c = unchanged v w
-  changed false j k l true x y a b c = record { quiet = λ e. (refl, refl, refl, refl); mask = refl; pending = refl; refusing = λ e. refl; done = inl refl }
+  changed false j k l true x y a b c = record { quiet = λ e. (refl, refl, refl, refl); mask = refl; pending = refl; refusing = λ e. refl; iterations = inl refl }
   changed false j k l false x y a b c = unchanged v w
 
 -- two different numbers are not both written
@@ -415,9 +415,9 @@ pub changes : (r : Registers) (x : Lending) → Changes r x
 unfolding write command second
 changes r x =
     let c = changed (x .code) (x .frame) (x .value) (record { registers = r; buffers = x .buffers })
-    (eqb (x .byte) 0) (eqb (x .value) 1) (eqb (x .value) 2) (eqb (x .value) 3) (eqb (x .byte) 4) (eqb (r .state) 1) (eqb (r .done) 255)
+    (eqb (x .byte) 0) (eqb (x .value) 1) (eqb (x .value) 2) (eqb (x .value) 3) (eqb (x .byte) 4) (eqb (r .state) 1) (eqb (r .iterations) 255)
     (not-both (x .byte) 0 4 (λ (z : 0 ≡ 4). omega arith)) (not-both (x .value) 1 3 (λ (z : 1 ≡ 3). omega arith)) (not-both (x .value) 2 3 (λ (z : 2 ≡ 3). omega arith)) in
-    record { quiet = c .quiet; mask = c .mask; pending = c .pending; refusing = c .refusing; done = c .done }
+    record { quiet = c .quiet; mask = c .mask; pending = c .pending; refusing = c .refusing; iterations = c .iterations }
 
 pub every-list : Every-list
 every-list l = let F = since-fits l idle idle-fits in (shows (since idle l) F, λ x. changes (since idle l) x)

@@ -27,7 +27,7 @@ abbrev lent : Buffers
 lent = record { symbols = replicate 4 7; margins = replicate 4 7; costs = replicate 13 7; store = replicate 19 7 }
 
 abbrev bytes : ℕ → ℕ → ℕ → ℕ → ℕ → Registers
-bytes a b c d e = record { state = a; refusal = b; done = c; mask = d; pending = e }
+bytes a b c d e = record { state = a; refusal = b; iterations = c; mask = d; pending = e }
 
 abbrev to : ℕ → ℕ → Write
 to a v = record { byte = a; value = v }

@@ -28,7 +28,7 @@ use Rattle.machine.proofs.Resume.{at, Sound, iteration-sound, iterating-at}
 
 -- one command 2, where the buffers hold a state of a run
 iterate-at : (C : Code) (G : GoodCode C) (b₀ : Buffers) (room : Room C b₀) (code f : List ℕ) (line : parse code ≡ good C) (fits : frameFault C f ≡ 0)
-    (s : State) → Sound C G b₀ room s → (r : Registers) → r .done ≡ s .t
+    (s : State) → Sound C G b₀ room s → (r : Registers) → r .iterations ≡ s .t
     → iterate code f (record { registers = r; buffers = at C G b₀ room s })
     ≡ record { registers = entering (stateAfter C (s .t + 1) (iteration C s .costs)) 0 (s .t + 1) r; buffers = at C G b₀ room (iteration C s) }
 iterate-at C G b₀ room code f line fits s S r e =
@@ -51,11 +51,11 @@ limit-is s C h =
 record Alike (w w′ : Window) : Type 0 where
   pub state : w′ .registers .state ≡ w .registers .state
   pub refusal : w′ .registers .refusal ≡ w .registers .refusal
-  pub done : w′ .registers .done ≡ w .registers .done
+  pub iterations : w′ .registers .iterations ≡ w .registers .iterations
   pub buffers : w′ .buffers ≡ w .buffers
 
 alike : (w : Window) → Alike w w
-alike w = record { state = refl; refusal = refl; done = refl; buffers = refl }
+alike w = record { state = refl; refusal = refl; iterations = refl; buffers = refl }
 
 module _ (code f : List ℕ) where
   -- a write that is neither command 1 nor command 2
@@ -64,17 +64,17 @@ module _ (code f : List ℕ) where
   other a v w = pickings (eqb a 0) (eqb v 1) (eqb v 2) (eqb v 3) (eqb a 4)
     where
       pickings : (i j k l m : Bool) → (i && j) ≡ false → (i && k) ≡ false
-          → Alike w (pick i (pick j (load code f w) (pick k (pick (eqb (w .registers .state) 1) (pick (eqb (w .registers .done) 255) w (iterate code f w)) w) (pick l (cleared w) w))) (pick m (masked v w) w))
+          → Alike w (pick i (pick j (load code f w) (pick k (pick (eqb (w .registers .state) 1) (pick (eqb (w .registers .iterations) 255) w (iterate code f w)) w) (pick l (cleared w) w))) (pick m (masked v w) w))
       pickings true true k l m d e = let z : true ≡ false = d in let y : _≡_ {A = ℕ} 0 1 = cc in absurd (omega arith)
       pickings true false true l m d e = let z : true ≡ false = e in let y : _≡_ {A = ℕ} 0 1 = cc in absurd (omega arith)
-      pickings true false false true m d e = record { state = refl; refusal = refl; done = refl; buffers = refl }
+      pickings true false false true m d e = record { state = refl; refusal = refl; iterations = refl; buffers = refl }
       pickings true false false false m d e = alike w
-      pickings false j k l true d e = record { state = refl; refusal = refl; done = refl; buffers = refl }
+      pickings false j k l true d e = record { state = refl; refusal = refl; iterations = refl; buffers = refl }
       pickings false j k l false d e = alike w
 
   -- command 2
   second-write : (a v : ℕ) (w : Window) → (eqb a 0 && eqb v 2) ≡ true
-      → write code f a v w ≡ pick (eqb (w .registers .state) 1) (pick (eqb (w .registers .done) 255) w (iterate code f w)) w
+      → write code f a v w ≡ pick (eqb (w .registers .state) 1) (pick (eqb (w .registers .iterations) 255) w (iterate code f w)) w
   unfolding write command second
   second-write a v w e = let h = split (eqb a 0) refl (eqb v 2) refl e in rw (h .0, h .1)
     where
@@ -88,7 +88,7 @@ module _ (C : Code) (G : GoodCode C) (b₀ : Buffers) (room : Room C b₀) (code
   record Running (n : ℕ) (s : State) (w : Window) : Type 0 where
     pub state : w .registers .state ≡ 1
     pub refusal : w .registers .refusal ≡ 0
-    pub done : w .registers .done ≡ s .t
+    pub iterations : w .registers .iterations ≡ s .t
     pub buffers : w .buffers ≡ at C G b₀ room s
     pub sound : Sound C G b₀ room s
     pub unsettled : settled C (s .costs) ≡ false
@@ -98,7 +98,7 @@ module _ (C : Code) (G : GoodCode C) (b₀ : Buffers) (room : Room C b₀) (code
   record Ended (r : Result) (w : Window) : Type 0 where
     pub state : w .registers .state ≡ stateFor (r .status)
     pub refusal : w .registers .refusal ≡ 0
-    pub done : w .registers .done ≡ r .end .t
+    pub iterations : w .registers .iterations ≡ r .end .t
     pub buffers : w .buffers ≡ at C G b₀ room (r .end)
 
   running-alike : (n : ℕ) (s : State) (w w′ : Window) → Alike w w′ → Running n s w → Running n s w′
@@ -106,7 +106,7 @@ module _ (C : Code) (G : GoodCode C) (b₀ : Buffers) (room : Room C b₀) (code
       record {
         state = A .state ∙ R .state;
         refusal = A .refusal ∙ R .refusal;
-        done = A .done ∙ R .done;
+        iterations = A .iterations ∙ R .iterations;
         buffers = A .buffers ∙ R .buffers;
         sound = R .sound;
         unsettled = R .unsettled;
@@ -114,7 +114,7 @@ module _ (C : Code) (G : GoodCode C) (b₀ : Buffers) (room : Room C b₀) (code
       }
 
   ended-alike : (r : Result) (w w′ : Window) → Alike w w′ → Ended r w → Ended r w′
-  ended-alike r w w′ A R = record { state = A .state ∙ R .state; refusal = A .refusal ∙ R .refusal; done = A .done ∙ R .done; buffers = A .buffers ∙ R .buffers }
+  ended-alike r w w′ A R = record { state = A .state ∙ R .state; refusal = A .refusal ∙ R .refusal; iterations = A .iterations ∙ R .iterations; buffers = A .buffers ∙ R .buffers }
 
   not-running : (o : Status) → eqb (stateFor o) 1 ≡ false
   not-running found = refl
@@ -131,19 +131,19 @@ module _ (C : Code) (G : GoodCode C) (b₀ : Buffers) (room : Room C b₀) (code
       by true a j c h k = absurd (omega arith)
       by false a true c h k =
           let e : write code f (x .byte) (x .value) w ≡ w =
-          second-write code f (x .byte) (x .value) w c ∙ ap (λ b. pick b (pick (eqb (w .registers .done) 255) w (iterate code f w)) w) (ap (λ o. eqb o 1) (E .state) ∙ not-running (r .status)) in
+          second-write code f (x .byte) (x .value) w c ∙ ap (λ b. pick b (pick (eqb (w .registers .iterations) 255) w (iterate code f w)) w) (ap (λ o. eqb o 1) (E .state) ∙ not-running (r .status)) in
           k (omega arith) (rw e E)
       by false a false c h k = k (omega arith) (ended-alike r w (write code f (x .byte) (x .value) w) (other code f (x .byte) (x .value) w a c) E)
 
   -- one iteration of a running window
   iterates : (n : ℕ) (s : State) (w : Window) → Running n s w
-      → pick (eqb (w .registers .state) 1) (pick (eqb (w .registers .done) 255) w (iterate code f w)) w
+      → pick (eqb (w .registers .state) 1) (pick (eqb (w .registers .iterations) 255) w (iterate code f w)) w
       ≡ record { registers = entering (stateAfter C (s .t + 1) (iteration C s .costs)) 0 (s .t + 1) (w .registers); buffers = at C G b₀ room (iteration C s) }
   iterates n s w R =
-      ap (λ b. pick b (pick (eqb (w .registers .done) 255) w (iterate code f w)) w) (eq-eqb (w .registers .state) 1 (R .state))
-      ∙ ap (λ b. pick b w (iterate code f w)) (ne-eqb (w .registers .done) 255 (λ e. omega (arith, R .done, R .left)))
+      ap (λ b. pick b (pick (eqb (w .registers .iterations) 255) w (iterate code f w)) w) (eq-eqb (w .registers .state) 1 (R .state))
+      ∙ ap (λ b. pick b w (iterate code f w)) (ne-eqb (w .registers .iterations) 255 (λ e. omega (arith, R .iterations, R .left)))
       ∙ ap (λ b. iterate code f (record { registers = w .registers; buffers = b })) (R .buffers)
-      ∙ iterate-at C G b₀ room code f line fits s (R .sound) (w .registers) (R .done)
+      ∙ iterate-at C G b₀ room code f line fits s (R .sound) (w .registers) (R .iterations)
 
   -- what stands after it, with n iterations left
   stands : (n : ℕ) (s : State) (w w′ : Window) → Running n s w
@@ -158,10 +158,10 @@ module _ (C : Code) (G : GoodCode C) (b₀ : Buffers) (room : Room C b₀) (code
           → w′ ≡ record { registers = entering (pick i 2 (pick j 3 1)) 0 (s .t + 1) (w .registers); buffers = at C G b₀ room (iteration C s) }
           → Ended (go C n (iteration C s)) w′ ⊎ ((k : ℕ) × (n ≡ suc k) × Running k (iteration C s) w′)
       by true a j c e =
-          inl (rw (go-found C n (iteration C s) a) (rw e record { state = refl; refusal = refl; done = sym t-is; buffers = refl }))
+          inl (rw (go-found C n (iteration C s) a) (rw e record { state = refl; refusal = refl; iterations = sym t-is; buffers = refl }))
       by false a true c e =
           let z : n ≡ 0 = omega (arith, R .left, leb-true (C .limit) (s .t + 1) c) in
-          inl (rw (z, go-missed C (iteration C s) a) (rw e record { state = refl; refusal = refl; done = sym t-is; buffers = refl }))
+          inl (rw (z, go-missed C (iteration C s) a) (rw e record { state = refl; refusal = refl; iterations = sym t-is; buffers = refl }))
       by false a false c e = more n (R .left)
         where
           more : (m : ℕ) → s .t + suc m ≡ C .limit → Ended (go C m (iteration C s)) w′ ⊎ ((k : ℕ) × (m ≡ suc k) × Running k (iteration C s) w′)
@@ -173,7 +173,7 @@ module _ (C : Code) (G : GoodCode C) (b₀ : Buffers) (room : Room C b₀) (code
                 rw e record {
                   state = refl;
                   refusal = refl;
-                  done = sym t-is;
+                  iterations = sym t-is;
                   buffers = refl;
                   sound = iteration-sound C G b₀ room s (R .sound);
                   unsettled = a;
@@ -219,7 +219,7 @@ module _ (C : Code) (G : GoodCode C) (b₀ : Buffers) (room : Room C b₀) (code
       by : (i : Bool) → settled C f ≡ i → (n : ℕ) → C .limit ≡ n → w ≡ record { registers = entering (pick i 2 1) 0 0 r; buffers = at C G b₀ room (start C f) }
           → Ended (go C n (start C f)) (writes code f l w)
       by true a n c e =
-          rw (go-found C n (start C f) a) (ended-stays (result found (start C f)) l w h (rw e record { state = refl; refusal = refl; done = refl; buffers = refl }))
+          rw (go-found C n (start C f) a) (ended-stays (result found (start C f)) l w h (rw e record { state = refl; refusal = refl; iterations = refl; buffers = refl }))
       by false a zero c e = absurd (omega (arith, G .limit-low))
       by false a (suc n) c e =
           rw (go-open C n (start C f) a)
@@ -227,7 +227,7 @@ module _ (C : Code) (G : GoodCode C) (b₀ : Buffers) (room : Room C b₀) (code
           (rw e record {
             state = refl;
             refusal = refl;
-            done = refl;
+            iterations = refl;
             buffers = refl;
             sound = record { ready = start-ready C G b₀ room code f line fits; ranged = frame-ranged C f fits b };
             unsettled = a;
@@ -254,6 +254,6 @@ load-and-iterate code f C w l bc bf line free no-loads enough =
     record {
       outcome = E .state ∙ state-number (run C f .status) (run C f .end .t) ∙ ap (λ x. getD (2 ∷ 3 ∷ []) (x .reply .number) 0) (sym d);
       no-refusal = E .refusal;
-      iterations = E .done ∙ value-is (run C f .status) (run C f .end .t) ∙ ap (λ x. x .reply .value) (sym d);
+      iterations = E .iterations ∙ value-is (run C f .status) (run C f .end .t) ∙ ap (λ x. x .reply .value) (sym d);
       buffers = E .buffers ∙ end-at C G (w .buffers) (A .room) code f line (A .fits) ∙ ap (λ x. x .buffers) (sym d);
     }

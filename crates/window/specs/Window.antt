@@ -13,17 +13,17 @@ use Rattle.machine.specs.Moments.{Moment, loading, iterating}
 pub record Registers : Type 0 where
   pub state : ℕ
   pub refusal : ℕ
-  pub done : ℕ
+  pub iterations : ℕ
   pub mask : ℕ
   pub pending : ℕ
 
 -- "All bytes start at 0"
 abbrev pub idle : Registers
-idle = record { state = 0; refusal = 0; done = 0; mask = 0; pending = 0 }
+idle = record { state = 0; refusal = 0; iterations = 0; mask = 0; pending = 0 }
 
 -- "byte 0 always reads 0"; "a read past byte 5 gives 0"
 unfoldable pub read : Registers → ℕ → ℕ
-read r a = getD (0 ∷ r .state ∷ r .refusal ∷ r .done ∷ r .mask ∷ r .pending ∷ []) a 0
+read r a = getD (0 ∷ r .state ∷ r .refusal ∷ r .iterations ∷ r .mask ∷ r .pending ∷ []) a 0
 
 -- "The interrupt is raised when mask and pending share a bit."
 unfoldable pub interrupt : Registers → Bool
@@ -43,7 +43,7 @@ setting pending bit = bitOr pending bit
 
 -- a state after a load or an iteration, with bytes 2 and 3; "mask and pending are kept"
 abbrev pub entering : ℕ → ℕ → ℕ → Registers → Registers
-entering state number t r = record { state = state; refusal = number; done = t; mask = r .mask; pending = setting (r .pending) (bitFor state) }
+entering state number t r = record { state = state; refusal = number; iterations = t; mask = r .mask; pending = setting (r .pending) (bitFor state) }
 
 -- the window after such a moment
 abbrev pub taking : Moment → Registers → Window
@@ -55,22 +55,22 @@ load code f w = taking (loading code f (w .buffers)) (w .registers)
 
 -- "with t in byte 3"
 abbrev pub iterate : List ℕ → List ℕ → Window → Window
-iterate code f w = taking (iterating code f (w .registers .done) (w .buffers)) (w .registers)
+iterate code f w = taking (iterating code f (w .registers .iterations) (w .buffers)) (w .registers)
 
 -- bytes 4 and 5 changed
 abbrev pub masked : ℕ → Window → Window
 masked v w =
     let r : Registers = w .registers in
-    record { registers = record { state = r .state; refusal = r .refusal; done = r .done; mask = v; pending = r .pending }; buffers = w .buffers }
+    record { registers = record { state = r .state; refusal = r .refusal; iterations = r .iterations; mask = v; pending = r .pending }; buffers = w .buffers }
 
 abbrev pub cleared : Window → Window
 cleared w =
     let r : Registers = w .registers in
-    record { registers = record { state = r .state; refusal = r .refusal; done = r .done; mask = r .mask; pending = 0 }; buffers = w .buffers }
+    record { registers = record { state = r .state; refusal = r .refusal; iterations = r .iterations; mask = r .mask; pending = 0 }; buffers = w .buffers }
 
 -- command 2 "runs one iteration if running", and "with byte 3 at 255" does nothing
 unfoldable pub second : List ℕ → List ℕ → Window → Window
-second code f w = pick (eqb (w .registers .state) 1) (pick (eqb (w .registers .done) 255) w (iterate code f w)) w
+second code f w = pick (eqb (w .registers .state) 1) (pick (eqb (w .registers .iterations) 255) w (iterate code f w)) w
 
 -- "Command 1 loads the lent code and frame and runs the first test; 2 runs one iteration if running; 3 clears pending; other values .. do nothing."
 unfoldable pub command : List ℕ → List ℕ → ℕ → Window → Window

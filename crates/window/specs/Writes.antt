@@ -33,7 +33,7 @@ loadCommand = record { byte = 0; value = 1 }
 pub record EndsAs (code f : List ℕ) (before : Buffers) (after : Window) : Type 0 where
   pub outcome : after .registers .state ≡ getD (2 ∷ 3 ∷ []) (decoding code f before .reply .number) 0
   pub no-refusal : after .registers .refusal ≡ 0
-  pub iterations : after .registers .done ≡ decoding code f before .reply .value
+  pub iterations : after .registers .iterations ≡ decoding code f before .reply .value
   pub buffers : after .buffers ≡ decoding code f before .buffers
 
 -- a list of bytes
@@ -78,21 +78,21 @@ pub record Shows (r : Registers) : Type 0 where
   pub number : r .state ≡ 4 → (2 ≤ r .refusal) × (r .refusal ≤ 19)
   pub no-number : r .state ≢ 4 → r .refusal ≡ 0
   -- byte 3 is 0 in 0 and 4, not in 3, and below 255 while running, so that "2 with byte 3 at 255" finds the window not running
-  pub idle-none : r .state ≡ 0 → r .done ≡ 0
-  pub refused-none : r .state ≡ 4 → r .done ≡ 0
-  pub missed-some : r .state ≡ 3 → 0 < r .done
-  pub running-low : r .state ≡ 1 → r .done < 255
+  pub idle-none : r .state ≡ 0 → r .iterations ≡ 0
+  pub refused-none : r .state ≡ 4 → r .iterations ≡ 0
+  pub missed-some : r .state ≡ 3 → 0 < r .iterations
+  pub running-low : r .state ≡ 1 → r .iterations < 255
   pub two-bits : r .pending < 4
   pub bytes : (a : ℕ) → read r a ≤ 255
 
 -- a load, or an iteration that is run
 abbrev pub acts : Registers → Lending → Bool
-acts r x = eqb (x .byte) 0 && (eqb (x .value) 1 || (eqb (x .value) 2 && (eqb (r .state) 1 && not (eqb (r .done) 255))))
+acts r x = eqb (x .byte) 0 && (eqb (x .value) 1 || (eqb (x .value) 2 && (eqb (r .state) 1 && not (eqb (r .iterations) 255))))
 
 -- register by register: what a write changes
 pub record Changes (r : Registers) (x : Lending) : Type 0 where
   -- only a load or an iteration changes bytes 1 to 3 and the buffers
-  pub quiet : acts r x ≡ false → (step r x .state ≡ r .state) × (step r x .refusal ≡ r .refusal) × (step r x .done ≡ r .done) × (lentTo r x .buffers ≡ x .buffers)
+  pub quiet : acts r x ≡ false → (step r x .state ≡ r .state) × (step r x .refusal ≡ r .refusal) × (step r x .iterations ≡ r .iterations) × (lentTo r x .buffers ≡ x .buffers)
   -- only a write to byte 4 changes the mask
   pub mask : step r x .mask ≡ pick (eqb (x .byte) 4) (x .value) (r .mask)
   -- only 3 clears pending, and only entering 2, 3 or 4 sets bits
@@ -100,7 +100,7 @@ pub record Changes (r : Registers) (x : Lending) : Type 0 where
   -- "Entering 4 changes no buffer"
   pub refusing : step r x .state ≡ 4 → lentTo r x .buffers ≡ x .buffers
   -- only an iteration adds to byte 3, and adds 1
-  pub done : (step r x .done ≡ r .done) ⊎ ((step r x .done ≡ 0) ⊎ (step r x .done ≡ r .done + 1))
+  pub iterations : (step r x .iterations ≡ r .iterations) ⊎ ((step r x .iterations ≡ 0) ⊎ (step r x .iterations ≡ r .iterations + 1))
 
 -- "For every list of writes from idle, the window answers as this paragraph says"
 abbrev pub Every-list : Type 0
