@@ -15,7 +15,8 @@
  * buffer of the call.
  *
  * The result is one number: PETSIVOLA_NUMBER(result) says what happened, PETSIVOLA_VALUE(result) is
- * the product, the bytes written or the iterations t; it is 0 on a refusal.
+ * the product, the bytes written or the iterations t; it is 0 on a refusal. The register window alone
+ * answers in registers.
  *
  * The first byte of a code line, "first" below, gives the field, the number of deviations and the
  * edition. Its low hexadecimal digit is p, 2 to 6: the field has q = 2^p elements. What a check sends
@@ -62,7 +63,8 @@ enum petsivola_number {
     PETSIVOLA_WEIGHT = 11,          /* weight 0, or a weight or element not below q */
     /* by the frame's sender */
     PETSIVOLA_COST_COUNT = 12,      /* number of costs is not N * q (check, sweep: d * q) */
-    PETSIVOLA_NO_ZERO_COST = 13,    /* a column without a cost of 0 */
+    PETSIVOLA_NO_ZERO_COST = 13,    /* a column without a cost of 0; in the window also a cost above
+                                       510 in the cost buffer */
     /* by the line's writer */
     PETSIVOLA_DIGITS = 14,          /* odd digit count, or a byte other than 0-9 and A-F */
     PETSIVOLA_LONG_LINE = 15,       /* more than 32,768 bytes */
@@ -75,7 +77,7 @@ enum petsivola_number {
                                        a higher one */
     /* encode: by the message's writer */
     PETSIVOLA_MESSAGE = 18,         /* message length is not N - M, or a symbol not below q */
-    /* decode: by the caller */
+    /* decode, window: by the caller */
     PETSIVOLA_SHORT_MARGINS = 19    /* margin buffer shorter than N */
 };
 
@@ -135,6 +137,92 @@ uint32_t petsivola_decode(const uint8_t *code, size_t code_len,
                           uint16_t *costs, size_t costs_len,
                           uint8_t *store, size_t store_len,
                           uint16_t *margins, size_t margins_len);
+
+/* The register window: the same decoding in steps, driven by writes to six bytes. The call keeps
+ * nothing; the caller keeps bytes 1 to 5 in this struct and takes the new ones from each write.
+ *
+ *   byte  register    reads
+ *   0     command     0
+ *   1     state       PETSIVOLA_WINDOW_IDLE and so on
+ *   2     refusal     the refusal's number in state 4, else 0
+ *   3     iterations  t
+ *   4     mask        what was written last
+ *   5     pending     bit 0: a result came, state 2 or 3; bit 1: a refusal came, state 4
+ *
+ * All bytes 0: idle, as static storage and {0} make it. */
+struct petsivola_window {
+    uint8_t state, refusal, iterations, mask, pending;
+};
+
+enum petsivola_window_address {
+    PETSIVOLA_WINDOW_COMMAND = 0,
+    PETSIVOLA_WINDOW_STATE = 1,
+    PETSIVOLA_WINDOW_REFUSAL = 2,
+    PETSIVOLA_WINDOW_ITERATIONS = 3,
+    PETSIVOLA_WINDOW_MASK = 4,
+    PETSIVOLA_WINDOW_PENDING = 5
+};
+
+enum petsivola_window_command {
+    PETSIVOLA_WINDOW_LOAD = 1,      /* starts on the lent code and frame, from any state */
+    PETSIVOLA_WINDOW_ITERATE = 2,   /* runs one iteration, in state 1 alone */
+    PETSIVOLA_WINDOW_CLEAR = 3      /* sets pending to 0 */
+};
+
+enum petsivola_window_state {
+    PETSIVOLA_WINDOW_IDLE = 0,
+    PETSIVOLA_WINDOW_RUNNING = 1,
+    PETSIVOLA_WINDOW_FOUND = 2,     /* the symbols satisfy every check */
+    PETSIVOLA_WINDOW_NOT_FOUND = 3, /* they do not after I iterations */
+    PETSIVOLA_WINDOW_REFUSED = 4
+};
+
+/* Bits of mask and pending. */
+#define PETSIVOLA_WINDOW_RESULT_BIT 1u      /* set on entering state 2 or 3 */
+#define PETSIVOLA_WINDOW_REFUSAL_BIT 2u     /* set on entering state 4 */
+
+/* Writes one byte of the window.
+ *
+ *   w        the registers; any five bytes are answered
+ *   address  PETSIVOLA_WINDOW_COMMAND or PETSIVOLA_WINDOW_MASK; a write to any other is ignored
+ *   value    the command, or the mask
+ *   code, frame, symbols, costs, store, margins
+ *            as for petsivola_decode. Lend the same ones, unchanged, from a load to its last
+ *            iteration. Only LOAD and ITERATE touch them: other writes may lend null with length 0.
+ *
+ * LOAD takes the frame as costs and tests the first decisions: state 2 if they satisfy every check,
+ * else 1. Iterations start at 0 again; mask and pending are kept.
+ *
+ * ITERATE, in state 1 and with iterations below 255, goes on from the lent costs and, unless
+ * iterations is 0, from the records in the store. It adds 1 to iterations: state 2 if the decisions
+ * then satisfy every check, else 3 if iterations is I or more, else 1.
+ *
+ * After each of them the buffers hold the symbols, costs, records and margins of that moment; a load
+ * leaves the store untouched. ITERATE in other states or with iterations at 255, and other values of
+ * the command, do nothing: a load that is not refused and I times ITERATE end with the outcome,
+ * iterations and buffers of petsivola_decode.
+ *
+ * A refused LOAD or ITERATE changes no buffer; state becomes 4, refusal the number and iterations 0.
+ * Numbers of LOAD: those of petsivola_decode, in its order: 5 to 11, 12, 13, 2, 3, 4, 19. Numbers of
+ * ITERATE: the same, then 13 for a cost above 510 or a column without a cost of 0 among the first
+ * N * q of costs, then, unless iterations is 0, 16 for a record in the store.
+ *
+ * Result: the registers after the write.
+ */
+struct petsivola_window petsivola_window_write(struct petsivola_window w,
+                                               uint8_t address, uint8_t value,
+                                               const uint8_t *code, size_t code_len,
+                                               const uint8_t *frame, size_t frame_len,
+                                               uint8_t *symbols, size_t symbols_len,
+                                               uint16_t *costs, size_t costs_len,
+                                               uint8_t *store, size_t store_len,
+                                               uint16_t *margins, size_t margins_len);
+
+/* Reads one byte of the window: 0 at address 0 and past address 5. */
+uint8_t petsivola_window_read(struct petsivola_window w, uint8_t address);
+
+/* The interrupt line: 1 when mask and pending share a bit, else 0. */
+uint8_t petsivola_window_interrupt(struct petsivola_window w);
 
 /* Encodes one message: N - M symbols become the N symbols that decoding looks for.
  *

@@ -3,6 +3,7 @@ use checknode::Element;
 use checknode::Written;
 use layered::Answer;
 use layered::Outcome;
+use window::Registers;
 ghost use mathlib.Core.Path.{_≡_};
 ghost use Prim.Native.Nat.{_≤_};
 ghost use Rattle.checknode.specs.Answers.{elementReply, productReply, writtenReply, checkReply, checkLeaves, expandReply, expandLeaves};
@@ -10,6 +11,9 @@ ghost use Rattle.machine.specs.Line.{lineReply, lineLeaves};
 ghost use Rattle.machine.specs.Decoding.{lending, decoding};
 ghost use Rattle.machine.specs.Encoding.{encoding};
 ghost use Rattle.layered.specs.Answers.{answerReply};
+ghost use Rattle.trellis.specs.Lists.{pick};
+ghost use Rattle.window.specs.Window.{read, interrupt, write};
+ghost use Rattle.window.specs.Meaning.{bytesOf, windowOf};
 ghost use Rattle.petsivola.specs.Packed.{Packs, outcomeReply};
 
 fn of_element(e: Element) -> u32
@@ -112,4 +116,49 @@ pub extern "C" fn petsivola_encode(code: &[u8], message: &[u8], symbols: &mut [u
     ensures { λ _. ⌜ now (symbols .exit) ≡ encoding (now (code .entry)) (now (message .entry)) (now (symbols .entry)) .out ⌝ }
 {
     of_written(encoder::encode(code, message, symbols))
+}
+
+#[no_mangle]
+pub extern "C" fn petsivola_window_write(
+    window: Registers,
+    address: u8,
+    value: u8,
+    code: &[u8],
+    frame: &[u8],
+    symbols: &mut [u8],
+    costs: &mut [u16],
+    store: &mut [u8],
+    margins: &mut [u16],
+) -> Registers
+    ensures { λ r. ⌜ windowOf r (lending (now (symbols .exit)) (now (costs .exit)) (now (store .exit)) (now (margins .exit))) ≡ write (now (code .entry)) (now (frame .entry)) address value (windowOf window (lending (now (symbols .entry)) (now (costs .entry)) (now (store .entry)) (now (margins .entry)))) ⌝ }
+{
+    window::write(
+        window,
+        address,
+        value,
+        code,
+        frame,
+        symbols,
+        costs,
+        store,
+        margins,
+    )
+}
+
+#[no_mangle]
+pub extern "C" fn petsivola_window_read(window: Registers, address: u8) -> u8
+    ensures { λ r. ⌜ r ≡ read (bytesOf window) address ⌝ }
+{
+    window::read(window, address)
+}
+
+// 1 where the interrupt is raised, else 0.
+#[no_mangle]
+pub extern "C" fn petsivola_window_interrupt(window: Registers) -> u8
+    ensures { λ r. ⌜ r ≡ pick (interrupt (bytesOf window)) 1 0 ⌝ }
+{
+    if window::interrupt(window) {
+        return 1;
+    }
+    0
 }
