@@ -93,6 +93,18 @@ impl Code {
             .sum()
     }
 
+    /// The records of a store in code order, whether or not they have accepted form; it is long enough.
+    pub fn records<'s>(&self, store: &'s [u8]) -> Vec<&'s [u8]> {
+        let mut rest = store;
+        let mut records = Vec::new();
+        for check in &self.checks {
+            let (record, others) = rest.split_at(record::length(self.rule(), check.weights.len()));
+            records.push(record);
+            rest = others;
+        }
+        records
+    }
+
     /// The used parts of a decoding's buffers, in the order of the parameters: symbols, costs, store and
     /// margins.
     pub fn lengths(&self) -> [usize; 4] {

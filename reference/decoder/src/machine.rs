@@ -53,35 +53,30 @@ pub fn decode(
     store: &mut [u8],
     margins: &mut [u16],
 ) -> Result<Outcome, Refusal> {
-    let code = code_line(code)?;
-    accept_costs(code.field(), code.n, frame)?;
-    if symbols.len() < code.n {
-        return Err(Refusal::ShortBuffer);
-    }
-    if costs.len() < code.frame_length() {
-        return Err(Refusal::ShortCosts);
-    }
-    if store.len() < code.store_length() {
-        return Err(Refusal::ShortStore);
-    }
-    if margins.len() < code.n {
-        return Err(Refusal::ShortMargins);
-    }
+    let lengths = [symbols.len(), costs.len(), store.len(), margins.len()];
+    let code = accept(code, frame, lengths)?;
     let mut machine = Machine::start(&code, frame);
     let outcome = machine.run();
-    let decided = symbols.iter_mut().zip(margins.iter_mut());
-    for ((symbol, margin), decision) in decided.zip(machine.decisions()) {
-        (*symbol, *margin) = (decision.symbol, decision.margin);
-    }
-    for (out, &cost) in costs.iter_mut().zip(machine.costs.iter().flatten()) {
-        *out = u16::try_from(cost).expect("P is 0 to 510");
-    }
-    // With t = 0 no check has a record, so nothing is written here.
-    let records = machine.records.iter().flatten().flatten();
-    for (out, &byte) in store.iter_mut().zip(records) {
-        *out = byte;
-    }
+    machine.fill(symbols, costs, store, margins);
     Ok(outcome)
+}
+
+/// The code of a decoding that is not refused, in buffers of these lengths: symbols, costs, store and margins.
+pub fn accept(code: &[u8], frame: &[u8], lengths: [usize; 4]) -> Result<Code, Refusal> {
+    let code = code_line(code)?;
+    accept_costs(code.field(), code.n, frame)?;
+    let refusals = [
+        Refusal::ShortBuffer,
+        Refusal::ShortCosts,
+        Refusal::ShortStore,
+        Refusal::ShortMargins,
+    ];
+    for ((length, needed), refusal) in lengths.into_iter().zip(code.lengths()).zip(refusals) {
+        if length < needed {
+            return Err(refusal);
+        }
+    }
+    Ok(code)
 }
 
 /// The state of one run.
@@ -112,6 +107,22 @@ impl<'a> Machine<'a> {
         }
     }
 
+    /// The state after t iterations that left these costs and records. Document 02, §8: "An iteration goes on
+    /// from the lent costs and records, with t in byte 3"; with t = 0 no check has a record. The used parts are
+    /// those of the code, and the records have accepted form.
+    pub fn going_on(code: &'a Code, costs: &[u16], store: &[u8], t: u8) -> Machine<'a> {
+        let column = |costs: &[u16]| costs.iter().map(|&cost| i32::from(cost)).collect();
+        let costs = &costs[..code.frame_length()];
+        let record = |record: &[u8]| (t > 0).then(|| record.to_vec());
+        Machine {
+            code,
+            costs: costs.chunks(code.field().size()).map(column).collect(),
+            records: code.records(store).into_iter().map(record).collect(),
+            last_messages: vec![None; code.m],
+            iterations: t,
+        }
+    }
+
     /// Runs from the start to the result.
     pub fn run(&mut self) -> Outcome {
         loop {
@@ -129,6 +140,28 @@ impl<'a> Machine<'a> {
     /// "the decisions (smallest symbol of cost 0 in P_n)", each with its margin.
     pub fn decisions(&self) -> Vec<Decision> {
         self.costs.iter().map(|costs| Decision::of(costs)).collect()
+    }
+
+    /// Fills the used parts of lent buffers with the decisions, costs, records and margins of this state.
+    pub fn fill(
+        &self,
+        symbols: &mut [u8],
+        costs: &mut [u16],
+        store: &mut [u8],
+        margins: &mut [u16],
+    ) {
+        let decided = symbols.iter_mut().zip(margins.iter_mut());
+        for ((symbol, margin), decision) in decided.zip(self.decisions()) {
+            (*symbol, *margin) = (decision.symbol, decision.margin);
+        }
+        for (out, &cost) in costs.iter_mut().zip(self.costs.iter().flatten()) {
+            *out = u16::try_from(cost).expect("P is 0 to 510");
+        }
+        // With t = 0 no check has a record, so nothing is written here.
+        let records = self.records.iter().flatten().flatten();
+        for (out, &byte) in store.iter_mut().zip(records) {
+            *out = byte;
+        }
     }
 
     /// Whether the decisions satisfy every check.

@@ -3,6 +3,7 @@
 use super::Generator;
 use crate::machine::{decode, Outcome};
 use crate::refusal::Refusal;
+use crate::window::Lent;
 
 /// The four buffers of a decoding, to lend.
 #[derive(Clone, Debug, PartialEq, Eq)]
@@ -48,6 +49,18 @@ impl Buffers {
         let (symbols, costs) = (&mut self.symbols, &mut self.costs);
         let (store, margins) = (&mut self.store, &mut self.margins);
         decode(code, frame, symbols, costs, store, margins)
+    }
+
+    /// Lends them with a code line and a frame, for a write to a register window.
+    pub fn lend<'a>(&'a mut self, code: &'a [u8], frame: &'a [u8]) -> Lent<'a> {
+        Lent {
+            code,
+            frame,
+            symbols: &mut self.symbols,
+            costs: &mut self.costs,
+            store: &mut self.store,
+            margins: &mut self.margins,
+        }
     }
 
     /// Parts of the buffers: as many elements of each from its start, and the others.
