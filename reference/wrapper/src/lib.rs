@@ -20,6 +20,8 @@
 //! | [`decode`] | symbols, costs, records and margins of one frame | 5 to 11, 12, 13, 2, 3, 4, 19 |
 //! | [`encode`] | the symbols of one message | 5 to 11, 17, 18, 2 |
 //!
+//! A [`Window`] does a decoding step by step, through the registers of document 02, §8.
+//!
 //! Document 01's example, a code of three columns and one check over the field of four elements:
 //!
 //! ```
@@ -46,10 +48,12 @@ pub mod lengths;
 mod library;
 mod refusal;
 mod rule;
+pub mod window;
 
 pub use answer::Outcome;
 pub use refusal::Refusal;
 pub use rule::{Edition, Rule};
+pub use window::{Lent, State, Window};
 
 /// The greatest margin of a decision; a cost of the cost buffer is no greater either.
 pub const MOST_MARGIN: u16 = 510;

@@ -11,6 +11,19 @@
 
 #![allow(unsafe_code)]
 
+use crate::window::Lent;
+
+/// `struct petsivola_window`: the registers of a window from byte 1 on.
+#[derive(Clone, Copy, Debug, Default, PartialEq, Eq, Hash)]
+#[repr(C)]
+pub(crate) struct Registers {
+    pub(crate) state: u8,
+    pub(crate) refusal: u8,
+    pub(crate) iterations: u8,
+    pub(crate) mask: u8,
+    pub(crate) pending: u8,
+}
+
 extern "C" {
     fn petsivola_product(p: u8, a: u8, b: u8) -> u32;
 
@@ -69,6 +82,28 @@ extern "C" {
         symbols: *mut u8,
         symbols_len: usize,
     ) -> u32;
+
+    fn petsivola_window_write(
+        window: Registers,
+        address: u8,
+        value: u8,
+        code: *const u8,
+        code_len: usize,
+        frame: *const u8,
+        frame_len: usize,
+        symbols: *mut u8,
+        symbols_len: usize,
+        costs: *mut u16,
+        costs_len: usize,
+        store: *mut u8,
+        store_len: usize,
+        margins: *mut u16,
+        margins_len: usize,
+    ) -> Registers;
+
+    fn petsivola_window_read(window: Registers, address: u8) -> u8;
+
+    fn petsivola_window_interrupt(window: Registers) -> u8;
 }
 
 pub(crate) fn product(p: u8, a: u8, b: u8) -> u32 {
@@ -172,4 +207,38 @@ pub(crate) fn encode(code: &[u8], message: &[u8], symbols: &mut [u8]) -> u32 {
             symbols.len(),
         )
     }
+}
+
+pub(crate) fn window_write(window: Registers, address: u8, value: u8, lent: Lent) -> Registers {
+    // SAFETY: as for `decode`; the registers are five bytes, any of which the function answers, and it answers
+    // with five bytes.
+    unsafe {
+        petsivola_window_write(
+            window,
+            address,
+            value,
+            lent.code.as_ptr(),
+            lent.code.len(),
+            lent.frame.as_ptr(),
+            lent.frame.len(),
+            lent.symbols.as_mut_ptr(),
+            lent.symbols.len(),
+            lent.costs.as_mut_ptr(),
+            lent.costs.len(),
+            lent.store.as_mut_ptr(),
+            lent.store.len(),
+            lent.margins.as_mut_ptr(),
+            lent.margins.len(),
+        )
+    }
+}
+
+pub(crate) fn window_read(window: Registers, address: u8) -> u8 {
+    // SAFETY: the function takes six bytes, any of which it answers, and no memory.
+    unsafe { petsivola_window_read(window, address) }
+}
+
+pub(crate) fn window_interrupt(window: Registers) -> u8 {
+    // SAFETY: the function takes five bytes, any of which it answers, and no memory.
+    unsafe { petsivola_window_interrupt(window) }
 }
