@@ -1,5 +1,6 @@
 //! The entry points of the static library, each with random calls of it.
 
+mod buffers;
 mod check;
 mod decode;
 mod encode;
@@ -8,6 +9,7 @@ mod first_byte;
 mod lending;
 mod line;
 mod product;
+mod window;
 
 use std::ops::RangeInclusive;
 
@@ -23,16 +25,18 @@ pub use encode::ENCODE;
 pub use expand::EXPAND;
 pub use line::LINE;
 pub use product::PRODUCT;
+pub use window::WINDOW;
 
 /// Every entry point.
-pub const ENTRY_POINTS: [EntryPoint; 7] = [PRODUCT, CHECK, SWEEP, EXPAND, LINE, DECODE, ENCODE];
+pub const ENTRY_POINTS: [EntryPoint; 8] =
+    [PRODUCT, CHECK, SWEEP, EXPAND, LINE, DECODE, ENCODE, WINDOW];
 
 /// An entry point and how it is compared.
 pub struct EntryPoint {
     name: &'static str,
     /// What its calls must meet.
     expected: fn() -> Vec<Class>,
-    /// Makes one random call on both sides, compares them and counts the answer.
+    /// Makes one random call on both sides, of a window a list of writes, compares them and counts the answers.
     call: fn(&mut Generator, &mut Tally) -> Result<(), Difference>,
     /// Makes every call of some kind.
     every: fn(&mut Tally) -> Result<(), Difference>,
@@ -62,8 +66,8 @@ impl EntryPoint {
         Ok(())
     }
 
-    /// Makes the calls that are few enough to be made all: every product, every line of two bytes, and
-    /// a check, a sweep, an expansion, a decoding and an encoding with every first byte.
+    /// Makes the calls that are few enough to be made all: every product, every line of two bytes, a check, a
+    /// sweep, an expansion, a decoding and an encoding with every first byte, and every write to a window.
     ///
     /// # Errors
     ///

@@ -70,6 +70,14 @@ impl<T: Element> Lent<T> {
         Lent::holding(generator, &content)
     }
 
+    /// Takes the slice to another length: the elements at its start stay, and arbitrary ones follow.
+    pub fn resize(&mut self, generator: &mut Generator, length: usize) {
+        let mut content = self.slice().to_vec();
+        content.truncate(length);
+        content.extend(T::arbitrary(generator, length - content.len()));
+        *self = Lent::holding(generator, &content);
+    }
+
     /// The slice, for a call to read.
     pub fn slice(&self) -> &[T] {
         &self.elements[self.start..self.end]

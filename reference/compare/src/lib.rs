@@ -21,6 +21,8 @@ mod lent;
 pub mod programs;
 mod tally;
 
-pub use calls::{EntryPoint, CHECK, DECODE, ENCODE, ENTRY_POINTS, EXPAND, LINE, PRODUCT, SWEEP};
+pub use calls::{
+    EntryPoint, CHECK, DECODE, ENCODE, ENTRY_POINTS, EXPAND, LINE, PRODUCT, SWEEP, WINDOW,
+};
 pub use comparison::Difference;
 pub use tally::{Class, Tally};

@@ -1,11 +1,12 @@
 //! `decode`.
 
-mod inputs;
+pub mod inputs;
 mod seen;
 
 use reference_decoder::sample::Generator;
 
-use super::{first_byte, of_library, of_reference, EntryPoint};
+use super::buffers::Buffers;
+use super::{first_byte, EntryPoint};
 use crate::comparison::{Comparison, Difference, Inputs};
 use crate::lent::Lent;
 use crate::tally::{Class, Tally};
@@ -80,58 +81,4 @@ fn compare(generator: &mut Generator, input: &Input, tally: &mut Tally) -> Resul
             .number("store length", store)
             .number("margin buffer length", margins)
     })
-}
-
-/// The buffers that a decoding fills.
-#[derive(Clone)]
-struct Buffers {
-    symbols: Lent<u8>,
-    costs: Lent<u16>,
-    store: Lent<u8>,
-    margins: Lent<u16>,
-}
-
-impl Buffers {
-    fn new(generator: &mut Generator, lengths: [usize; 4]) -> Buffers {
-        let [symbols, costs, store, margins] = lengths;
-        Buffers {
-            symbols: Lent::to_fill(generator, symbols),
-            costs: Lent::to_fill(generator, costs),
-            store: Lent::to_fill(generator, store),
-            margins: Lent::to_fill(generator, margins),
-        }
-    }
-
-    /// The library's decoding in these buffers: status and t, or the refusal.
-    fn decode(&mut self, line: &Lent<u8>, frame: &Lent<u8>) -> Result<(u8, u8), u16> {
-        let answer = petsivola::decode(
-            line.slice(),
-            frame.slice(),
-            self.symbols.slice_mut(),
-            self.costs.slice_mut(),
-            self.store.slice_mut(),
-            self.margins.slice_mut(),
-        );
-        of_library(answer).map(|outcome| (outcome.status(), outcome.iterations()))
-    }
-
-    /// The same by the reference decoder.
-    fn decode_by_reference(&mut self, line: &Lent<u8>, frame: &Lent<u8>) -> Result<(u8, u8), u16> {
-        let answer = reference_decoder::decode(
-            line.slice(),
-            frame.slice(),
-            self.symbols.slice_mut(),
-            self.costs.slice_mut(),
-            self.store.slice_mut(),
-            self.margins.slice_mut(),
-        );
-        of_reference(answer).map(|outcome| (outcome.status(), outcome.iterations()))
-    }
-
-    fn compare(&self, comparison: &mut Comparison, expected: &Buffers) {
-        comparison.lent("symbols", &self.symbols, &expected.symbols);
-        comparison.lent("costs", &self.costs, &expected.costs);
-        comparison.lent("store", &self.store, &expected.store);
-        comparison.lent("margins", &self.margins, &expected.margins);
-    }
 }

@@ -19,7 +19,7 @@ const LONG: Size = Size {
 };
 
 /// Codes of every size, with few iterations: the reference decoder takes up to a second for each.
-const WIDE: Size = Size {
+pub const WIDE: Size = Size {
     limit: 1..=2,
     ..Size::FULL
 };

@@ -3,7 +3,7 @@
 use reference_decoder::{code_line, decision, record, Code};
 
 use super::inputs::{with_other_deviations, Input};
-use super::Buffers;
+use crate::calls::buffers::Buffers;
 use crate::calls::first_byte::{self, ByDeviations, ByEdition};
 use crate::tally::{Class, Tally};
 
