@@ -1,6 +1,7 @@
 //! The times of decoding by code: per iteration, and coded bits per second.
 
-use petsivola::Edition;
+use petsivola::window::{REFUSAL_BIT, RESULT_BIT};
+use petsivola::{Edition, Lent, State, Window};
 use simulate::code::Code;
 use simulate::decoder::Decoder;
 use simulate::layered::Layered;
@@ -18,6 +19,8 @@ pub const LIMIT: u8 = 15;
 
 /// Who decodes.
 const DECODING: [Engine; 4] = [Engine::Proved, Engine::Rust, Engine::Sweeps, Engine::Old];
+/// Who decodes in the races of the register window.
+const WINDOWED: [Engine; 2] = [Engine::Proved, Engine::ProvedWindow];
 
 /// What a decoding leaves. A decoder without records leaves an empty store, one without margins none of them.
 #[derive(Clone, Debug, Default)]
@@ -92,18 +95,32 @@ impl Row<'_> {
         self.job.code.coded_bits() as f64
             / (self.decode.median(Engine::Proved) * self.mean_iterations)
     }
+
+    /// How many times as long a decoding through the register window takes as one `decode`.
+    pub fn window_by_decode(&self) -> f64 {
+        self.decode.ratio(Engine::ProvedWindow, Engine::Proved)
+    }
 }
 
 /// Measures one code, with all its frames in each round.
 pub fn measure(job: &Job, rounds: usize) -> Row<'_> {
+    race_of(&Engine::present(DECODING), job, rounds)
+}
+
+/// Measures the register window on one code, in races of its own.
+pub fn measure_window(job: &Job, rounds: usize) -> Row<'_> {
+    race_of(&WINDOWED, job, rounds)
+}
+
+/// The times of these engines on one code.
+fn race_of<'a>(engines: &[Engine], job: &'a Job, rounds: usize) -> Row<'a> {
     let line = job.code.line(2, Edition::Sum, SCALE, LIMIT);
-    let engines = Engine::present(DECODING);
     let contender = |&engine| contender(engine, job, &line);
     let mut contenders: Vec<_> = engines.iter().map(contender).collect();
     let mut decode = Results::default();
     for round in 0..rounds {
         let times = race(&mut contenders, round, &RULES);
-        decode.append(&engines, times);
+        decode.append(engines, times);
     }
     let decoded = contenders[0].outputs();
     let iterations: usize = decoded.iter().map(RULES.units).sum();
@@ -120,6 +137,7 @@ fn contender<'a>(engine: Engine, job: &'a Job, line: &'a [u8]) -> Contender<'a, 
     let lent = Decoded::lent(&job.code);
     match engine {
         Engine::Proved => Contender::new(&job.frames, lent, decode_by(line, proved)),
+        Engine::ProvedWindow => Contender::new(&job.frames, lent, through_window(line)),
         Engine::Sweeps => {
             let plain = Decoded::plain(&job.code);
             let mut layered = Layered::new(&job.code, SCALE, LIMIT, Sweeps::<false>::new(2));
@@ -159,6 +177,33 @@ fn decode_by<'a>(
         let (store, margins) = (&mut out.store, &mut out.margins);
         let answer = decode(line, frame, symbols, costs, store, margins);
         (out.status, out.t) = answer.expect("an accepted frame");
+    }
+}
+
+/// The proved library's decoding through the register window, as a board does it: a load, then commands 2 until
+/// the interrupt is raised.
+fn through_window(line: &[u8]) -> impl FnMut(&Vec<u8>, &mut Decoded) + '_ {
+    move |frame, out| {
+        let mut lent = Lent {
+            code: line,
+            frame,
+            symbols: &mut out.symbols,
+            costs: &mut out.costs,
+            store: &mut out.store,
+            margins: &mut out.margins,
+        };
+        let mut window = Window::IDLE;
+        window.set_mask(RESULT_BIT | REFUSAL_BIT);
+        window.load(lent.reborrow());
+        while !window.interrupt() {
+            window.iterate(lent.reborrow());
+        }
+        out.status = match window.state() {
+            State::Found => 0,
+            State::NotFound => 1,
+            other => panic!("an accepted frame ends with {other:?}"),
+        };
+        out.t = window.iterations();
     }
 }
 

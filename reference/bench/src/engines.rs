@@ -10,6 +10,8 @@ pub enum Engine {
     Proved,
     /// The proved library's other call for a check, the trellis sweep engine.
     ProvedSweep,
+    /// The proved library's other way to decode, the register window.
+    ProvedWindow,
     /// The same algorithm in Rust.
     Rust,
     /// The search over kept entries in Rust.
@@ -38,6 +40,7 @@ impl Engine {
         match self {
             Engine::Proved => "proved",
             Engine::ProvedSweep => "proved sweep",
+            Engine::ProvedWindow => "proved window",
             Engine::Rust => "Rust",
             Engine::Search => "search",
             Engine::Sse2 => "C, SSE2",

@@ -59,23 +59,32 @@ pub struct Job {
     pub frames: Vec<Vec<u8>>,
 }
 
+/// The name of the simulation's code.
+pub const SIMULATED: &str = "(248,137) over GF(32), degree 8";
+
 /// The codes: at the limits of document 01, the code of the simulation, and a small one.
 pub fn jobs() -> Vec<Job> {
-    vec![
-        job(
-            "N = 256, p = 6, M = 128, degree 8",
-            regular(6, 256, 8, 4),
-            3.5,
-            4,
-        ),
-        job("(248,137) over GF(32), degree 8", array::code(), 2.75, 6),
-        job(
-            "N = 48, p = 2, M = 24, degree 6",
-            regular(2, 48, 6, 3),
-            2.5,
-            48,
-        ),
-    ]
+    let name = "N = 256, p = 6, M = 128, degree 8";
+    let at_the_limits = job(name, regular(6, 256, 8, 4), 3.5, 4);
+    vec![at_the_limits, simulated(), small()]
+}
+
+/// The codes of the register window: that of the simulation, one with p = 4, and a small one.
+pub fn window_jobs() -> Vec<Job> {
+    let name = "N = 96, p = 4, M = 48, degree 6";
+    let of_sixteen = job(name, regular(4, 96, 6, 3), 2.5, 24);
+    vec![simulated(), of_sixteen, small()]
+}
+
+/// The code of the simulation.
+fn simulated() -> Job {
+    job(SIMULATED, array::code(), 2.75, 6)
+}
+
+/// A small code.
+fn small() -> Job {
+    let name = "N = 48, p = 2, M = 24, degree 6";
+    job(name, regular(2, 48, 6, 3), 2.5, 48)
 }
 
 /// A code with so many frames at an Eb/N0.

@@ -7,7 +7,7 @@ use std::process::ExitCode;
 use std::{env, fs, io};
 
 use bench::checks;
-use bench::inputs::{self, Costs};
+use bench::inputs::{self, Costs, Job};
 use bench::report::Report;
 use bench::targets::targets;
 use bench::{charts, decoding, encoding};
@@ -59,13 +59,10 @@ fn run(rounds: usize, out: Option<&Path>) -> io::Result<()> {
     eprintln!("check, growth from d = 16 to d = 32 at p = 6");
     let growth = kinds.map(|costs| checks::growth(costs, rounds));
     let jobs = inputs::jobs();
-    let codes: Vec<_> = jobs
-        .iter()
-        .map(|job| {
-            eprintln!("decoding, {}", job.name);
-            decoding::measure(job, rounds)
-        })
-        .collect();
+    let codes = measured("decoding", &jobs, |job| decoding::measure(job, rounds));
+    let window_jobs = inputs::window_jobs();
+    let through_window = |job| decoding::measure_window(job, rounds);
+    let windows = measured("register window", &window_jobs, through_window);
     eprintln!("encoding");
     let encoding = encoding::measure(inputs::encodable(), rounds);
     let all: Vec<_> = channel.iter().chain(&uniform).collect();
@@ -75,8 +72,9 @@ fn run(rounds: usize, out: Option<&Path>) -> io::Result<()> {
         swept: &swept,
         growth,
         codes: &codes,
+        windows: &windows,
         encoding: &encoding,
-        targets: &targets(&all, &codes),
+        targets: &targets(&all, &codes, &windows),
         rounds,
     };
     let text = report.markdown();
@@ -85,6 +83,19 @@ fn run(rounds: usize, out: Option<&Path>) -> io::Result<()> {
         Some(directory) => write(directory, &text, &channel),
         None => Ok(()),
     }
+}
+
+/// Measures each of some codes, and says which.
+fn measured<'a>(
+    what: &str,
+    jobs: &'a [Job],
+    measure: impl Fn(&'a Job) -> decoding::Row<'a>,
+) -> Vec<decoding::Row<'a>> {
+    let each = |job: &'a Job| {
+        eprintln!("{what}, {}", job.name);
+        measure(job)
+    };
+    jobs.iter().map(each).collect()
 }
 
 /// Writes the document and the charts.

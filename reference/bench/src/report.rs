@@ -4,6 +4,7 @@ mod deviations;
 mod editions;
 mod older;
 mod swept;
+mod windows;
 
 use crate::checks::swept::Swept;
 use crate::checks::Row;
@@ -24,6 +25,8 @@ pub struct Report<'a> {
     pub growth: [f64; 2],
     /// The codes.
     pub codes: &'a [decoding::Row<'a>],
+    /// The codes of the register window.
+    pub windows: &'a [decoding::Row<'a>],
     /// The encoding.
     pub encoding: &'a encoding::Row,
     /// The targets.
@@ -44,6 +47,7 @@ impl Report<'_> {
             swept::section(self.swept),
             self.expansions(),
             self.decodings(),
+            windows::section(self.windows),
             self.encodings(),
             older::section(self),
         ];

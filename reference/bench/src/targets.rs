@@ -1,6 +1,7 @@
 //! What is asked of the figures, and whether a run meets it.
 
 use crate::engines::Engine;
+use crate::inputs::SIMULATED;
 use crate::{checks, decoding};
 
 /// The most that a check, and an iteration, may take of the time of the same algorithm in Rust.
@@ -12,6 +13,8 @@ pub const OF_C: f64 = 2.5;
 pub const OF_TWO: f64 = 2.0;
 /// The most that a check of the Min-Max edition may take of the time with the sum.
 pub const OF_SUM: f64 = 1.1;
+/// The most that a decoding through the register window may take of the time of one `decode`, where this is asked.
+pub const OF_DECODE: f64 = 1.15;
 /// The least that the sweeps may take of the time of a check with k = 3, where this is asked.
 pub const BY_SWEEPS: f64 = 8.0;
 
@@ -27,8 +30,12 @@ pub struct Target {
     pub missed: usize,
 }
 
-/// Every target, over all measured checks and codes.
-pub fn targets(checks: &[&checks::Row], codes: &[decoding::Row]) -> Vec<Target> {
+/// Every target, over all measured checks and codes, and the codes of the register window.
+pub fn targets(
+    checks: &[&checks::Row],
+    codes: &[decoding::Row],
+    windows: &[decoding::Row],
+) -> Vec<Target> {
     let large: Vec<_> = checks.iter().copied().filter(|row| row.p >= 4).collect();
     let short: Vec<_> = large
         .iter()
@@ -53,6 +60,7 @@ pub fn targets(checks: &[&checks::Row], codes: &[decoding::Row]) -> Vec<Target> 
     targets.extend(targets_of_three(checks, &large));
     targets.push(of_min_max(checks));
     targets.push(target_of_decoding(codes));
+    targets.push(of_window(windows));
     targets
 }
 
@@ -100,6 +108,17 @@ fn target_of_decoding(codes: &[decoding::Row]) -> Target {
         format!("decoding: an iteration at most {OF_RUST:.1} times the same algorithm in Rust"),
         OF_RUST,
         iterations.collect(),
+    )
+}
+
+/// The target of the register window, on the simulation's code.
+pub fn of_window(codes: &[decoding::Row]) -> Target {
+    let asked = codes.iter().filter(|row| row.job.name == SIMULATED);
+    let ratios = asked.map(|row| (row.window_by_decode(), row.job.name.to_string()));
+    at_most(
+        format!("decoding through the register window: at most {OF_DECODE} times one `decode`"),
+        OF_DECODE,
+        ratios.collect(),
     )
 }
 

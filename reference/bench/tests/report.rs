@@ -4,7 +4,7 @@ use bench::checks::swept::Swept;
 use bench::checks::Row;
 use bench::inputs::{self, Costs};
 use bench::report::Report;
-use bench::{charts, encoding, targets};
+use bench::{charts, decoding, encoding, targets};
 
 /// A size, measured on a few checks.
 fn row(p: u8, degree: usize) -> Row {
@@ -23,6 +23,7 @@ fn markdown(rows: &[Row]) -> String {
         swept: &swept,
         growth: [1.0, 1.0],
         codes: &[],
+        windows: &[],
         encoding: &encoding::measure(inputs::encodable(), 1),
         targets: &[],
         rounds: 1,
@@ -84,6 +85,42 @@ fn the_proved_sweep_stands_beside_the_proved_check_with_both_k() {
         assert!(of_k.contains("| proved sweep / proved check | proved sweep / sweeps (Rust) |"));
     }
     assert!(of_two.contains("The proved sweep takes "));
+}
+
+/// A decoding through the register window leaves what `decode` does, or the race would stop.
+#[test]
+fn the_register_window_stands_beside_decode() {
+    let jobs = inputs::window_jobs();
+    let windows: Vec<_> = jobs
+        .iter()
+        .map(|job| decoding::measure_window(job, 1))
+        .collect();
+    let report = Report {
+        channel: &[row(2, 3)],
+        uniform: &[row(2, 3)],
+        swept: &[],
+        growth: [1.0, 1.0],
+        codes: &[],
+        windows: &windows,
+        encoding: &encoding::measure(inputs::encodable(), 1),
+        targets: &[targets::of_window(&windows)],
+        rounds: 1,
+    };
+    let text = report.markdown();
+    let (_, section) = text
+        .split_once("## Decoding through the register window")
+        .expect("the section");
+    for job in &jobs {
+        let of_code = section
+            .lines()
+            .filter(|line| line.starts_with(&format!("| {} | ", job.name)));
+        let cells = of_code.map(|line| line.matches(" | ").count() + 1);
+        assert_eq!(cells.collect::<Vec<_>>(), [6]);
+    }
+    let target = targets::of_window(&windows);
+    assert_eq!(target.measured, 1);
+    assert_eq!(target.worst.1, inputs::SIMULATED);
+    assert!(text.contains("at most 1.15 times one `decode`"));
 }
 
 #[test]
