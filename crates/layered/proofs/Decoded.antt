@@ -142,7 +142,7 @@ module _ (C : Code) (first n m g limit : ℕ) (ds cs ws : List ℕ) (H : Coded C
   pub few : (firstOk first ≡ true) × ((n ≤ 256) × (length (take m ds) ≤ 128))
   few = rw (degree-count, H .first-is, H .columns-is) (H .good .first, (H .good .columns-high, H .good .checks-high))
 
-  used-is : placeAt first (take m ds) (length (take m ds)) ≡ used C
+  pub used-is : placeAt first (take m ds) (length (take m ds)) ≡ used C
   used-is = rw (degree-count, H .first-is, coded-tables .degrees-is) (place-is C cs ws (H .tabled .columns) (H .tabled .weights) (length (C .checks)))
 
   module _ (f y c s v : List ℕ) (k : ℕ) (e : k ≡ faultOf first n (take m ds) f (length y) (length c) (length s) (length v)) where

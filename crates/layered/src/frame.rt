@@ -28,7 +28,7 @@ fn zeros_in(frame: &[u8], q: usize, n: usize) -> bool
 }
 
 // "12, cost count wrong; 13, a column without a cost of 0"; 0 for none.
-fn frame_fault(first: u8, n: usize, frame: &[u8]) -> u8
+pub fn frame_fault(first: u8, n: usize, frame: &[u8]) -> u8
     requires { ⌜ (firstOk first ≡ true) × (n ≤ 256) ⌝ }
     ensures { λ r. ⌜ r ≡ frameFaultOf first n (now (frame .entry)) ⌝ }
 {
@@ -43,7 +43,7 @@ fn frame_fault(first: u8, n: usize, frame: &[u8]) -> u8
 }
 
 // "as many bytes as the M record lengths add up to".
-fn used(first: u8, degrees: &[u8]) -> usize
+pub fn used(first: u8, degrees: &[u8]) -> usize
     requires { ⌜ (firstOk first ≡ true) × (length (now degrees) ≤ 128) ⌝ }
     ensures { λ r. ⌜ r ≡ placeAt first (now (degrees .entry)) (length (now (degrees .entry))) ⌝ }
 {
@@ -59,7 +59,7 @@ fn used(first: u8, degrees: &[u8]) -> usize
 }
 
 // 2, 3, 4 and 19 by the lengths of the symbol buffer, the cost buffer, the store and the margin buffer; 0 for none.
-fn room_fault(
+pub fn room_fault(
     n: usize,
     w: usize,
     u: usize,

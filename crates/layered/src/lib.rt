@@ -1,12 +1,12 @@
 // Above the check layer and the code line: the layered decoder.
 mod column;
 mod decoding;
-mod frame;
+pub mod frame;
 mod iterate;
-mod num;
+pub mod num;
 mod parity;
 mod resume;
-mod stages;
+pub mod stages;
 mod update;
 
 ghost use mathlib.Core.Path.{_≡_};

@@ -18,7 +18,7 @@ ghost use Rattle.layered.specs.Frames.{Coded, CodeRoom};
 ghost use Rattle.layered.specs.Stages.{stageOf, stageAfter, loadingOf, iteratingOf, TestRoom, StepRoom, Loaded, LoadRoom};
 
 // "2 if the test holds, else 3 if t is I or more, else 1".
-fn stage_after(found: bool, t: u16, limit: u8) -> Stage
+pub fn stage_after(found: bool, t: u16, limit: u8) -> Stage
     ensures { λ r. ⌜ stageOf r ≡ stageAfter found t limit ⌝ }
 {
     if found {

@@ -1,0 +1,214 @@
+-- From the tests of the whole call and from where the channels stand at the end to the struct that it answers by.
+use mathlib.Core.Path.{_≡_, refl, sym, ap, ap₂, _∙_}
+use mathlib.Core.Bool.{Bool, true, false, _||_}
+use mathlib.Core.Logic.{⊎-elim}
+use mathlib.Core.List.{List, map, _++_}
+use Prim.Native.Nat.{ℕ, zero, suc, _-_, _*_, _≤_, _<_}
+use native.Mathlib.Nat.{mul-le-mul, not-suc-le-zero, le-of-suc-le-suc}
+use native.Mathlib.Omega.{arith}
+use lib.Dec.{eqb, ltb}
+use borrow.Author.Tests.{ne-eqb, eqb-true, eqb-false, ltb-false, le-ltb}
+use lib.ListN.{length, getD, take, drop, length-take, replicate, length-map, getD-replicate}
+use Rattle.trellis.specs.Lists.{pick, upTo}
+use Rattle.trellis.specs.Rules.{firstOk, sizeOf}
+use Rattle.trellis.specs.Reply.{Reply}
+use Rattle.trellis.proofs.Places.{length-count}
+use Rattle.machine.specs.CodeLine.{good, Code, size, numbersOf, parse}
+use Rattle.machine.specs.Tables.{Tabled}
+use Rattle.machine.specs.Decoding.{Buffers, lending}
+use Rattle.machine.proofs.Rooms.{used-high, costs-high}
+use Rattle.codeline.specs.declared.Header.{Header}
+use Rattle.codeline.specs.declared.Header.the-variants.{Read as HeaderRead, Refused as HeaderRefused}
+use Rattle.codeline.specs.Answers.{headerNumbers}
+use Rattle.codeline.proofs.Answered.{header-refused}
+use Rattle.layered.specs.Frames.{roomFault, Coded}
+use Rattle.layered.proofs.Decoded.{coded-tables, degree-slice, few, used-is, read, coded}
+use Rattle.channels.specs.declared.service.Layout.{Layout}
+use Rattle.channels.specs.Channels.{results, refusing, roomFaultFor, under, channels}
+use Rattle.channels.specs.Rounds.{Standing, standing, roundsAt, loadedTo, RoomFor, Asked, Ends, replyBy, statusAt, countAt, Serves}
+use Rattle.channels.specs.Layouts.{Gives, LaidOut, Shaped, countFault, faultFor, FaultRoom, UnderRoom}
+use Rattle.channels.proofs.Parts.{room-for}
+use Rattle.channels.proofs.Ends.{eight-end}
+use Rattle.channels.proofs.Quiet.{round-left}
+use Rattle.channels.proofs.Serves.{serves-loaded}
+
+-- what is left of eight zeros
+drop-zeros : (m n : ℕ) → n ≤ m → drop n (replicate {A = ℕ} m 0) ≡ replicate (m - n) 0
+drop-zeros m zero h = let e : m ≡ m - 0 = omega arith in ap (λ k. replicate k 0) e
+drop-zeros zero (suc n) h = absurd (not-suc-le-zero h)
+drop-zeros (suc m) (suc n) h = let e : m - n ≡ suc m - suc n = omega arith in drop-zeros m n (le-of-suc-le-suc h) ∙ ap (λ k. replicate k 0) e
+
+-- 21 and 22
+module _ (n A k : ℕ) (e : k ≡ countFault n A) where
+  pub count-refused : (k ≡ 0 → ⊥) → (code fs : List ℕ) (b : Buffers) → channels n A code fs b ≡ refusing k b
+  unfolding channels countFault
+  count-refused h code fs b = go (ltb n 1 || ltb 8 n) refl (eqb A 0) refl
+    where
+      go : (i : Bool) → (ltb n 1 || ltb 8 n) ≡ i → (j : Bool) → eqb A 0 ≡ j → pick i (refusing 21 b) (pick j (refusing 22 b) (under (parse code) n A fs b)) ≡ refusing k b
+      go true a j d = ap (λ x. refusing x b) (sym (e ∙ rw a))
+      go false a true d = ap (λ x. refusing x b) (sym (e ∙ rw (a, d)))
+      go false a false d = absurd (h (e ∙ rw (a, d)))
+
+  pub count-passes : k ≡ 0 → (1 ≤ n) × (n ≤ 8) × (0 < A)
+  unfolding countFault
+  count-passes h = go (ltb n 1) refl (ltb 8 n) refl (eqb A 0) refl (sym e ∙ h)
+    where
+      go : (i : Bool) → ltb n 1 ≡ i → (j : Bool) → ltb 8 n ≡ j → (l : Bool) → eqb A 0 ≡ l → _≡_ {A = ℕ} (pick (i || j) 21 (pick l 22 0)) 0 → (1 ≤ n) × (n ≤ 8) × (0 < A)
+      go true a j d l f o = absurd (omega arith)
+      go false a true d l f o = absurd (omega arith)
+      go false a false d true f o = absurd (omega arith)
+      go false a false d false f o = (ltb-false n 1 a, ltb-false 8 n d, omega (arith, eqb-false A 0 f))
+
+-- with these passed, the code decides
+pub passed-under : (n A : ℕ) (code fs : List ℕ) (b : Buffers) → 1 ≤ n → n ≤ 8 → 0 < A → channels n A code fs b ≡ under (parse code) n A fs b
+unfolding channels
+passed-under n A code fs b i j k = rw (le-ltb n 1 i, le-ltb 8 n j, ne-eqb A 0 (λ e. omega arith))
+
+-- rounds leave no more than there was
+pub rounds-left : (C : Code) (n k : ℕ) (l l′ : Standing) → l′ ≡ roundsAt C n k l → l′ .left ≤ l .left
+rounds-left C n k l l′ e = rw e (go k)
+  where
+    go : (k : ℕ) → roundsAt C n k l .left ≤ l .left
+    go zero = omega arith
+    go (suc k) = ⊎-elim (λ o. rw o (go k)) (λ o. omega (arith, go k)) (round-left C n (roundsAt C n k l))
+
+-- lengths whose multiples fit
+pub fault-room : (C : Code) (z : Layout) (ds cs ws : List ℕ) → Shaped C z ds cs ws → (n : ℕ) → n ≤ 8 → FaultRoom n z
+fault-room C z ds cs ws H n h =
+    record {
+      few = h;
+      columns = rw (H .columns-is) (H .good .columns-high);
+      costs = rw (H .costs-is) (costs-high C (H .good));
+      store = omega (arith, H .store-is, used-high C (H .good));
+    }
+
+module _ (C : Code) (z : Layout) (ds cs ws : List ℕ) (H : Shaped C z ds cs ws) (n A : ℕ) (low : 1 ≤ n) (high : n ≤ 8) (some : 0 < A) (code : List ℕ) (line : parse code ≡ good C)
+    (fs y p s v : List ℕ) (k : ℕ) (e : k ≡ faultFor n z (length fs) (length y) (length p) (length s) (length v)) where
+  abbrev b : Buffers
+  b = lending y p s v
+
+  fault-is : k ≡ pick (eqb (length fs) (n * (C .columns * size C))) (roomFaultFor C n b) 12
+  unfolding faultFor roomFault roomFaultFor
+  fault-is = e ∙ rw (H .columns-is, H .costs-is, H .store-is)
+
+  under-is : channels n A code fs b ≡ under (good C) n A fs b
+  under-is = passed-under n A code fs b low high some ∙ ap (λ r. under r n A fs b) line
+
+  -- 12, 2, 3, 4, 19
+  pub whole-refused : (k ≡ 0 → ⊥) → channels n A code fs b ≡ refusing k b
+  whole-refused h = under-is ∙ go (eqb (length fs) (n * (C .columns * size C))) refl (eqb (roomFaultFor C n b) 0) refl
+    where
+      go : (i : Bool) → eqb (length fs) (n * (C .columns * size C)) ≡ i → (j : Bool) → eqb (roomFaultFor C n b) 0 ≡ j
+          → pick i (pick j (results C n A fs b) (refusing (roomFaultFor C n b) b)) (refusing 12 b) ≡ refusing k b
+      go true a true d = absurd (h (fault-is ∙ rw a (eqb-true _ _ d)))
+      go true a false d = ap (λ x. refusing x b) (sym (fault-is ∙ rw a))
+      go false a j d = ap (λ x. refusing x b) (sym (fault-is ∙ rw a))
+
+  module _ (h : k ≡ 0) (bytes : (i : ℕ) → getD fs i 0 ≤ 255) where
+    passes : (length fs ≡ n * (C .columns * size C)) × RoomFor C n b
+    passes = go (eqb (length fs) (n * (C .columns * size C))) refl (sym fault-is ∙ h)
+      where
+        go : (i : Bool) → eqb (length fs) (n * (C .columns * size C)) ≡ i → pick i (roomFaultFor C n b) 12 ≡ 0 → (length fs ≡ n * (C .columns * size C)) × RoomFor C n b
+        go true a o = (eqb-true _ _ a, room-for C n b o)
+        go false a o = absurd (omega arith)
+
+    pub asked : Asked n A code fs b C
+    asked = record { count-low = low; count-high = high; some = some; line = line; long = passes .0; room = passes .1; bytes = bytes }
+
+    pub long-is : length fs ≡ n * (C .columns * size C)
+    long-is = passes .0
+
+    pub room-is : RoomFor C n b
+    room-is = passes .1
+
+    -- the service may begin
+    pub begins : (l : Standing) → l ≡ loadedTo C fs n (standing (replicate 8 0) (replicate 8 0) A b) → Serves C (H .good) n l
+    begins l o =
+        rw o
+        (serves-loaded C (H .good) n fs (standing (replicate 8 0) (replicate 8 0) A b)
+        (record { for-status = high; for-counts = high; room = room-is }) long-is bytes (λ c i. getD-replicate 8 c 0 0 (omega arith)))
+
+    -- and what it gives at its end
+    module _ (l : Standing) (o : l ≡ roundsAt C n A (loadedTo C fs n (standing (replicate 8 0) (replicate 8 0) A b))) where
+      E : Ends n A code fs b C (standing (replicate 8 0) (replicate 8 0) A b) l
+      E = rw o (eight-end n A code fs b C asked)
+
+      pub spent-small : z .limit ≤ 255 → A - l .left ≤ 2040
+      spent-small d =
+          let i : C .limit ≤ 255 = omega (arith, H .limit-is) in
+          let m : n * C .limit ≤ 8 * 255 = mul-le-mul high i in
+          omega (arith, E .spent-most)
+
+      count-answers : length (channels n A code fs b .answers) ≡ n
+      count-answers = ap length (E .answers) ∙ length-map (upTo n) (λ c. replyBy (statusAt l c) (countAt l c)) ∙ length-count 0 n
+
+      zeros-left : drop n (replicate {A = ℕ} 8 0) ≡ replicate (8 - length (channels n A code fs b .answers)) 0
+      zeros-left = drop-zeros 8 n high ∙ ap (λ k. replicate (8 - k) 0) (sym count-answers)
+
+      pub gives : (y′ p′ s′ v′ : List ℕ) → lending y′ p′ s′ v′ ≡ l .buffers → Gives (channels n A code fs b) 0 (A - l .left) (l .status) (l .counts) (lending y′ p′ s′ v′)
+      gives y′ p′ s′ v′ i =
+          let x : lending y′ p′ s′ v′ ≡ channels n A code fs b .buffers = i ∙ E .buffers in
+          record {
+            number-is = sym (E .number);
+            spent-is = sym (E .spent);
+            status-is = E .status ∙ ap (λ r. map (λ (a : Reply). a .number) (channels n A code fs b .answers) ++ r) zeros-left;
+            iterations-is = E .counts ∙ ap (λ r. map (λ (a : Reply). a .value) (channels n A code fs b .answers) ++ r) zeros-left;
+            symbols-then = ap (λ (w : Buffers). w .symbols) x;
+            costs-then = ap (λ (w : Buffers). w .costs) x;
+            store-then = ap (λ (w : Buffers). w .store) x;
+            margins-then = ap (λ (w : Buffers). w .margins) x;
+          }
+
+-- the layout of a code that is read
+shaped-of : (C : Code) (first n m g limit : ℕ) (ds cs ws : List ℕ) → Coded C first n m g limit ds cs ws → (z : Layout) → LaidOut first g limit n (take m ds) z
+    → Shaped C z (take m ds) cs ws
+shaped-of C first n m g limit ds cs ws H z L =
+    record {
+      good = H .good;
+      tables = rw (L .first-is, L .scale-is) (coded-tables C first n m g limit ds cs ws H);
+      columns-is = L .columns-is ∙ H .columns-is;
+      limit-is = L .limit-is ∙ H .limit-is;
+      costs-is = L .costs-is ∙ ap₂ (λ a b. a * sizeOf b) (H .columns-is) (H .first-is);
+      store-is = L .store-is ∙ used-is C first n m g limit ds cs ws H;
+    }
+
+-- what the reader's answer says of the line
+module _ (s₀ : List ℕ) (h : Header) (e : headerNumbers h ≡ numbersOf (parse s₀)) where
+  pub line-refused : (n A : ℕ) → 1 ≤ n → n ≤ 8 → 0 < A → (k : ℕ) → h ≡ HeaderRefused k → (fs : List ℕ) (b : Buffers) → channels n A s₀ fs b ≡ refusing k b
+  line-refused n A i j l k o fs b = passed-under n A s₀ fs b i j l ∙ ap (λ r. under r n A fs b) (header-refused s₀ h e k o)
+
+  -- with the numbers as wider ones
+  module _ (first n m g limit : ℕ) (i : h ≡ HeaderRead first n m g limit) (N M G : ℕ) (j : N ≡ n) (k : M ≡ m) (l : G ≡ g)
+      (ds cs ws : List ℕ) (T : (C : Code) → parse s₀ ≡ good C → Tabled C ds cs ws) where
+    H : Coded (read s₀ h e first n m g limit i .code) first N M G limit ds cs ws
+    H = coded s₀ h e first n m g limit i N M G j k l ds cs ws T
+
+    pub degrees-inside : M ≤ length ds
+    degrees-inside = omega (arith, degree-slice _ first N M G limit ds cs ws H, length-take M ds)
+
+    pub layout-asks : (M ≤ length ds) × ((M ≤ 128) × ((firstOk first ≡ true) × (N ≤ 256)))
+    layout-asks =
+        let w = few _ first N M G limit ds cs ws H in
+        (degrees-inside, (omega (arith, degree-slice _ first N M G limit ds cs ws H, w .1 .1), (w .0, w .1 .0)))
+
+    module _ (z : Layout) (L : LaidOut first G limit N (take M ds) z) where
+      pub under-room : (c A : ℕ) → 1 ≤ c → c ≤ 8 → 0 < A → (Q S : List ℕ) → 2048 ≤ length Q → 2048 ≤ length S → UnderRoom c A z M ds cs ws Q S
+      under-room c A u v w Q S a b =
+          record {
+            code = read s₀ h e first n m g limit i .code;
+            line = s₀;
+            parsed = read s₀ h e first n m g limit i .parsed;
+            checks = degrees-inside;
+            shaped = shaped-of _ first N M G limit ds cs ws H z L;
+            low = u;
+            high = v;
+            some = w;
+            arrived = a;
+            sent = b;
+          }
+
+      pub line-gives : (c A : ℕ) (fs : List ℕ) (b : Buffers) (x y : ℕ) (p q : List ℕ) (b′ : Buffers)
+          → ((code : List ℕ) (C : Code) → parse code ≡ good C → Shaped C z (take M ds) cs ws → Gives (channels c A code fs b) x y p q b′)
+          → Gives (channels c A s₀ fs b) x y p q b′
+      line-gives c A fs b x y p q b′ W =
+          W s₀ (read s₀ h e first n m g limit i .code) (read s₀ h e first n m g limit i .parsed) (shaped-of _ first N M G limit ds cs ws H z L)

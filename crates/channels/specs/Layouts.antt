@@ -1,0 +1,141 @@
+-- What the functions ask and leave: the struct that a call answers by, the numbers and lengths that a channel needs, and room for each loop.
+use mathlib.Core.Path.{_≡_}
+use mathlib.Core.Bool.{_||_}
+use mathlib.Core.List.{List, map, _++_}
+use Prim.Native.Nat.{ℕ, _+_, _-_, _*_, _≤_, _<_}
+use lib.Dec.{eqb, ltb}
+use lib.ListN.{length, take, replicate}
+use Rattle.trellis.specs.Lists.{pick}
+use Rattle.trellis.specs.Rules.{sizeOf}
+use Rattle.trellis.specs.Reply.{Reply}
+use Rattle.machine.specs.CodeLine.{good, Code, size, parse}
+use Rattle.machine.specs.Machine.{used}
+use Rattle.machine.specs.Decoding.{Buffers}
+use Rattle.machine.specs.Moments.{Moment}
+use Rattle.machine.proofs.Lines.{GoodCode}
+use Rattle.machine.proofs.Passing.{Passable}
+use Rattle.layered.specs.Frames.{roomFault}
+use Rattle.layered.specs.Passes.{graph, placeAt, Tables}
+use Rattle.channels.specs.declared.service.Layout.{Layout}
+use Rattle.channels.specs.Channels.{Results, ownOf}
+use Rattle.channels.specs.Rounds.{Standing, Serves, lentIn, statusOf, patchAt}
+
+-- a list of eight: those of the channels, and 0 for each that there is not
+abbrev pub eight : (Reply → ℕ) → List Reply → List ℕ
+eight f l = map f l ++ replicate (8 - length l) 0
+
+-- the struct's fields and the buffers afterwards are those of the results
+pub record Gives (R : Results) (number spent : ℕ) (status iterations : List ℕ) (b : Buffers) : Type 0 where
+  pub number-is : number ≡ R .number
+  pub spent-is : spent ≡ R .spent
+  pub status-is : status ≡ eight (λ a. a .number) (R .answers)
+  pub iterations-is : iterations ≡ eight (λ a. a .value) (R .answers)
+  pub symbols-then : b .symbols ≡ R .buffers .symbols
+  pub costs-then : b .costs ≡ R .buffers .costs
+  pub store-then : b .store ≡ R .buffers .store
+  pub margins-then : b .margins ≡ R .buffers .margins
+
+-- "21, channel count not 1 to 8, before all; 22, A is 0, after 21."; 0 for neither
+unfoldable pub countFault : ℕ → ℕ → ℕ
+countFault n A = pick (ltb n 1 || ltb 8 n) 21 (pick (eqb A 0) 22 0)
+
+-- a layout by its numbers
+pub record LaidOut (first scale limit columns : ℕ) (ds : List ℕ) (z : Layout) : Type 0 where
+  pub first-is : z .first ≡ first
+  pub scale-is : z .scale ≡ scale
+  pub limit-is : z .limit ≡ limit
+  pub columns-is : z .columns ≡ columns
+  pub costs-is : z .costs ≡ columns * sizeOf first
+  pub store-is : z .store ≡ placeAt first ds (length ds)
+
+-- 12, 2, 3, 4, 19 by the lengths; 0 for none
+unfoldable pub faultFor : ℕ → Layout → ℕ → ℕ → ℕ → ℕ → ℕ → ℕ
+faultFor n z f y c s v = pick (eqb f (n * z .costs)) (roomFault (n * z .columns) (n * z .costs) (n * z .store) y c s v) 12
+
+-- lengths whose multiples fit
+pub record FaultRoom (n : ℕ) (z : Layout) : Type 0 where
+  pub few : n ≤ 8
+  pub columns : z .columns ≤ 256
+  pub costs : z .costs ≤ 16384
+  pub store : z .store ≤ 65535
+
+-- the layout and the tables of an accepted code; the degrees are just those of its checks
+pub record Shaped (C : Code) (z : Layout) (ds cs ws : List ℕ) : Type 0 where
+  pub good : GoodCode C
+  pub tables : Tables C (graph (z .first) (z .scale) ds cs ws)
+  pub columns-is : z .columns ≡ C .columns
+  pub limit-is : z .limit ≡ C .limit
+  pub costs-is : z .costs ≡ C .columns * size C
+  pub store-is : z .store ≡ used C
+
+-- what one channel's load or iteration leaves: its status, and its parts of the buffers
+pub record Puts (C : Code) (c : ℕ) (b : Buffers) (m : Moment) (status : ℕ) (b′ : Buffers) : Type 0 where
+  pub status-is : status ≡ statusOf (m .stage)
+  pub buffers-are : b′ ≡ patchAt C c b (m .buffers)
+
+-- room for channel c's records, and for those of n channels
+abbrev pub OnePart : Code → ℕ → List ℕ → Type 0
+OnePart C c s = c * used C + used C ≤ length s
+
+abbrev pub AllParts : Code → ℕ → List ℕ → Type 0
+AllParts C n s = n * used C ≤ length s
+
+-- a channel's load: it is one of n
+pub record LoadsRoom (n : ℕ) (z : Layout) (ds cs ws fs y p v st : List ℕ) : Type 0 where
+  pub code : Code
+  pub shaped : Shaped code z ds cs ws
+  pub frames : length fs ≡ n * (code .columns * size code)
+  pub symbols : n * code .columns ≤ length y
+  pub costs : n * (code .columns * size code) ≤ length p
+  pub margins : n * code .columns ≤ length v
+  pub for-status : n ≤ length st
+
+pub record LoadRoom (c : ℕ) (z : Layout) (ds cs ws fs y p v : List ℕ) : Type 0 where
+  pub code : Code
+  pub shaped : Shaped code z ds cs ws
+  pub frames : c * (code .columns * size code) + code .columns * size code ≤ length fs
+  pub symbols : c * code .columns + code .columns ≤ length y
+  pub costs : c * (code .columns * size code) + code .columns * size code ≤ length p
+  pub margins : c * code .columns + code .columns ≤ length v
+
+-- channel c's parts are inside the buffers
+pub record PartRoom (C : Code) (c : ℕ) (b : Buffers) : Type 0 where
+  pub for-symbols : c * C .columns + C .columns ≤ length (b .symbols)
+  pub for-costs : c * (C .columns * size C) + C .columns * size C ≤ length (b .costs)
+  pub for-store : c * used C + used C ≤ length (b .store)
+  pub for-margins : c * C .columns + C .columns ≤ length (b .margins)
+
+-- its next iteration, after t: its costs are in range and its records of accepted form
+pub record StepRoom (c t : ℕ) (z : Layout) (ds cs ws : List ℕ) (b : Buffers) (A S : List ℕ) : Type 0 where
+  pub code : Code
+  pub shaped : Shaped code z ds cs ws
+  pub room : PartRoom code c b
+  pub passable : Passable code (shaped .good) (eqb t 0) (lentIn (ownOf code b c))
+  pub arrived : 2048 ≤ length A
+  pub sent : 2048 ≤ length S
+
+-- a round of n channels, and one of its servings
+pub record ServeRoom (n : ℕ) (z : Layout) (ds cs ws : List ℕ) (l : Standing) (A S : List ℕ) : Type 0 where
+  pub code : Code
+  pub shaped : Shaped code z ds cs ws
+  pub serves : Serves code (shaped .good) n l
+  pub arrived : 2048 ≤ length A
+  pub sent : 2048 ≤ length S
+
+pub record OneRoom (c : ℕ) (z : Layout) (ds cs ws : List ℕ) (l : Standing) (A S : List ℕ) : Type 0 where
+  pub count : ℕ
+  pub inside : c < count
+  pub room : ServeRoom count z ds cs ws l A S
+
+-- under a code that is read
+pub record UnderRoom (n A : ℕ) (z : Layout) (m : ℕ) (ds cs ws Q S : List ℕ) : Type 0 where
+  pub code : Code
+  pub line : List ℕ
+  pub parsed : parse line ≡ good code
+  pub checks : m ≤ length ds
+  pub shaped : Shaped code z (take m ds) cs ws
+  pub low : 1 ≤ n
+  pub high : n ≤ 8
+  pub some : 0 < A
+  pub arrived : 2048 ≤ length Q
+  pub sent : 2048 ≤ length S

@@ -1,0 +1,103 @@
+// One channel in its parts of the buffers: its load and its next iteration.
+use crate::service::Layout;
+use layered::Stage;
+use layered::frame;
+use layered::num;
+use layered::stages;
+ghost use mathlib.Core.Path.{_≡_};
+ghost use mathlib.Core.List.{List};
+ghost use Prim.Native.Nat.{ℕ};
+ghost use Rattle.machine.specs.CodeLine.{Code};
+ghost use Rattle.machine.specs.Decoding.{lending};
+ghost use Rattle.layered.specs.Stages.{stageOf};
+ghost use Rattle.channels.specs.Rounds.{statusOf, loadAt, stepAt};
+ghost use Rattle.channels.specs.Layouts.{Shaped, OnePart, LoadRoom, StepRoom, Puts};
+
+// 20 while running: at the end it is the channel's status.
+fn status_of(s: Stage) -> u8
+    ensures { λ r. ⌜ r ≡ statusOf (stageOf s) ⌝ }
+{
+    match s {
+        Stage::Running => 20,
+        Stage::Found => 0,
+        Stage::NotFound => 1,
+        Stage::Refused(k) => k,
+    }
+}
+
+// "Only 13 is a channel's own: its parts of the buffers are unchanged"; else the frame becomes its costs and is tested. The store is untouched.
+pub fn load_at(
+    c: usize,
+    z: Layout,
+    degrees: &[u8],
+    columns: &[u16],
+    weights: &[u8],
+    frames: &[u8],
+    symbols: &mut [u8],
+    costs: &mut [u16],
+    margins: &mut [u16],
+) -> u8
+    requires { ⌜ LoadRoom c z (now degrees) (now columns) (now weights) (now frames) (now symbols) (now costs) (now margins) ⌝ }
+    ensures { λ r. ⌜ ((C : Code) → Shaped C z (now (degrees .entry)) (now (columns .entry)) (now (weights .entry)) → (store : List ℕ) → OnePart C c store → Puts C c (lending (now (symbols .entry)) (now (costs .entry)) store (now (margins .entry))) (loadAt C (now (frames .entry)) c (lending (now (symbols .entry)) (now (costs .entry)) store (now (margins .entry)))) r (lending (now (symbols .exit)) (now (costs .exit)) store (now (margins .exit)))) ⌝ }
+{
+    let a = c * z.columns;
+    let b = a + z.columns;
+    let d = c * z.costs;
+    let e = d + z.costs;
+    let k = frame::frame_fault(z.first, z.columns, &frames[d..e]);
+    if k != 0 {
+        return k;
+    }
+    frame::copy(&frames[d..e], &mut costs[d..e]);
+    let found = stages::tested(
+        z.first,
+        degrees,
+        columns,
+        weights,
+        &costs[d..e],
+        &mut symbols[a..b],
+        &mut margins[a..b],
+    );
+    status_of(stages::stage_after(found, 0, z.limit))
+}
+
+// Its next iteration, after t.
+pub fn step_at(
+    c: usize,
+    t: u8,
+    z: Layout,
+    degrees: &[u8],
+    columns: &[u16],
+    weights: &[u8],
+    symbols: &mut [u8],
+    costs: &mut [u16],
+    store: &mut [u8],
+    margins: &mut [u16],
+    arrived: &mut [u8],
+    sent: &mut [u8],
+) -> u8
+    requires { ⌜ StepRoom c t z (now degrees) (now columns) (now weights) (lending (now symbols) (now costs) (now store) (now margins)) (now arrived) (now sent) ⌝ }
+    ensures { λ r. ⌜ ((C : Code) → Shaped C z (now (degrees .entry)) (now (columns .entry)) (now (weights .entry)) → Puts C c (lending (now (symbols .entry)) (now (costs .entry)) (now (store .entry)) (now (margins .entry))) (stepAt C c t (lending (now (symbols .entry)) (now (costs .entry)) (now (store .entry)) (now (margins .entry)))) r (lending (now (symbols .exit)) (now (costs .exit)) (now (store .exit)) (now (margins .exit)))) ⌝ }
+{
+    let a = c * z.columns;
+    let b = a + z.columns;
+    let d = c * z.costs;
+    let e = d + z.costs;
+    let f = c * z.store;
+    let g = f + z.store;
+    let found = stages::iterated(
+        z.first,
+        z.scale,
+        t == 0,
+        degrees,
+        columns,
+        weights,
+        &mut symbols[a..b],
+        &mut costs[d..e],
+        &mut store[f..g],
+        &mut margins[a..b],
+        arrived,
+        sent,
+    );
+    status_of(stages::stage_after(found, num::wide(t) + 1, z.limit))
+}

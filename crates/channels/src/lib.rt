@@ -1,0 +1,56 @@
+// One check layer, eight channels: up to eight frames under one code line, with one allowance of iterations for all.
+mod channel;
+mod service;
+mod whole;
+
+ghost use Rattle.machine.specs.Decoding.{lending};
+ghost use Rattle.channels.specs.Channels.{channels};
+ghost use Rattle.channels.specs.Layouts.{Gives};
+
+// The call's number, the iterations spent of the allowance, and each channel's status with its iterations; 0 for a channel that there is not,
+// and all 0 but the number where the whole call is refused.
+#[repr(C)]
+pub struct Served {
+    pub number: u8,
+    pub spent: u16,
+    pub status: [u8; 8],
+    pub iterations: [u8; 8],
+}
+
+// Decodes `count` frames, which stand end to end in `frames`; what channel c receives stands in the c-th part of each buffer. The channels are
+// served by number in turn, one iteration each, until every one is finished or the allowance is spent. A channel's status is 0 found, 1 not
+// found, 13 refused, or 20 spent: still running when nothing was left. Refused as a whole: 21, count not 1 to 8; 22, no allowance; the code
+// line's 5 to 11; 12, cost count; 2, 3, 4, 19, a buffer shorter than the count times one channel's part.
+pub fn decode_channels(
+    count: u8,
+    allowance: u32,
+    code: &[u8],
+    frames: &[u8],
+    symbols: &mut [u8],
+    costs: &mut [u16],
+    store: &mut [u8],
+    margins: &mut [u16],
+) -> Served
+    ensures { λ r. ⌜ Gives (channels count allowance (now (code .entry)) (now (frames .entry)) (lending (now (symbols .entry)) (now (costs .entry)) (now (store .entry)) (now (margins .entry)))) (r .number) (r .spent) (r .status) (r .iterations) (lending (now (symbols .exit)) (now (costs .exit)) (now (store .exit)) (now (margins .exit))) ⌝ }
+{
+    let mut degrees = [0u8; 128];
+    let mut columns = [0u16; 1024];
+    let mut weights = [0u8; 1024];
+    let mut arrived = [0u8; 2048];
+    let mut sent = [0u8; 2048];
+    whole::decode_in(
+        count,
+        allowance,
+        code,
+        frames,
+        symbols,
+        costs,
+        store,
+        margins,
+        &mut degrees,
+        &mut columns,
+        &mut weights,
+        &mut arrived,
+        &mut sent,
+    )
+}

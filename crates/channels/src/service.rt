@@ -1,0 +1,186 @@
+// The channels in turn: all loaded, then rounds in which each that is running gets one iteration.
+use crate::channel;
+ghost use mathlib.Core.Path.{_≡_};
+ghost use mathlib.Core.List.{List};
+ghost use Prim.Native.Nat.{ℕ};
+ghost use Rattle.machine.specs.CodeLine.{Code};
+ghost use Rattle.machine.specs.Decoding.{lending};
+ghost use Rattle.channels.specs.Rounds.{standing, servingAt, loadedTo, roundAt, roundsAt};
+ghost use Rattle.channels.specs.Layouts.{Shaped, AllParts, LoadsRoom, OneRoom, ServeRoom};
+
+// The numbers of the code line that a channel needs, and the lengths of its parts: N, N times q, and the M record lengths added up.
+pub struct Layout {
+    pub first: u8,
+    pub scale: u16,
+    pub limit: u8,
+    pub columns: usize,
+    pub costs: usize,
+    pub store: usize,
+}
+
+// Every channel is loaded, by number.
+pub fn load_all(
+    count: usize,
+    z: Layout,
+    degrees: &[u8],
+    columns: &[u16],
+    weights: &[u8],
+    frames: &[u8],
+    symbols: &mut [u8],
+    costs: &mut [u16],
+    margins: &mut [u16],
+    status: &mut [u8],
+)
+    requires { ⌜ LoadsRoom count z (now degrees) (now columns) (now weights) (now frames) (now symbols) (now costs) (now margins) (now status) ⌝ }
+    ensures { λ _. ⌜ ((C : Code) → Shaped C z (now (degrees .entry)) (now (columns .entry)) (now (weights .entry)) → (store counts : List ℕ) (left : ℕ) → AllParts C count store → standing (now (status .exit)) counts left (lending (now (symbols .exit)) (now (costs .exit)) store (now (margins .exit))) ≡ loadedTo C (now (frames .entry)) count (standing (now (status .entry)) counts left (lending (now (symbols .entry)) (now (costs .entry)) store (now (margins .entry))))) ⌝ }
+{
+    let mut c = 0;
+    while c < count {
+        status[c] = channel::load_at(
+            c,
+            z,
+            degrees,
+            columns,
+            weights,
+            frames,
+            symbols,
+            costs,
+            margins,
+        );
+        c += 1;
+    }
+}
+
+// Channel c is served: one iteration if it is running (20) and something is left. What is left then.
+fn serve_at(
+    c: usize,
+    left: u32,
+    z: Layout,
+    degrees: &[u8],
+    columns: &[u16],
+    weights: &[u8],
+    symbols: &mut [u8],
+    costs: &mut [u16],
+    store: &mut [u8],
+    margins: &mut [u16],
+    status: &mut [u8],
+    counts: &mut [u8],
+    arrived: &mut [u8],
+    sent: &mut [u8],
+) -> u32
+    requires { ⌜ OneRoom c z (now degrees) (now columns) (now weights) (standing (now status) (now counts) left (lending (now symbols) (now costs) (now store) (now margins))) (now arrived) (now sent) ⌝ }
+    ensures { λ r. ⌜ ((C : Code) → Shaped C z (now (degrees .entry)) (now (columns .entry)) (now (weights .entry)) → standing (now (status .exit)) (now (counts .exit)) r (lending (now (symbols .exit)) (now (costs .exit)) (now (store .exit)) (now (margins .exit))) ≡ servingAt C c (standing (now (status .entry)) (now (counts .entry)) left (lending (now (symbols .entry)) (now (costs .entry)) (now (store .entry)) (now (margins .entry))))) ⌝ }
+{
+    if status[c] != 20 {
+        return left;
+    }
+    if left == 0 {
+        return left;
+    }
+    let t = counts[c];
+    status[c] = channel::step_at(
+        c,
+        t,
+        z,
+        degrees,
+        columns,
+        weights,
+        symbols,
+        costs,
+        store,
+        margins,
+        arrived,
+        sent,
+    );
+    counts[c] = t + 1;
+    left - 1
+}
+
+// A round: each channel once, by number.
+fn round(
+    count: usize,
+    left: u32,
+    z: Layout,
+    degrees: &[u8],
+    columns: &[u16],
+    weights: &[u8],
+    symbols: &mut [u8],
+    costs: &mut [u16],
+    store: &mut [u8],
+    margins: &mut [u16],
+    status: &mut [u8],
+    counts: &mut [u8],
+    arrived: &mut [u8],
+    sent: &mut [u8],
+) -> u32
+    requires { ⌜ ServeRoom count z (now degrees) (now columns) (now weights) (standing (now status) (now counts) left (lending (now symbols) (now costs) (now store) (now margins))) (now arrived) (now sent) ⌝ }
+    ensures { λ r. ⌜ ((C : Code) → Shaped C z (now (degrees .entry)) (now (columns .entry)) (now (weights .entry)) → standing (now (status .exit)) (now (counts .exit)) r (lending (now (symbols .exit)) (now (costs .exit)) (now (store .exit)) (now (margins .exit))) ≡ roundAt C count (standing (now (status .entry)) (now (counts .entry)) left (lending (now (symbols .entry)) (now (costs .entry)) (now (store .entry)) (now (margins .entry))))) ⌝ }
+{
+    let mut a = left;
+    let mut c = 0;
+    while c < count {
+        a = serve_at(
+            c,
+            a,
+            z,
+            degrees,
+            columns,
+            weights,
+            symbols,
+            costs,
+            store,
+            margins,
+            status,
+            counts,
+            arrived,
+            sent,
+        );
+        c += 1;
+    }
+    a
+}
+
+// Rounds until one serves nobody: every channel is finished, or nothing is left.
+pub fn serve(
+    count: usize,
+    allowance: u32,
+    z: Layout,
+    degrees: &[u8],
+    columns: &[u16],
+    weights: &[u8],
+    symbols: &mut [u8],
+    costs: &mut [u16],
+    store: &mut [u8],
+    margins: &mut [u16],
+    status: &mut [u8],
+    counts: &mut [u8],
+    arrived: &mut [u8],
+    sent: &mut [u8],
+) -> u32
+    requires { ⌜ ServeRoom count z (now degrees) (now columns) (now weights) (standing (now status) (now counts) allowance (lending (now symbols) (now costs) (now store) (now margins))) (now arrived) (now sent) ⌝ }
+    ensures { λ r. ⌜ ((C : Code) → Shaped C z (now (degrees .entry)) (now (columns .entry)) (now (weights .entry)) → standing (now (status .exit)) (now (counts .exit)) r (lending (now (symbols .exit)) (now (costs .exit)) (now (store .exit)) (now (margins .exit))) ≡ roundsAt C count allowance (standing (now (status .entry)) (now (counts .entry)) allowance (lending (now (symbols .entry)) (now (costs .entry)) (now (store .entry)) (now (margins .entry))))) ⌝ }
+{
+    let mut a = allowance;
+    loop {
+        let b = round(
+            count,
+            a,
+            z,
+            degrees,
+            columns,
+            weights,
+            symbols,
+            costs,
+            store,
+            margins,
+            status,
+            counts,
+            arrived,
+            sent,
+        );
+        if b == a {
+            return b;
+        }
+        a = b;
+    }
+}

@@ -1,0 +1,216 @@
+// The whole call: its refusals, the code line read once, and the service.
+use crate::Served;
+use crate::service;
+use crate::service::Layout;
+use codeline::Header;
+use layered::frame;
+use layered::num;
+ghost use mathlib.Core.Path.{_≡_};
+ghost use mathlib.Core.Bool.{true};
+ghost use mathlib.Core.List.{List};
+ghost use Prim.Native.Nat.{ℕ, _≤_};
+ghost use lib.ListN.{length, take};
+ghost use Rattle.trellis.specs.Rules.{firstOk};
+ghost use Rattle.machine.specs.CodeLine.{good, Code, parse};
+ghost use Rattle.machine.specs.Decoding.{Buffers, lending};
+ghost use Rattle.channels.specs.Channels.{refusing, channels};
+ghost use Rattle.channels.specs.Layouts.{Gives, Shaped, LaidOut, countFault, faultFor, FaultRoom, UnderRoom};
+
+// A refusal of the whole call.
+fn refused(k: u8) -> Served
+    ensures { λ r. ⌜ ((b : Buffers) → Gives (refusing k b) (r .number) (r .spent) (r .status) (r .iterations) b) ⌝ }
+{
+    Served {
+        number: k,
+        spent: 0,
+        status: [0u8; 8],
+        iterations: [0u8; 8],
+    }
+}
+
+// "21, channel count not 1 to 8, before all; 22, A is 0, after 21"; 0 for neither.
+fn count_fault(count: u8, allowance: u32) -> u8
+    ensures { λ r. ⌜ r ≡ countFault count allowance ⌝ }
+{
+    if count < 1 {
+        return 21;
+    }
+    if 8 < count {
+        return 21;
+    }
+    if allowance == 0 {
+        return 22;
+    }
+    0
+}
+
+// The lengths of one channel's parts, where the code has m checks.
+fn layout_of(first: u8, scale: u16, limit: u8, columns: usize, m: usize, degrees: &[u8]) -> Layout
+    requires { ⌜ (m ≤ length (now degrees)) × ((m ≤ 128) × ((firstOk first ≡ true) × (columns ≤ 256))) ⌝ }
+    ensures { λ r. ⌜ LaidOut first scale limit columns (take m (now (degrees .entry))) r ⌝ }
+{
+    let q = rules::size(first);
+    let store = frame::used(first, &degrees[..m]);
+    Layout {
+        first: first,
+        scale: scale,
+        limit: limit,
+        columns: columns,
+        costs: columns * q,
+        store: store,
+    }
+}
+
+// 12, 2, 3, 4 and 19 for the whole call, "each length being the count times one channel's"; 0 for none.
+fn fault(
+    count: usize,
+    z: Layout,
+    frames: usize,
+    symbols: usize,
+    costs: usize,
+    store: usize,
+    margins: usize,
+) -> u8
+    requires { ⌜ FaultRoom count z ⌝ }
+    ensures { λ r. ⌜ r ≡ faultFor count z frames symbols costs store margins ⌝ }
+{
+    let w = count * z.costs;
+    if frames != w {
+        return 12;
+    }
+    frame::room_fault(
+        count * z.columns,
+        w,
+        count * z.store,
+        symbols,
+        costs,
+        store,
+        margins,
+    )
+}
+
+// Under a code that is read. Nothing is written before the last refusal of the whole call has been tested.
+fn under_code(
+    count: usize,
+    allowance: u32,
+    z: Layout,
+    m: usize,
+    degrees: &[u8],
+    columns: &[u16],
+    weights: &[u8],
+    frames: &[u8],
+    symbols: &mut [u8],
+    costs: &mut [u16],
+    store: &mut [u8],
+    margins: &mut [u16],
+    arrived: &mut [u8],
+    sent: &mut [u8],
+) -> Served
+    requires { ⌜ UnderRoom count allowance z m (now degrees) (now columns) (now weights) (now arrived) (now sent) ⌝ }
+    ensures { λ r. ⌜ ((code : List ℕ) (C : Code) → parse code ≡ good C → Shaped C z (take m (now (degrees .entry))) (now (columns .entry)) (now (weights .entry)) → Gives (channels count allowance code (now (frames .entry)) (lending (now (symbols .entry)) (now (costs .entry)) (now (store .entry)) (now (margins .entry)))) (r .number) (r .spent) (r .status) (r .iterations) (lending (now (symbols .exit)) (now (costs .exit)) (now (store .exit)) (now (margins .exit)))) ⌝ }
+{
+    let k = fault(
+        count,
+        z,
+        frames.len(),
+        symbols.len(),
+        costs.len(),
+        store.len(),
+        margins.len(),
+    );
+    if k != 0 {
+        return refused(k);
+    }
+    let mut status = [0u8; 8];
+    let mut counts = [0u8; 8];
+    service::load_all(
+        count,
+        z,
+        &degrees[..m],
+        columns,
+        weights,
+        frames,
+        symbols,
+        costs,
+        margins,
+        &mut status,
+    );
+    let left = service::serve(
+        count,
+        allowance,
+        z,
+        &degrees[..m],
+        columns,
+        weights,
+        symbols,
+        costs,
+        store,
+        margins,
+        &mut status,
+        &mut counts,
+        arrived,
+        sent,
+    );
+    Served {
+        number: 0,
+        spent: (allowance - left) as u16,
+        status,
+        iterations: counts,
+    }
+}
+
+// Over the tables and lists of decode_channels.
+pub fn decode_in(
+    count: u8,
+    allowance: u32,
+    code: &[u8],
+    frames: &[u8],
+    symbols: &mut [u8],
+    costs: &mut [u16],
+    store: &mut [u8],
+    margins: &mut [u16],
+    degrees: &mut [u8; 128],
+    columns: &mut [u16; 1024],
+    weights: &mut [u8; 1024],
+    arrived: &mut [u8; 2048],
+    sent: &mut [u8; 2048],
+) -> Served
+    ensures { λ r. ⌜ Gives (channels count allowance (now (code .entry)) (now (frames .entry)) (lending (now (symbols .entry)) (now (costs .entry)) (now (store .entry)) (now (margins .entry)))) (r .number) (r .spent) (r .status) (r .iterations) (lending (now (symbols .exit)) (now (costs .exit)) (now (store .exit)) (now (margins .exit))) ⌝ }
+{
+    let k = count_fault(count, allowance);
+    if k != 0 {
+        return refused(k);
+    }
+    match codeline::code_tables(code, degrees, columns, weights) {
+        Header::Refused(k) => refused(k),
+        Header::Read {
+            first,
+            columns: n,
+            checks: m,
+            scale: g,
+            limit,
+        } => {
+            let n = num::long(n);
+            let m = num::index(m);
+            let g = num::wide(g);
+            let z = layout_of(first, g, limit, n, m, degrees);
+            let count = num::index(count);
+            under_code(
+                count,
+                allowance,
+                z,
+                m,
+                degrees,
+                columns,
+                weights,
+                frames,
+                symbols,
+                costs,
+                store,
+                margins,
+                arrived,
+                sent,
+            )
+        }
+    }
+}
