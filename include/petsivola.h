@@ -3,8 +3,8 @@
  * C99. Link with libpetsivola.a (x86-64 Linux). No heap, no files, no state between calls, so calls
  * from several threads need no lock.
  *
- * Stack of a call, as measured: decode 27 KB, check 19 KB, sweep 36 KB, expand 5 KB, encode 7 KB,
- * product and line under 1 KB.
+ * Stack of a call, as measured: decode, window_write and channels 27 KB, check 19 KB, sweep 36 KB,
+ * expand 5 KB, encode 7 KB, product and line under 1 KB.
  *
  * Every input is answered: each function ends, stays inside its buffers, and refuses for the numbered
  * reasons below and no others. A refused call changes no byte. An accepted call fills the first bytes
@@ -15,8 +15,8 @@
  * buffer of the call.
  *
  * The result is one number: PETSIVOLA_NUMBER(result) says what happened, PETSIVOLA_VALUE(result) is
- * the product, the bytes written or the iterations t; it is 0 on a refusal. The register window alone
- * answers in registers.
+ * the product, the bytes written or the iterations t; it is 0 on a refusal. The register window answers
+ * in registers, and petsivola_channels in a struct.
  *
  * The first byte of a code line, "first" below, gives the field, the number of deviations and the
  * edition. Its low hexadecimal digit is p, 2 to 6: the field has q = 2^p elements. What a check sends
@@ -48,9 +48,9 @@ enum petsivola_number {
     PETSIVOLA_NOT_FOUND = 1,        /* decode: they do not after I iterations */
 
     /* refusals caused by the caller */
-    PETSIVOLA_SHORT_BUFFER = 2,     /* decode's or encode's symbols, expand's or line's out too
-                                       short */
-    PETSIVOLA_SHORT_COSTS = 3,      /* cost buffer shorter than N * q */
+    PETSIVOLA_SHORT_BUFFER = 2,     /* decode's, channels' or encode's symbols, expand's or line's
+                                       out too short */
+    PETSIVOLA_SHORT_COSTS = 3,      /* cost buffer shorter than N * q (channels: count * N * q) */
     PETSIVOLA_SHORT_STORE = 4,      /* record buffer or store too short */
     /* by the code line's writer */
     PETSIVOLA_CODE_BYTES = 5,       /* bytes missing or left over */
@@ -62,9 +62,10 @@ enum petsivola_number {
     PETSIVOLA_COLUMN = 10,          /* column not below N, or not above the one before */
     PETSIVOLA_WEIGHT = 11,          /* weight 0, or a weight or element not below q */
     /* by the frame's sender */
-    PETSIVOLA_COST_COUNT = 12,      /* number of costs is not N * q (check, sweep: d * q) */
+    PETSIVOLA_COST_COUNT = 12,      /* number of costs is not N * q (check, sweep: d * q, channels:
+                                       count * N * q) */
     PETSIVOLA_NO_ZERO_COST = 13,    /* a column without a cost of 0; in the window also a cost above
-                                       510 in the cost buffer */
+                                       510 in the cost buffer; in channels one channel's own */
     /* by the line's writer */
     PETSIVOLA_DIGITS = 14,          /* odd digit count, or a byte other than 0-9 and A-F */
     PETSIVOLA_LONG_LINE = 15,       /* more than 32,768 bytes */
@@ -77,8 +78,13 @@ enum petsivola_number {
                                        a higher one */
     /* encode: by the message's writer */
     PETSIVOLA_MESSAGE = 18,         /* message length is not N - M, or a symbol not below q */
-    /* decode, window: by the caller */
-    PETSIVOLA_SHORT_MARGINS = 19    /* margin buffer shorter than N */
+    /* decode, window, channels: by the caller */
+    PETSIVOLA_SHORT_MARGINS = 19,   /* margin buffer shorter than N (channels: count * N) */
+    /* channels: no refusal, a channel's status */
+    PETSIVOLA_SPENT = 20,           /* still running when the allowance was spent */
+    /* channels: by the caller */
+    PETSIVOLA_CHANNEL_COUNT = 21,   /* channel count not 1 to 8 */
+    PETSIVOLA_NO_ALLOWANCE = 22     /* allowance 0 */
 };
 
 /* All below are constant expressions for constant arguments.
@@ -113,6 +119,9 @@ enum petsivola_number {
 #define PETSIVOLA_MOST_CODE PETSIVOLA_CODE_LENGTH(128, 1024)           /*  3,206 */
 #define PETSIVOLA_MOST_LINE ((size_t)32768)                            /* digits */
 
+/* The channels of one petsivola_channels. */
+#define PETSIVOLA_MOST_CHANNELS 8
+
 /* Decodes one frame: the layered decoder with the trellis extended min-sum rule, or with Min-Max.
  *
  *   code     the code line: first, N (two bytes, high first), M, g, I, then M checks: the degree, 2
@@ -137,6 +146,60 @@ uint32_t petsivola_decode(const uint8_t *code, size_t code_len,
                           uint16_t *costs, size_t costs_len,
                           uint8_t *store, size_t store_len,
                           uint16_t *margins, size_t margins_len);
+
+/* What petsivola_channels answers. Unused channels and a refused call: 0. */
+struct petsivola_served {
+    uint8_t number;                                 /* 0, or the refusal of the whole call */
+    uint16_t spent;                                 /* the iterations of all channels added up */
+    uint8_t status[PETSIVOLA_MOST_CHANNELS];        /* PETSIVOLA_FOUND, PETSIVOLA_NOT_FOUND,
+                                                       PETSIVOLA_NO_ZERO_COST or PETSIVOLA_SPENT */
+    uint8_t iterations[PETSIVOLA_MOST_CHANNELS];    /* j of each channel */
+};
+
+/* Decodes up to eight frames under one code line, with one allowance of iterations for all of them. A
+ * clean frame leaves its iterations to the noisy ones.
+ *
+ *   count      the channels, 1 to PETSIVOLA_MOST_CHANNELS
+ *   allowance  the iterations that all channels together may make, from 1 on. count * I is always
+ *              enough.
+ *   code       as for petsivola_decode
+ *   frames     the frames, end to end by channel: count * PETSIVOLA_FRAME_LENGTH(first, N), exactly
+ *   symbols    at least count * N
+ *   costs      at least count * PETSIVOLA_FRAME_LENGTH(first, N)
+ *   store      at least count * PETSIVOLA_STORE_LENGTH(first, M, edges)
+ *   margins    at least count * PETSIVOLA_MARGINS_LENGTH(N)
+ *
+ * Channel c, counted from 0, has the part of each buffer that starts at c times one channel's length.
+ * Elements past the last channel's part are left as they were.
+ *
+ * The channels are served by number in turn, one iteration each, until all are finished or the
+ * allowance is spent. Finished ones are skipped: found, refused, or at I iterations. A frame whose first
+ * decisions satisfy every check is found with 0 iterations and costs nothing. With u channels unfinished
+ * and at least u iterations left, each of these gets its next iteration within u.
+ *
+ * Status of a channel:
+ *
+ *   PETSIVOLA_FOUND          its symbols satisfy every check
+ *   PETSIVOLA_NOT_FOUND      they do not after I iterations
+ *   PETSIVOLA_NO_ZERO_COST   its frame has a column without a cost of 0: its parts are unchanged, its
+ *                            iterations 0, and the others are served as without it
+ *   PETSIVOLA_SPENT          still running when the allowance was spent; no refusal
+ *
+ * After j iterations the parts of a channel that is not refused hold what petsivola_decode gives for its
+ * frame alone with iteration limit j, whatever the other channels hold. With j = 0 that is the first
+ * decisions with their margins and the frame as costs; the store's part is untouched. The iterations add
+ * up to at most the allowance, and to exactly the allowance if any channel is spent.
+ *
+ * Number: 0, or a refusal of the whole call, which changes no buffer; tested in this order: 21, 22, 5 to
+ * 11 as the code line is read front to back, 12, 2, 3, 4, 19.
+ */
+struct petsivola_served petsivola_channels(uint8_t count, uint32_t allowance,
+                                           const uint8_t *code, size_t code_len,
+                                           const uint8_t *frames, size_t frames_len,
+                                           uint8_t *symbols, size_t symbols_len,
+                                           uint16_t *costs, size_t costs_len,
+                                           uint8_t *store, size_t store_len,
+                                           uint16_t *margins, size_t margins_len);
 
 /* The register window: the same decoding in steps, driven by writes to six bytes. The call keeps
  * nothing; the caller keeps bytes 1 to 5 in this struct and takes the new ones from each write.

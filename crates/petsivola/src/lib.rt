@@ -1,4 +1,5 @@
 // The public calls for C and Rust: include/petsivola.h has each with its parameters. A slice is a pointer and a length.
+use channels::Served;
 use checknode::Element;
 use checknode::Written;
 use layered::Answer;
@@ -14,6 +15,8 @@ ghost use Rattle.layered.specs.Answers.{answerReply};
 ghost use Rattle.trellis.specs.Lists.{pick};
 ghost use Rattle.window.specs.Window.{read, interrupt, write};
 ghost use Rattle.window.specs.Meaning.{bytesOf, windowOf};
+ghost use Rattle.channels.specs.Channels.{channels};
+ghost use Rattle.channels.specs.Layouts.{Gives};
 ghost use Rattle.petsivola.specs.Packed.{Packs, outcomeReply};
 
 fn of_element(e: Element) -> u32
@@ -161,4 +164,29 @@ pub extern "C" fn petsivola_window_interrupt(window: Registers) -> u8
         return 1;
     }
     0
+}
+
+#[no_mangle]
+pub extern "C" fn petsivola_channels(
+    count: u8,
+    allowance: u32,
+    code: &[u8],
+    frames: &[u8],
+    symbols: &mut [u8],
+    costs: &mut [u16],
+    store: &mut [u8],
+    margins: &mut [u16],
+) -> Served
+    ensures { λ r. ⌜ Gives (channels count allowance (now (code .entry)) (now (frames .entry)) (lending (now (symbols .entry)) (now (costs .entry)) (now (store .entry)) (now (margins .entry)))) (r .number) (r .spent) (r .status) (r .iterations) (lending (now (symbols .exit)) (now (costs .exit)) (now (store .exit)) (now (margins .exit))) ⌝ }
+{
+    channels::decode_channels(
+        count,
+        allowance,
+        code,
+        frames,
+        symbols,
+        costs,
+        store,
+        margins,
+    )
 }
