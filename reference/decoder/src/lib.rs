@@ -1,4 +1,4 @@
-//! The reference decoder: document 01 (`01-scope.md`) with §1 to §3 and §5 to §8 of document 02
+//! The reference decoder: document 01 (`01-scope.md`) with §1 to §3 and §5 to §9 of document 02
 //! (`02-change-requests.md`) written out once more, in Rust. The proved library is compared with it,
 //! so it is written from the documents alone, without that library's code: the least costs of a check
 //! come from listing the choices, as document 01 defines them, and once more from two sweeps over the
@@ -7,17 +7,20 @@
 //! The entry points are [`product`], [`check`](check()), [`sweep`](sweep()), [`expand`],
 //! [`line`](line()), [`code_line`], [`decode`], [`encode`](encode()), [`frame_line`] and
 //! [`program`](program()). Each answers a [`Refusal`] in the documents' order or fills the used part of
-//! its lent buffers. A [`Window`] does a decoding step by step and shows a refusal in a register. The module
-//! [`sample`] makes inputs for tests.
+//! its lent buffers. [`channels`](channels()) decodes up to eight frames under one allowance of iterations. A
+//! [`Window`] does a decoding step by step and shows a refusal in a register. The module [`sample`] makes inputs
+//! for tests.
 
 #![forbid(unsafe_code)]
 #![deny(missing_docs)]
 
+pub mod channels;
 pub mod check;
 pub mod code;
 pub mod decision;
 pub mod encode;
 pub mod field;
+pub mod lent;
 pub mod line;
 pub mod machine;
 pub mod program;
@@ -28,11 +31,13 @@ pub mod sample;
 pub mod sweep;
 pub mod window;
 
+pub use channels::{channels, Served};
 pub use check::check;
 pub use code::{code_line, CheckNode, Code};
 pub use decision::Decision;
 pub use encode::encode;
 pub use field::product;
+pub use lent::Lent;
 pub use line::line;
 pub use machine::{decode, Outcome};
 pub use program::{frame_line, program};
@@ -40,4 +45,4 @@ pub use record::expand;
 pub use refusal::Refusal;
 pub use rule::{Join, Rule};
 pub use sweep::sweep;
-pub use window::{Lent, Window};
+pub use window::Window;

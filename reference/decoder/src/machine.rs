@@ -65,18 +65,26 @@ pub fn decode(
 pub fn accept(code: &[u8], frame: &[u8], lengths: [usize; 4]) -> Result<Code, Refusal> {
     let code = code_line(code)?;
     accept_costs(code.field(), code.n, frame)?;
+    accept_lengths(lengths, code.lengths())?;
+    Ok(code)
+}
+
+/// Refusals 2, 3, 4 and 19 of buffers of these lengths where these are needed.
+pub fn accept_lengths(lengths: [usize; 4], needed: [usize; 4]) -> Result<(), Refusal> {
     let refusals = [
         Refusal::ShortBuffer,
         Refusal::ShortCosts,
         Refusal::ShortStore,
         Refusal::ShortMargins,
     ];
-    for ((length, needed), refusal) in lengths.into_iter().zip(code.lengths()).zip(refusals) {
-        if length < needed {
-            return Err(refusal);
-        }
+    let pairs = lengths.into_iter().zip(needed);
+    match pairs
+        .zip(refusals)
+        .find(|((length, needed), _)| length < needed)
+    {
+        Some((_, refusal)) => Err(refusal),
+        None => Ok(()),
     }
-    Ok(code)
 }
 
 /// The state of one run.

@@ -8,7 +8,8 @@ use std::error::Error;
 use std::fmt;
 
 /// Why an entry point refused its input; the discriminant is document 01's number. Document 02: "New
-/// numbers, here and below, join document 01's list".
+/// numbers, here and below, join document 01's list"; 20 is none, it is a channel's status "which is no
+/// refusal".
 #[derive(Clone, Copy, Debug, PartialEq, Eq, PartialOrd, Ord, Hash)]
 #[repr(u8)]
 pub enum Refusal {
@@ -50,6 +51,10 @@ pub enum Refusal {
     Message = 18,
     /// Document 02, §6: "19, margin buffer shorter than N"
     ShortMargins = 19,
+    /// Document 02, §9: "21, channel count not 1 to 8"
+    ChannelCount = 21,
+    /// Document 02, §9: "22, A is 0"
+    NoAllowance = 22,
 }
 
 impl Refusal {

@@ -2,6 +2,7 @@
 //! 1 state, 2 refusal number, 3 iterations done, 4 interrupt mask, 5 pending."
 
 use crate::code::Code;
+use crate::lent::Lent;
 use crate::machine::{accept, Machine};
 use crate::record::has_accepted_form;
 use crate::refusal::Refusal;
@@ -46,23 +47,6 @@ pub const PENDING_REFUSAL: u8 = 2;
 const LAST_ITERATION: u8 = 255;
 /// "13 for a cost above 510"
 const MOST_COST: u16 = 510;
-
-/// What a write is lent: the code line, the frame and the buffers of a decoding.
-#[derive(Debug)]
-pub struct Lent<'a> {
-    /// The code line.
-    pub code: &'a [u8],
-    /// The frame.
-    pub frame: &'a [u8],
-    /// The symbol buffer.
-    pub symbols: &'a mut [u8],
-    /// The cost buffer.
-    pub costs: &'a mut [u16],
-    /// The record store.
-    pub store: &'a mut [u8],
-    /// The margin buffer.
-    pub margins: &'a mut [u16],
-}
 
 /// The registers from byte 1 on. "All bytes start at 0": the default is idle.
 #[derive(Clone, Copy, Debug, Default, PartialEq, Eq, Hash)]
@@ -142,13 +126,13 @@ impl From<[u8; 5]> for Window {
 
 /// "After a load the state is 4 if decoding would refuse, else 2 if the test holds, else 1."
 fn load(lent: Lent) -> Result<(u8, u8), Refusal> {
-    let code = lent.accept()?;
+    let code = accepted(&lent)?;
     let machine = Machine::start(&code, lent.frame);
     let state = match machine.satisfies_every_check() {
         true => FOUND,
         false => RUNNING,
     };
-    lent.fill(&machine);
+    fill(lent, &machine);
     Ok((state, 0))
 }
 
@@ -156,7 +140,7 @@ fn load(lent: Lent) -> Result<(u8, u8), Refusal> {
 /// a 0, in the cost buffer's used part, then, if t is not 0, 16 for each stored record." "after it the state is 2
 /// if the test holds, else 3 if t is I or more, else 1."
 fn iterate(t: u8, lent: Lent) -> Result<(u8, u8), Refusal> {
-    let code = lent.accept()?;
+    let code = accepted(&lent)?;
     if !costs_are_accepted(&code, lent.costs) {
         return Err(Refusal::NoZeroCost);
     }
@@ -171,7 +155,7 @@ fn iterate(t: u8, lent: Lent) -> Result<(u8, u8), Refusal> {
         false if t >= code.limit => NOT_FOUND,
         false => RUNNING,
     };
-    lent.fill(&machine);
+    fill(lent, &machine);
     Ok((state, t))
 }
 
@@ -191,21 +175,13 @@ fn records_are_accepted(code: &Code, store: &[u8]) -> bool {
     with_checks.all(|(check, record)| has_accepted_form(code.rule(), check.weights.len(), record))
 }
 
-impl Lent<'_> {
-    /// The code, or decoding's refusal.
-    fn accept(&self) -> Result<Code, Refusal> {
-        let lengths = [
-            self.symbols.len(),
-            self.costs.len(),
-            self.store.len(),
-            self.margins.len(),
-        ];
-        accept(self.code, self.frame, lengths)
-    }
+/// The code, or decoding's refusal.
+fn accepted(lent: &Lent) -> Result<Code, Refusal> {
+    accept(lent.code, lent.frame, lent.lengths())
+}
 
-    /// "After each of them that is not refused the buffers hold the decisions, margins, costs and records of
-    /// that moment (at t = 0 the store is untouched)."
-    fn fill(self, machine: &Machine) {
-        machine.fill(self.symbols, self.costs, self.store, self.margins);
-    }
+/// "After each of them that is not refused the buffers hold the decisions, margins, costs and records of that
+/// moment (at t = 0 the store is untouched)."
+fn fill(lent: Lent, machine: &Machine) {
+    machine.fill(lent.symbols, lent.costs, lent.store, lent.margins);
 }

@@ -1,9 +1,9 @@
 //! The buffers that a decoding fills.
 
 use super::Generator;
+use crate::lent::Lent;
 use crate::machine::{decode, Outcome};
 use crate::refusal::Refusal;
-use crate::window::Lent;
 
 /// The four buffers of a decoding, to lend.
 #[derive(Clone, Debug, PartialEq, Eq)]
@@ -51,7 +51,7 @@ impl Buffers {
         decode(code, frame, symbols, costs, store, margins)
     }
 
-    /// Lends them with a code line and a frame, for a write to a register window.
+    /// Lends them with a code line and a frame, or the frames of several channels.
     pub fn lend<'a>(&'a mut self, code: &'a [u8], frame: &'a [u8]) -> Lent<'a> {
         Lent {
             code,
