@@ -19,6 +19,9 @@ pub const MOST_CHECKS: usize = 128;
 /// "All checks together have at most 1,024 edges."
 pub const MOST_EDGES: usize = 1_024;
 
+/// Document 02, §9: "channel count not 1 to 8" is refused.
+pub const MOST_CHANNELS: usize = 8;
+
 /// The longest record.
 pub const MOST_RECORD: usize = MOST_DEGREE + entry(MOST_DEVIATIONS) * (MOST_ELEMENTS - 1);
 /// The longest expansion.

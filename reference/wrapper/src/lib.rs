@@ -19,6 +19,7 @@
 //! | [`line`] | the bytes of a line of hexadecimal digits | 15, 14, 2 |
 //! | [`decode`] | symbols, costs, records and margins of one frame | 5 to 11, 12, 13, 2, 3, 4, 19 |
 //! | [`encode`] | the symbols of one message | 5 to 11, 17, 18, 2 |
+//! | [`channels`](channels()) | the same of up to eight frames | 21, 22, 5 to 11, 12, 2, 3, 4, 19 |
 //!
 //! A [`Window`] does a decoding step by step, through the registers of document 02, §8.
 //!
@@ -44,16 +45,20 @@
 #![deny(missing_docs)]
 
 mod answer;
+pub mod channels;
 pub mod lengths;
+mod lent;
 mod library;
 mod refusal;
 mod rule;
 pub mod window;
 
 pub use answer::Outcome;
+pub use channels::{channels, Channel, Served};
+pub use lent::Lent;
 pub use refusal::Refusal;
 pub use rule::{Edition, Rule};
-pub use window::{Lent, State, Window};
+pub use window::{State, Window};
 
 /// The greatest margin of a decision; a cost of the cost buffer is no greater either.
 pub const MOST_MARGIN: u16 = 510;

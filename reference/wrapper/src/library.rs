@@ -11,7 +11,8 @@
 
 #![allow(unsafe_code)]
 
-use crate::window::Lent;
+use crate::channels::Answer;
+use crate::lent::Lent;
 
 /// `struct petsivola_window`: the registers of a window from byte 1 on.
 #[derive(Clone, Copy, Debug, Default, PartialEq, Eq, Hash)]
@@ -100,6 +101,23 @@ extern "C" {
         margins: *mut u16,
         margins_len: usize,
     ) -> Registers;
+
+    fn petsivola_channels(
+        count: u8,
+        allowance: u32,
+        code: *const u8,
+        code_len: usize,
+        frames: *const u8,
+        frames_len: usize,
+        symbols: *mut u8,
+        symbols_len: usize,
+        costs: *mut u16,
+        costs_len: usize,
+        store: *mut u8,
+        store_len: usize,
+        margins: *mut u16,
+        margins_len: usize,
+    ) -> Answer;
 
     fn petsivola_window_read(window: Registers, address: u8) -> u8;
 
@@ -217,6 +235,29 @@ pub(crate) fn window_write(window: Registers, address: u8, value: u8, lent: Lent
             window,
             address,
             value,
+            lent.code.as_ptr(),
+            lent.code.len(),
+            lent.frame.as_ptr(),
+            lent.frame.len(),
+            lent.symbols.as_mut_ptr(),
+            lent.symbols.len(),
+            lent.costs.as_mut_ptr(),
+            lent.costs.len(),
+            lent.store.as_mut_ptr(),
+            lent.store.len(),
+            lent.margins.as_mut_ptr(),
+            lent.margins.len(),
+        )
+    }
+}
+
+pub(crate) fn channels(count: u8, allowance: u32, lent: Lent) -> Answer {
+    // SAFETY: as for `decode`; the function answers every count and every allowance, and it answers with a struct of
+    // numbers, any of which they may be.
+    unsafe {
+        petsivola_channels(
+            count,
+            allowance,
             lent.code.as_ptr(),
             lent.code.len(),
             lent.frame.as_ptr(),

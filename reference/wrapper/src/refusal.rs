@@ -5,7 +5,8 @@ use core::error::Error;
 use core::fmt;
 
 /// Why a call refused its input; [`number`](Refusal::number) is document 01's number. Those from 17
-/// on are document 02's (`02-change-requests.md`), which "join document 01's list".
+/// on are document 02's (`02-change-requests.md`), which "join document 01's list"; 20 is none of them but a
+/// [channel](crate::Channel)'s status, "which is no refusal".
 #[derive(Clone, Copy, Debug, PartialEq, Eq, PartialOrd, Ord, Hash)]
 #[non_exhaustive]
 pub enum Refusal {
@@ -46,6 +47,10 @@ pub enum Refusal {
     Message,
     /// "19, margin buffer shorter than N"; document 02, §6
     ShortMargins,
+    /// "21, channel count not 1 to 8"; document 02, §9
+    ChannelCount,
+    /// "22, A is 0"; document 02, §9
+    NoAllowance,
     /// A number that the documents do not have. The proved library never answers one; it would mean
     /// that the program was linked with another archive than the one this package was written for.
     Unlisted(u16),
@@ -53,7 +58,7 @@ pub enum Refusal {
 
 impl Refusal {
     /// The documents' refusals, in the order of their numbers.
-    pub const ALL: [Refusal; 18] = [
+    pub const ALL: [Refusal; 20] = [
         Refusal::ShortBuffer,
         Refusal::ShortCosts,
         Refusal::ShortStore,
@@ -72,6 +77,8 @@ impl Refusal {
         Refusal::NoForm,
         Refusal::Message,
         Refusal::ShortMargins,
+        Refusal::ChannelCount,
+        Refusal::NoAllowance,
     ];
 
     /// Document 01's number.
@@ -95,6 +102,8 @@ impl Refusal {
             Refusal::NoForm => 17,
             Refusal::Message => 18,
             Refusal::ShortMargins => 19,
+            Refusal::ChannelCount => 21,
+            Refusal::NoAllowance => 22,
             Refusal::Unlisted(number) => number,
         }
     }
@@ -124,6 +133,8 @@ impl Refusal {
             }
             Refusal::Message => "the message's length is not N - M, or a symbol is not below q",
             Refusal::ShortMargins => "the margin buffer is shorter than N",
+            Refusal::ChannelCount => "the channel count is not 1 to 8",
+            Refusal::NoAllowance => "the allowance of iterations is 0",
             Refusal::Unlisted(_) => "the documents do not have this number",
         }
     }
@@ -161,8 +172,9 @@ mod tests {
     use super::*;
 
     #[test]
-    fn the_numbers_are_2_to_19() {
-        assert!(Refusal::ALL.into_iter().map(u16::from).eq(2..=19));
+    fn the_numbers_are_2_to_22_without_20() {
+        let numbers = (2..=22).filter(|&number| number != 20);
+        assert!(Refusal::ALL.into_iter().map(u16::from).eq(numbers));
     }
 
     #[test]
@@ -171,7 +183,7 @@ mod tests {
             let refusal = Refusal::from(number);
             assert_eq!(refusal.number(), number);
             let listed = Refusal::ALL.contains(&refusal);
-            assert_eq!(listed, (2..=19).contains(&number));
+            assert_eq!(listed, (2..=22).contains(&number) && number != 20);
         }
     }
 

@@ -1,6 +1,7 @@
 //! The register window. Document 02, §8: "The receiver board drives decoding through six bytes: 0 command, 1 state,
 //! 2 refusal number, 3 iterations done, 4 interrupt mask, 5 pending."
 
+use crate::lent::Lent;
 use crate::library::{self, Registers};
 use crate::refusal::Refusal;
 
@@ -28,24 +29,6 @@ pub const CLEAR: u8 = 3;
 pub const RESULT_BIT: u8 = 1;
 /// The bit of mask and pending that a refusal sets.
 pub const REFUSAL_BIT: u8 = 2;
-
-/// What a write is lent, as [`decode`](crate::decode) is. From a load to its last iteration these must be the
-/// same, and nobody else may write them, for the iterations to be those of one decoding.
-#[derive(Debug, Default)]
-pub struct Lent<'a> {
-    /// The code line.
-    pub code: &'a [u8],
-    /// The frame.
-    pub frame: &'a [u8],
-    /// Gets the decisions.
-    pub symbols: &'a mut [u8],
-    /// Gets the costs, from which the next iteration goes on.
-    pub costs: &'a mut [u16],
-    /// Gets the records, from which the next iteration goes on.
-    pub store: &'a mut [u8],
-    /// Gets the margins.
-    pub margins: &'a mut [u16],
-}
 
 /// "States: 0 idle, 1 running, 2 found, 3 not found, 4 refused."
 #[derive(Clone, Copy, Debug, PartialEq, Eq, PartialOrd, Ord, Hash)]
@@ -122,7 +105,8 @@ impl Window {
         ]
     }
 
-    /// Writes one byte. "A write outside bytes 0 and 4 is ignored"; of the commands, "other values, and 2 with
+    /// Writes one byte. From a load to its last iteration the same must be lent, and nobody else may write it, for
+    /// the iterations to be those of one decoding. "A write outside bytes 0 and 4 is ignored"; of the commands, "other values, and 2 with
     /// byte 3 at 255, do nothing".
     pub fn write(&mut self, address: u8, value: u8, lent: Lent) {
         self.0 = library::window_write(self.0, address, value, lent);
@@ -184,19 +168,5 @@ impl Window {
     /// What is pending.
     pub fn pending(self) -> u8 {
         self.read(PENDING)
-    }
-}
-
-impl Lent<'_> {
-    /// The same for one write, after which they can be lent again.
-    pub fn reborrow(&mut self) -> Lent<'_> {
-        Lent {
-            code: self.code,
-            frame: self.frame,
-            symbols: self.symbols,
-            costs: self.costs,
-            store: self.store,
-            margins: self.margins,
-        }
     }
 }
