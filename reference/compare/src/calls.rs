@@ -1,6 +1,7 @@
 //! The entry points of the static library, each with random calls of it.
 
 mod buffers;
+mod channels;
 mod check;
 mod decode;
 mod encode;
@@ -19,6 +20,7 @@ use reference_decoder::sample::Generator;
 use crate::comparison::Difference;
 use crate::tally::{Class, Tally};
 
+pub use channels::CHANNELS;
 pub use check::{CHECK, SWEEP};
 pub use decode::DECODE;
 pub use encode::ENCODE;
@@ -28,8 +30,9 @@ pub use product::PRODUCT;
 pub use window::WINDOW;
 
 /// Every entry point.
-pub const ENTRY_POINTS: [EntryPoint; 8] =
-    [PRODUCT, CHECK, SWEEP, EXPAND, LINE, DECODE, ENCODE, WINDOW];
+pub const ENTRY_POINTS: [EntryPoint; 9] = [
+    PRODUCT, CHECK, SWEEP, EXPAND, LINE, DECODE, ENCODE, WINDOW, CHANNELS,
+];
 
 /// An entry point and how it is compared.
 pub struct EntryPoint {
@@ -67,7 +70,8 @@ impl EntryPoint {
     }
 
     /// Makes the calls that are few enough to be made all: every product, every line of two bytes, a check, a
-    /// sweep, an expansion, a decoding and an encoding with every first byte, and every write to a window.
+    /// sweep, an expansion, a decoding, an encoding and several channels with every first byte, every write to a
+    /// window, and every count of channels.
     ///
     /// # Errors
     ///

@@ -22,7 +22,7 @@ pub mod programs;
 mod tally;
 
 pub use calls::{
-    EntryPoint, CHECK, DECODE, ENCODE, ENTRY_POINTS, EXPAND, LINE, PRODUCT, SWEEP, WINDOW,
+    EntryPoint, CHANNELS, CHECK, DECODE, ENCODE, ENTRY_POINTS, EXPAND, LINE, PRODUCT, SWEEP, WINDOW,
 };
 pub use comparison::Difference;
 pub use tally::{Class, Tally};

@@ -1,8 +1,10 @@
-//! The buffers that a decoding fills.
+//! The buffers that a decoding fills, and calls that fill them.
+
+use std::fmt::Debug;
 
 use reference_decoder::sample::Generator;
 
-use super::{of_library, of_reference};
+use super::decode::inputs::Input;
 use crate::comparison::Comparison;
 use crate::lent::Lent;
 
@@ -27,34 +29,32 @@ impl Buffers {
         }
     }
 
-    /// The library's decoding in these buffers: status and t, or the refusal.
-    pub fn decode(&mut self, line: &Lent<u8>, frame: &Lent<u8>) -> Result<(u8, u8), u16> {
-        let answer = petsivola::decode(
-            line.slice(),
-            frame.slice(),
-            self.symbols.slice_mut(),
-            self.costs.slice_mut(),
-            self.store.slice_mut(),
-            self.margins.slice_mut(),
-        );
-        of_library(answer).map(|outcome| (outcome.status(), outcome.iterations()))
+    /// Lends them to the library, with a code line and a frame or frames.
+    pub fn lend<'a>(&'a mut self, line: &'a Lent<u8>, frame: &'a Lent<u8>) -> petsivola::Lent<'a> {
+        petsivola::Lent {
+            code: line.slice(),
+            frame: frame.slice(),
+            symbols: self.symbols.slice_mut(),
+            costs: self.costs.slice_mut(),
+            store: self.store.slice_mut(),
+            margins: self.margins.slice_mut(),
+        }
     }
 
-    /// The same by the reference decoder.
-    pub fn decode_by_reference(
-        &mut self,
-        line: &Lent<u8>,
-        frame: &Lent<u8>,
-    ) -> Result<(u8, u8), u16> {
-        let answer = reference_decoder::decode(
-            line.slice(),
-            frame.slice(),
-            self.symbols.slice_mut(),
-            self.costs.slice_mut(),
-            self.store.slice_mut(),
-            self.margins.slice_mut(),
-        );
-        of_reference(answer).map(|outcome| (outcome.status(), outcome.iterations()))
+    /// The same to the reference decoder.
+    pub fn lend_to_reference<'a>(
+        &'a mut self,
+        line: &'a Lent<u8>,
+        frame: &'a Lent<u8>,
+    ) -> reference_decoder::Lent<'a> {
+        reference_decoder::Lent {
+            code: line.slice(),
+            frame: frame.slice(),
+            symbols: self.symbols.slice_mut(),
+            costs: self.costs.slice_mut(),
+            store: self.store.slice_mut(),
+            margins: self.margins.slice_mut(),
+        }
     }
 
     /// Compares the buffers after the library's call with what they must hold.
@@ -64,4 +64,35 @@ impl Buffers {
         comparison.lent("store", &self.store, &expected.store);
         comparison.lent("margins", &self.margins, &expected.margins);
     }
+}
+
+/// Makes a call on both sides, in buffers of the same content, and compares the answers and all that is lent. Answers
+/// what the reference decoder answered, the buffers as it left them, and what differs.
+pub fn compare<A: PartialEq + Debug>(
+    generator: &mut Generator,
+    input: &Input,
+    library: impl Fn(petsivola::Lent) -> A,
+    reference: impl FnOnce(reference_decoder::Lent) -> A,
+) -> (A, Buffers, Comparison) {
+    let line = Lent::holding(generator, &input.line);
+    let frame = Lent::holding(generator, &input.frame);
+    let (line_lent, frame_lent) = (line.clone(), frame.clone());
+    let mut buffers = Buffers::new(generator, input.lengths);
+    let mut buffers_expected = buffers.clone();
+    let expected = reference(buffers_expected.lend_to_reference(&line, &frame));
+    let answer = library(buffers.lend(&line_lent, &frame_lent));
+
+    let mut comparison = Comparison::default();
+    comparison.answers(&answer, &expected);
+    buffers.compare(&mut comparison, &buffers_expected);
+    // A second call in the used buffers gives the same: nothing was left behind.
+    if comparison.agrees() {
+        let again = library(buffers.lend(&line_lent, &frame_lent));
+        comparison.answers(&again, &expected);
+        buffers.compare(&mut comparison, &buffers_expected);
+        comparison.explain("at the second call in the same buffers");
+    }
+    comparison.lent("code", &line_lent, &line);
+    comparison.lent("frame", &frame_lent, &frame);
+    (expected, buffers_expected, comparison)
 }

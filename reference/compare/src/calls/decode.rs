@@ -5,10 +5,8 @@ mod seen;
 
 use reference_decoder::sample::Generator;
 
-use super::buffers::Buffers;
-use super::{first_byte, EntryPoint};
-use crate::comparison::{Comparison, Difference, Inputs};
-use crate::lent::Lent;
+use super::{buffers, first_byte, of_library, of_reference, EntryPoint};
+use crate::comparison::Difference;
 use crate::tally::{Class, Tally};
 use inputs::Input;
 
@@ -46,39 +44,28 @@ fn every(tally: &mut Tally) -> Result<(), Difference> {
 }
 
 fn compare(generator: &mut Generator, input: &Input, tally: &mut Tally) -> Result<(), Difference> {
-    let line = Lent::holding(generator, &input.line);
-    let frame = Lent::holding(generator, &input.frame);
-    let (line_lent, frame_lent) = (line.clone(), frame.clone());
-    let mut buffers = Buffers::new(generator, input.lengths);
-    let mut buffers_expected = buffers.clone();
-    let expected = buffers_expected.decode_by_reference(&line, &frame);
-    let answer = buffers.decode(&line_lent, &frame_lent);
-
+    let (expected, filled, comparison) =
+        buffers::compare(generator, input, by_library, by_reference);
     tally.answer(match expected {
         Ok((status, t)) => Class::of_outcome(status, t),
         Err(number) => Class::Refused(number),
     });
-    seen::see(tally, input, expected, &buffers_expected);
-    let mut comparison = Comparison::default();
-    comparison.answers(&answer, &expected);
-    buffers.compare(&mut comparison, &buffers_expected);
-    // A second decoding in the used buffers gives the same: nothing was left behind.
-    if comparison.agrees() {
-        let again = buffers.decode(&line_lent, &frame_lent);
-        comparison.answers(&again, &expected);
-        buffers.compare(&mut comparison, &buffers_expected);
-        comparison.explain("at the second decoding in the same buffers");
-    }
-    comparison.lent("code", &line_lent, &line);
-    comparison.lent("frame", &frame_lent, &frame);
-    comparison.end("decode", || {
-        let [symbols, costs, store, margins] = input.lengths;
-        Inputs::default()
-            .bytes("code", line.slice())
-            .bytes("frame", frame.slice())
-            .number("symbol buffer length", symbols)
-            .number("cost buffer length", costs)
-            .number("store length", store)
-            .number("margin buffer length", margins)
-    })
+    seen::see(tally, input, expected, &filled);
+    comparison.end("decode", || input.inputs())
+}
+
+/// The library's decoding: status and t, or the refusal.
+fn by_library(lent: petsivola::Lent) -> Result<(u8, u8), u16> {
+    let (symbols, costs) = (lent.symbols, lent.costs);
+    let (store, margins) = (lent.store, lent.margins);
+    let answer = petsivola::decode(lent.code, lent.frame, symbols, costs, store, margins);
+    of_library(answer).map(|outcome| (outcome.status(), outcome.iterations()))
+}
+
+/// The same by the reference decoder.
+fn by_reference(lent: reference_decoder::Lent) -> Result<(u8, u8), u16> {
+    let (symbols, costs) = (lent.symbols, lent.costs);
+    let (store, margins) = (lent.store, lent.margins);
+    let answer = reference_decoder::decode(lent.code, lent.frame, symbols, costs, store, margins);
+    of_reference(answer).map(|outcome| (outcome.status(), outcome.iterations()))
 }

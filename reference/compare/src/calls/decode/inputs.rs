@@ -5,10 +5,11 @@ use reference_decoder::sample::{self, CodeSample, Generator, Size, Style};
 use reference_decoder::{code_line, Code, Join};
 
 use crate::calls::first_byte;
+use crate::comparison::Inputs;
 use crate::lent::{length_around, length_enough};
 
 /// Codes of a few columns that may take every iteration there can be.
-const LONG: Size = Size {
+pub const LONG: Size = Size {
     p: 2..=3,
     k: 2..=3,
     join: Join::BOTH,
@@ -40,7 +41,7 @@ pub fn size(generator: &mut Generator) -> (Size, bool) {
 }
 
 /// A frame near a word of the code, or now and then an arbitrary one.
-fn frame(generator: &mut Generator, sample: &CodeSample, code: &Code) -> Vec<u8> {
+pub fn frame(generator: &mut Generator, sample: &CodeSample, code: &Code) -> Vec<u8> {
     let style = generator.one_of(&Style::ALL);
     if generator.once_in(3) {
         sample::frame(generator, code, style)
@@ -58,8 +59,8 @@ pub fn with_other_deviations(code: &Code) -> Code {
     }
 }
 
-/// A code line, a frame, and the lengths of the symbol buffer, the cost buffer, the store and the margin
-/// buffer.
+/// A code line, a frame or the frames of several channels, and the lengths of the symbol buffer, the cost buffer,
+/// the store and the margin buffer.
 pub struct Input {
     pub line: Vec<u8>,
     pub frame: Vec<u8>,
@@ -79,6 +80,18 @@ impl Input {
             line: sample.line,
         };
         (code, input)
+    }
+
+    /// All that a call is given, so that it can be made again.
+    pub fn inputs(&self) -> Inputs {
+        let [symbols, costs, store, margins] = self.lengths;
+        Inputs::default()
+            .bytes("code", &self.line)
+            .bytes("frame", &self.frame)
+            .number("symbol buffer length", symbols)
+            .number("cost buffer length", costs)
+            .number("store length", store)
+            .number("margin buffer length", margins)
     }
 
     /// Damages each part now and then, several at once too, so that the order of refusals matters.

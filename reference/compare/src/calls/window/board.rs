@@ -66,14 +66,7 @@ impl Board {
     /// The library's write.
     pub fn write(&mut self, write: Write) {
         let mut window = Window::of(self.registers);
-        let lent = petsivola::Lent {
-            code: self.line.slice(),
-            frame: self.frame.slice(),
-            symbols: self.buffers.symbols.slice_mut(),
-            costs: self.buffers.costs.slice_mut(),
-            store: self.buffers.store.slice_mut(),
-            margins: self.buffers.margins.slice_mut(),
-        };
+        let lent = self.buffers.lend(&self.line, &self.frame);
         window.write(write.address, write.value, lent);
         self.registers = window.registers();
     }
@@ -81,14 +74,7 @@ impl Board {
     /// The same by the reference decoder.
     pub fn write_by_reference(&mut self, write: Write) {
         let mut window = reference_decoder::Window::from(self.registers);
-        let lent = reference_decoder::Lent {
-            code: self.line.slice(),
-            frame: self.frame.slice(),
-            symbols: self.buffers.symbols.slice_mut(),
-            costs: self.buffers.costs.slice_mut(),
-            store: self.buffers.store.slice_mut(),
-            margins: self.buffers.margins.slice_mut(),
-        };
+        let lent = self.buffers.lend_to_reference(&self.line, &self.frame);
         window.write(write.address, write.value, lent);
         self.registers = [1, 2, 3, 4, 5].map(|address| window.read(address));
         if (write.address, write.value) == (COMMAND, LOAD) {
