@@ -201,7 +201,9 @@ impl Row {
                 let old = foreign::old_library().expect("the old library is present");
                 Contender::new(inputs, lent, check_by(old.check))
             }
-            Engine::ProvedWindow => unreachable!("the register window makes no single check"),
+            Engine::ProvedWindow | Engine::ProvedChannels => {
+                unreachable!("neither makes a single check")
+            }
         }
     }
 }

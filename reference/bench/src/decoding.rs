@@ -95,11 +95,6 @@ impl Row<'_> {
         self.job.code.coded_bits() as f64
             / (self.decode.median(Engine::Proved) * self.mean_iterations)
     }
-
-    /// How many times as long a decoding through the register window takes as one `decode`.
-    pub fn window_by_decode(&self) -> f64 {
-        self.decode.ratio(Engine::ProvedWindow, Engine::Proved)
-    }
 }
 
 /// Measures one code, with all its frames in each round.
@@ -115,19 +110,28 @@ pub fn measure_window(job: &Job, rounds: usize) -> Row<'_> {
 /// The times of these engines on one code.
 fn race_of<'a>(engines: &[Engine], job: &'a Job, rounds: usize) -> Row<'a> {
     let line = job.code.line(2, Edition::Sum, SCALE, LIMIT);
-    let contender = |&engine| contender(engine, job, &line);
-    let mut contenders: Vec<_> = engines.iter().map(contender).collect();
+    let contender = |&engine| (engine, contender(engine, job, &line));
+    row(job, engines.iter().map(contender).collect(), &RULES, rounds)
+}
+
+/// The times of contenders on one code, whose units are iterations.
+pub fn row<'a, O: Clone>(
+    job: &'a Job,
+    contenders: Vec<(Engine, Contender<'_, Vec<u8>, O>)>,
+    rules: &Rules<O>,
+    rounds: usize,
+) -> Row<'a> {
+    let (engines, mut contenders): (Vec<_>, Vec<_>) = contenders.into_iter().unzip();
     let mut decode = Results::default();
     for round in 0..rounds {
-        let times = race(&mut contenders, round, &RULES);
-        decode.append(engines, times);
+        let times = race(&mut contenders, round, rules);
+        decode.append(&engines, times);
     }
-    let decoded = contenders[0].outputs();
-    let iterations: usize = decoded.iter().map(RULES.units).sum();
-    let mean_iterations = iterations as f64 / decoded.len() as f64;
+    let outputs = contenders[0].outputs().iter();
+    let iterations: usize = outputs.map(rules.units).sum();
     Row {
         job,
-        mean_iterations,
+        mean_iterations: iterations as f64 / job.frame_count() as f64,
         decode,
     }
 }
@@ -208,7 +212,7 @@ fn through_window(line: &[u8]) -> impl FnMut(&Vec<u8>, &mut Decoded) + '_ {
 }
 
 /// The proved library's decoding, its refusals as numbers.
-fn proved(
+pub fn proved(
     line: &[u8],
     frame: &[u8],
     symbols: &mut [u8],

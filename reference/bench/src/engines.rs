@@ -12,6 +12,8 @@ pub enum Engine {
     ProvedSweep,
     /// The proved library's other way to decode, the register window.
     ProvedWindow,
+    /// The proved library's call for several channels.
+    ProvedChannels,
     /// The same algorithm in Rust.
     Rust,
     /// The search over kept entries in Rust.
@@ -41,6 +43,7 @@ impl Engine {
             Engine::Proved => "proved",
             Engine::ProvedSweep => "proved sweep",
             Engine::ProvedWindow => "proved window",
+            Engine::ProvedChannels => "proved channels",
             Engine::Rust => "Rust",
             Engine::Search => "search",
             Engine::Sse2 => "C, SSE2",

@@ -1,5 +1,6 @@
 //! What is timed: checks of every size, codes with frames, and a code with messages.
 
+use petsivola::lengths::MOST_CHANNELS;
 use petsivola::{Edition, Rule};
 use reference_decoder::sample::{self, CheckSample, Generator, Size, Style};
 use reference_decoder::Join;
@@ -55,8 +56,25 @@ pub struct Job {
     pub code: Code,
     /// The Eb/N0 of the frames in decibels.
     pub decibels: f64,
-    /// Noisy words, as costs.
+    /// Noisy words, as costs: the frames of one call each, one or several end to end.
     pub frames: Vec<Vec<u8>>,
+}
+
+impl Job {
+    /// How many frames there are in all calls.
+    pub fn frame_count(&self) -> usize {
+        let costs: usize = self.frames.iter().map(Vec::len).sum();
+        costs / self.code.frame_length()
+    }
+
+    /// The same frames, eight of them to a call.
+    fn by_eight(self) -> Job {
+        let calls = self.frames.chunks_exact(MOST_CHANNELS);
+        Job {
+            frames: calls.map(<[Vec<u8>]>::concat).collect(),
+            ..self
+        }
+    }
 }
 
 /// The name of the simulation's code.
@@ -64,21 +82,35 @@ pub const SIMULATED: &str = "(248,137) over GF(32), degree 8";
 
 /// The codes: at the limits of document 01, the code of the simulation, and a small one.
 pub fn jobs() -> Vec<Job> {
-    let name = "N = 256, p = 6, M = 128, degree 8";
-    let at_the_limits = job(name, regular(6, 256, 8, 4), 3.5, 4);
-    vec![at_the_limits, simulated(), small()]
+    vec![at_the_limits(4), simulated(6), small()]
 }
 
 /// The codes of the register window: that of the simulation, one with p = 4, and a small one.
 pub fn window_jobs() -> Vec<Job> {
-    let name = "N = 96, p = 4, M = 48, degree 6";
-    let of_sixteen = job(name, regular(4, 96, 6, 3), 2.5, 24);
-    vec![simulated(), of_sixteen, small()]
+    vec![simulated(6), of_sixteen(), small()]
 }
 
-/// The code of the simulation.
-fn simulated() -> Job {
-    job(SIMULATED, array::code(), 2.75, 6)
+/// The codes of eight channels: those of the register window, and that at the limits of document 01.
+pub fn channel_jobs() -> Vec<Job> {
+    let jobs = [simulated(16), of_sixteen(), small(), at_the_limits(16)];
+    jobs.map(Job::by_eight).into()
+}
+
+/// The code at the limits of document 01, with so many frames.
+fn at_the_limits(count: usize) -> Job {
+    let name = "N = 256, p = 6, M = 128, degree 8";
+    job(name, regular(6, 256, 8, 4), 3.5, count)
+}
+
+/// The code of the simulation, with so many frames.
+fn simulated(count: usize) -> Job {
+    job(SIMULATED, array::code(), 2.75, count)
+}
+
+/// A code with p = 4.
+fn of_sixteen() -> Job {
+    let name = "N = 96, p = 4, M = 48, degree 6";
+    job(name, regular(4, 96, 6, 3), 2.5, 24)
 }
 
 /// A small code.

@@ -9,6 +9,7 @@
 #![deny(missing_docs)]
 
 pub mod accepted;
+pub mod channels;
 pub mod charts;
 pub mod checks;
 pub mod decision;

@@ -10,7 +10,7 @@ use bench::checks;
 use bench::inputs::{self, Costs, Job};
 use bench::report::Report;
 use bench::targets::targets;
-use bench::{charts, decoding, encoding};
+use bench::{channels, charts, decoding, encoding};
 
 /// Where the documents of this project stand.
 const DOCUMENTS: &str = concat!(env!("CARGO_MANIFEST_DIR"), "/../../docs/bench");
@@ -63,6 +63,9 @@ fn run(rounds: usize, out: Option<&Path>) -> io::Result<()> {
     let window_jobs = inputs::window_jobs();
     let through_window = |job| decoding::measure_window(job, rounds);
     let windows = measured("register window", &window_jobs, through_window);
+    let channel_jobs = inputs::channel_jobs();
+    let in_channels = |job| channels::measure(job, rounds);
+    let channels = measured("eight channels", &channel_jobs, in_channels);
     eprintln!("encoding");
     let encoding = encoding::measure(inputs::encodable(), rounds);
     let all: Vec<_> = channel.iter().chain(&uniform).collect();
@@ -73,8 +76,9 @@ fn run(rounds: usize, out: Option<&Path>) -> io::Result<()> {
         growth,
         codes: &codes,
         windows: &windows,
+        channels: &channels,
         encoding: &encoding,
-        targets: &targets(&all, &codes, &windows),
+        targets: &targets(&all, &codes, &windows, &channels),
         rounds,
     };
     let text = report.markdown();

@@ -1,10 +1,10 @@
 //! The Markdown document that a run writes.
 
+mod beside;
 mod deviations;
 mod editions;
 mod older;
 mod swept;
-mod windows;
 
 use crate::checks::swept::Swept;
 use crate::checks::Row;
@@ -27,6 +27,8 @@ pub struct Report<'a> {
     pub codes: &'a [decoding::Row<'a>],
     /// The codes of the register window.
     pub windows: &'a [decoding::Row<'a>],
+    /// The codes of eight channels.
+    pub channels: &'a [decoding::Row<'a>],
     /// The encoding.
     pub encoding: &'a encoding::Row,
     /// The targets.
@@ -47,7 +49,8 @@ impl Report<'_> {
             swept::section(self.swept),
             self.expansions(),
             self.decodings(),
-            windows::section(self.windows),
+            beside::window(self.windows),
+            beside::channels(self.channels),
             self.encodings(),
             older::section(self),
         ];

@@ -15,6 +15,8 @@ pub const OF_TWO: f64 = 2.0;
 pub const OF_SUM: f64 = 1.1;
 /// The most that a decoding through the register window may take of the time of one `decode`, where this is asked.
 pub const OF_DECODE: f64 = 1.15;
+/// The most that eight channels with an allowance that is enough may take of the time of eight `decode`.
+pub const OF_EIGHT: f64 = 1.05;
 /// The least that the sweeps may take of the time of a check with k = 3, where this is asked.
 pub const BY_SWEEPS: f64 = 8.0;
 
@@ -30,11 +32,12 @@ pub struct Target {
     pub missed: usize,
 }
 
-/// Every target, over all measured checks and codes, and the codes of the register window.
+/// Every target, over all measured checks and codes, those of the register window and those of eight channels.
 pub fn targets(
     checks: &[&checks::Row],
     codes: &[decoding::Row],
     windows: &[decoding::Row],
+    channels: &[decoding::Row],
 ) -> Vec<Target> {
     let large: Vec<_> = checks.iter().copied().filter(|row| row.p >= 4).collect();
     let short: Vec<_> = large
@@ -61,6 +64,7 @@ pub fn targets(
     targets.push(of_min_max(checks));
     targets.push(target_of_decoding(codes));
     targets.push(of_window(windows));
+    targets.push(of_channels(channels));
     targets
 }
 
@@ -114,12 +118,29 @@ fn target_of_decoding(codes: &[decoding::Row]) -> Target {
 /// The target of the register window, on the simulation's code.
 pub fn of_window(codes: &[decoding::Row]) -> Target {
     let asked = codes.iter().filter(|row| row.job.name == SIMULATED);
-    let ratios = asked.map(|row| (row.window_by_decode(), row.job.name.to_string()));
+    let ratios = asked.map(|row| by_decode(row, Engine::ProvedWindow));
     at_most(
         format!("decoding through the register window: at most {OF_DECODE} times one `decode`"),
         OF_DECODE,
         ratios.collect(),
     )
+}
+
+/// The target of eight channels, on every code.
+pub fn of_channels(codes: &[decoding::Row]) -> Target {
+    let ratios = codes.iter();
+    let ratios = ratios.map(|row| by_decode(row, Engine::ProvedChannels));
+    at_most(
+        format!("eight channels, the allowance enough: at most {OF_EIGHT} times eight `decode`"),
+        OF_EIGHT,
+        ratios.collect(),
+    )
+}
+
+/// How many times as long an engine takes as `decode` on a code, with its name.
+fn by_decode(row: &decoding::Row, engine: Engine) -> (f64, String) {
+    let ratio = row.decode.ratio(engine, Engine::Proved);
+    (ratio, row.job.name.to_string())
 }
 
 /// A ratio of each row, with its place.

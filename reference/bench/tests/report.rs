@@ -2,9 +2,9 @@
 
 use bench::checks::swept::Swept;
 use bench::checks::Row;
-use bench::inputs::{self, Costs};
+use bench::inputs::{self, Costs, Job};
 use bench::report::Report;
-use bench::{charts, decoding, encoding, targets};
+use bench::{channels, charts, decoding, encoding, targets};
 
 /// A size, measured on a few checks.
 fn row(p: u8, degree: usize) -> Row {
@@ -24,6 +24,7 @@ fn markdown(rows: &[Row]) -> String {
         growth: [1.0, 1.0],
         codes: &[],
         windows: &[],
+        channels: &[],
         encoding: &encoding::measure(inputs::encodable(), 1),
         targets: &[],
         rounds: 1,
@@ -87,14 +88,33 @@ fn the_proved_sweep_stands_beside_the_proved_check_with_both_k() {
     assert!(of_two.contains("The proved sweep takes "));
 }
 
-/// A decoding through the register window leaves what `decode` does, or the race would stop.
+/// Holds a section against its codes: a line of six cells for each.
+fn codes_stand_in_it(text: &str, title: &str, jobs: &[Job]) {
+    let (_, section) = text.split_once(title).expect("the section");
+    let (section, _) = section.split_once("\n## ").expect("another section");
+    for job in jobs {
+        let of_code = section
+            .lines()
+            .filter(|line| line.starts_with(&format!("| {} | ", job.name)));
+        let cells = of_code.map(|line| line.matches(" | ").count() + 1);
+        assert_eq!(cells.collect::<Vec<_>>(), [6]);
+    }
+}
+
+/// The other calls that decode leave what `decode` does, or their races would stop.
 #[test]
-fn the_register_window_stands_beside_decode() {
-    let jobs = inputs::window_jobs();
-    let windows: Vec<_> = jobs
-        .iter()
+fn the_register_window_and_eight_channels_stand_beside_decode() {
+    let (window_jobs, channel_jobs) = (inputs::window_jobs(), inputs::channel_jobs());
+    let windows = window_jobs.iter();
+    let windows: Vec<_> = windows
         .map(|job| decoding::measure_window(job, 1))
         .collect();
+    let in_channels = channel_jobs.iter();
+    let in_channels: Vec<_> = in_channels.map(|job| channels::measure(job, 1)).collect();
+    let targets = [
+        targets::of_window(&windows),
+        targets::of_channels(&in_channels),
+    ];
     let report = Report {
         channel: &[row(2, 3)],
         uniform: &[row(2, 3)],
@@ -102,25 +122,33 @@ fn the_register_window_stands_beside_decode() {
         growth: [1.0, 1.0],
         codes: &[],
         windows: &windows,
+        channels: &in_channels,
         encoding: &encoding::measure(inputs::encodable(), 1),
-        targets: &[targets::of_window(&windows)],
+        targets: &targets,
         rounds: 1,
     };
     let text = report.markdown();
-    let (_, section) = text
-        .split_once("## Decoding through the register window")
-        .expect("the section");
-    for job in &jobs {
-        let of_code = section
-            .lines()
-            .filter(|line| line.starts_with(&format!("| {} | ", job.name)));
-        let cells = of_code.map(|line| line.matches(" | ").count() + 1);
-        assert_eq!(cells.collect::<Vec<_>>(), [6]);
-    }
-    let target = targets::of_window(&windows);
-    assert_eq!(target.measured, 1);
-    assert_eq!(target.worst.1, inputs::SIMULATED);
+    codes_stand_in_it(
+        &text,
+        "## Decoding through the register window",
+        &window_jobs,
+    );
+    codes_stand_in_it(&text, "## Eight channels with one allowance", &channel_jobs);
+    assert_eq!(targets.each_ref().map(|target| target.measured), [1, 4]);
+    assert_eq!(targets[0].worst.1, inputs::SIMULATED);
     assert!(text.contains("at most 1.15 times one `decode`"));
+    assert!(text.contains("at most 1.05 times eight `decode`"));
+}
+
+#[test]
+fn eight_frames_make_a_call() {
+    for job in inputs::channel_jobs() {
+        let frames = job.frames.iter();
+        assert!(frames
+            .map(Vec::len)
+            .eq(job.frames.iter().map(|_| 8 * job.code.frame_length())));
+        assert_eq!(job.frame_count(), 8 * job.frames.len());
+    }
 }
 
 #[test]

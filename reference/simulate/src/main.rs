@@ -73,6 +73,10 @@ fn run(plan: &Plan, out: Option<&Path>) -> io::Result<()> {
                 report::chart_of_long_checks(&results.long_checks),
             ),
             ("margins.svg", report::chart_of_margins(&results.margins)),
+            (
+                "one-allowance.svg",
+                report::chart_of_sharing(&results.sharing),
+            ),
         ];
         for (name, chart) in charts {
             fs::write(directory.join(name), chart.svg())?;

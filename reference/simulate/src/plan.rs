@@ -1,6 +1,6 @@
 //! What a run simulates: a sweep over g, a curve over Eb/N0 with each rule at its best g, a sweep over the cost
-//! scale, a sweep over g by column weight, long checks with two and with three deviations, and what a margin is
-//! worth.
+//! scale, a sweep over g by column weight, long checks with two and with three deviations, what a margin is worth,
+//! and one allowance of iterations for eight channels.
 
 use std::ops::RangeInclusive;
 
@@ -10,6 +10,7 @@ use reference_decoder::sample::Generator;
 use crate::long_checks::{self, LongChecks, Trials};
 use crate::margins::{self, Worth};
 use crate::progress::Progress;
+use crate::sharing::{self, Sharing};
 use crate::sweep::Sweep;
 use crate::trial::{Count, Rule, Scene, Setup, Stop};
 use crate::weights;
@@ -44,6 +45,8 @@ pub struct Plan {
     pub long_checks: [Trials; 2],
     /// The proved rule with the sum, its symbols by their margins.
     pub margins: Vec<(f64, Stop)>,
+    /// The same rule on eight channels with one allowance.
+    pub sharing: Vec<(f64, Stop)>,
     /// What the frames depend on.
     pub seed: u64,
 }
@@ -63,6 +66,8 @@ pub struct Results {
     pub long_checks: Vec<LongChecks>,
     /// The symbols by their margins, at each Eb/N0.
     pub margins: Vec<Worth>,
+    /// Eight channels with one allowance, at each Eb/N0.
+    pub sharing: Vec<Sharing>,
 }
 
 /// An Eb/N0 with the errors and the frames of its trial at size 1.
@@ -88,6 +93,8 @@ const WEIGHTS: [Size1; 3] = [
 ];
 /// The symbols by their margins.
 const MARGINS: [Size1; 3] = [(2.25, 400, 2_000), (2.5, 400, 5_000), (2.75, 400, 25_000)];
+/// Eight channels with one allowance.
+const SHARING: [Size1; 3] = [(2.5, 200, 1_600), (2.75, 100, 4_000), (3.0, 100, 8_000)];
 /// The sweep and the curve of each code with long checks.
 const LONG_CHECKS: [(Size1, &[Size1]); 2] = [
     (
@@ -135,6 +142,7 @@ impl Plan {
                 curve: stops(curve),
             }),
             margins: stops(&MARGINS),
+            sharing: stops(&SHARING),
             seed,
         }
     }
@@ -168,6 +176,7 @@ impl Plan {
             weights: self.by_weight(&mut seeds, progress),
             long_checks: self.with_long_checks(&mut seeds, progress),
             margins: self.by_margin(scene, best[0], &mut seeds, progress),
+            sharing: self.with_sharing(scene, best[0], &mut seeds, progress),
         };
         progress.end();
         results
@@ -195,6 +204,22 @@ impl Plan {
         let trials = self.margins.iter();
         trials
             .map(|&trial| margins::run(scene, setup, trial, seeds.bits(), progress))
+            .collect()
+    }
+
+    /// Eight channels with one allowance, with a rule and its g.
+    fn with_sharing(
+        &self,
+        scene: &Scene,
+        best: (Rule, u8),
+        seeds: &mut Generator,
+        progress: &mut Progress,
+    ) -> Vec<Sharing> {
+        progress.stage("one allowance for eight channels");
+        let [setup] = at([best], COSTS_PER_NAT);
+        let trials = self.sharing.iter();
+        trials
+            .map(|&trial| sharing::run(scene, setup, trial, seeds.bits(), progress))
             .collect()
     }
 

@@ -3,6 +3,7 @@
 mod curves;
 mod long_checks;
 mod margins;
+mod sharing;
 mod weights;
 
 use petsivola::Edition;
@@ -14,6 +15,7 @@ use crate::trial::{Count, Rule};
 use curves::Line;
 pub use long_checks::chart as chart_of_long_checks;
 pub use margins::{chart as chart_of_margins, wrong_somewhere, wrong_up_to};
+pub use sharing::chart as chart_of_sharing;
 
 /// The document.
 pub fn markdown(plan: &Plan, encoder: &Encoder, results: &Results) -> String {
@@ -38,6 +40,7 @@ pub fn markdown(plan: &Plan, encoder: &Encoder, results: &Results) -> String {
         weights::section(&results.weights),
         long_checks::section(&results.long_checks),
         margins::section(&results.margins),
+        sharing::section(&results.sharing),
     ];
     parts.concat().trim_end().to_string() + "\n"
 }

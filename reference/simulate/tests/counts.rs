@@ -2,9 +2,10 @@
 
 use simulate::array;
 use simulate::decoder::Outcome;
-use simulate::plan::{best_g, Plan, LIMIT, RULES};
+use simulate::plan::{best_g, Plan, Results, LIMIT, RULES};
 use simulate::progress::Progress;
 use simulate::report;
+use simulate::sharing::LIMITS;
 use simulate::tally::Tally;
 use simulate::trial::{Count, Scene, Setup, Stop};
 
@@ -118,6 +119,7 @@ fn the_document_has_every_trial() {
     let long = results.long_checks.iter().map(|code| code.curve.len());
     assert!(long.eq(plan.long_checks.iter().map(|code| 2 * code.curve.len())));
     assert_eq!(results.margins.len(), plan.margins.len());
+    assert_eq!(results.sharing.len(), plan.sharing.len());
     let text = report::markdown(&plan, &scene.encoder, &results);
     let rows = |rule: &str| {
         let cell = format!("| {rule} |");
@@ -128,16 +130,29 @@ fn the_document_has_every_trial() {
     assert_eq!(rows("Trellis Min-Max"), 7 + 7 * 2 + 5);
     assert_eq!(rows("proved, k = 3"), 6 + 5);
     assert_eq!(rows("161 to 510"), 3);
+    let (_, section) = text
+        .split_once("## One allowance for eight channels")
+        .expect("the section");
+    let rows_of_limits = section
+        .lines()
+        .filter(|line| line.matches(" | ").count() == 11);
+    assert_eq!(rows_of_limits.count(), 1 + 3 * LIMITS.len());
     let rows = text
         .lines()
         .filter(|line| line.matches(" of 1 |").count() == 3);
     assert_eq!(rows.count(), 11);
+    charts_have_their_lines(&results);
+}
+
+/// Each chart is a document with a line for each of its series.
+fn charts_have_their_lines(results: &Results) {
     let charts = [
         report::chart(&results.curve),
         report::chart_of_long_checks(&results.long_checks),
         report::chart_of_margins(&results.margins),
+        report::chart_of_sharing(&results.sharing),
     ];
-    for (chart, lines) in charts.iter().zip([3, 4, 6]) {
+    for (chart, lines) in charts.iter().zip([3, 4, 6, 6]) {
         let svg = chart.svg();
         assert!(svg.starts_with("<svg") && svg.ends_with("</svg>\n"));
         assert_eq!(chart.series.len(), lines);
