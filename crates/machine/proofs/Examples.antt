@@ -7,10 +7,12 @@ use Rattle.trellis.specs.Lists.{upTo}
 use Rattle.trellis.specs.Field.{xor}
 use Rattle.trellis.specs.Check.{extra, sentAt, leastCost, choices, shift, decided, sent, marginOf}
 use Rattle.trellis.specs.Record.{recordOf, shifts, group, above}
-use Rattle.trellis.specs.Reply.{foundIn, Reply}
+use Rattle.trellis.specs.Reply.{accepted, refusal, foundIn, Reply}
 use Rattle.trellis.specs.Rules.{firstOk}
 use Rattle.machine.specs.CodeLine.{Code, edge, good, parse, checks, checkAt, edges, readEdge, frameFault, rule}
 use Rattle.machine.specs.Machine.{scaled, run, go, iteration, update, spread, arriving, outgoing, incoming, message, settled, symbols, records, place, Status, found, notFound, margins}
+use Rattle.machine.specs.Encoding.{wrote}
+use Rattle.machine.specs.Combining.{combinedColumn, combinedTo, combineFault, combining}
 use Rattle.machine.specs.Decoding.{lending, roomFault, admitted, decoding, After, lastUpdate}
 
 abbrev line : List ℕ
@@ -72,6 +74,22 @@ pub equal-sents : (sentIn frame-3 ≡ sentIn frame-4) × ((call frame-3 .buffers
     × (call frame-4 .buffers .store ≡ 0 ∷ 2 ∷ 2 ∷ 0 ∷ 255 ∷ 0 ∷ 255 ∷ 0 ∷ 0 ∷ 255 ∷ 0 ∷ 255 ∷ 0 ∷ 0 ∷ 255 ∷ 0 ∷ 255 ∷ 0 ∷ 7 ∷ []))
 unfolding decoding admitted roomFault parse firstOk checks checkAt edges readEdge frameFault place records run go iteration update spread arriving outgoing incoming message settled symbols margins marginOf sent leastCost choices xor recordOf shifts group above extra sentAt shift decided
 equal-sents = (refl, (refl, refl))
+
+-- two frames combined, in a buffer one too long
+pub combined-1 : combining line frame-1 frame-2 (replicate 13 7) ≡ wrote (accepted 12) (7 ∷ 0 ∷ 7 ∷ 0 ∷ 1 ∷ 0 ∷ 1 ∷ 0 ∷ 0 ∷ 14 ∷ 0 ∷ 14 ∷ 7 ∷ [])
+unfolding combining combineFault frameFault parse firstOk checks checkAt edges readEdge combinedTo combinedColumn
+combined-1 = refl
+
+-- sums that no byte holds, 0 510 256 5: in a byte they would be 0 254 0 5. The least is subtracted before the cap: 200 255 455 510
+pub combined-2 : (combinedColumn 4 (0 ∷ 255 ∷ 255 ∷ 3 ∷ []) (0 ∷ 255 ∷ 1 ∷ 2 ∷ []) ≡ 0 ∷ 255 ∷ 255 ∷ 5 ∷ [])
+    × (combinedColumn 4 (0 ∷ 255 ∷ 200 ∷ 255 ∷ []) (200 ∷ 0 ∷ 255 ∷ 255 ∷ []) ≡ 0 ∷ 55 ∷ 255 ∷ 255 ∷ [])
+unfolding combinedColumn
+combined-2 = (refl, refl)
+
+-- a column of the second frame without a 0, and a buffer one too short as well: 23, and nothing is written
+pub combined-refused : combining line frame-1 (0 ∷ 5 ∷ 7 ∷ 9 ∷ 0 ∷ 4 ∷ 8 ∷ 3 ∷ 1 ∷ 6 ∷ 2 ∷ 9 ∷ []) (replicate 11 7) ≡ wrote (refusal 23) (replicate 11 7)
+unfolding combining combineFault frameFault parse firstOk checks checkAt edges readEdge
+combined-refused = refl
 
 -- Columns of the two runs below: a cost is scaled down to a whole number; a difference of 257 is capped; of differences below 0 the least is
 -- subtracted before the cap, -7 244 -13 242; and one where all of the offset is used, 9 -255 0 9

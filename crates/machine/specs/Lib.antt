@@ -1,5 +1,5 @@
--- What a reader must believe: Line, CodeLine, Machine, Decoding, Printing, Program, in document 01's order, and Margins, Encoding and Moments of
--- document 02; Moments goes on from lent records, as `pass` of Lent does. Blocks, Tables and Lent say the same in the shape of the code's loops;
+-- What a reader must believe: Line, CodeLine, Machine, Decoding, Printing, Program, in document 01's order, and Margins, Encoding, Combining
+-- and Moments of document 02; Moments goes on from lent records, as `pass` of Lent does. Blocks, Tables and Lent say the same in the shape of the code's loops;
 -- proofs/ shows that they do.
 pub mod Line
 pub mod CodeLine
@@ -7,6 +7,7 @@ pub mod Machine
 pub mod Decoding
 pub mod Margins
 pub mod Encoding
+pub mod Combining
 pub mod Printing
 pub mod Program
 pub mod Blocks
