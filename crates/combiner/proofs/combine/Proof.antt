@@ -1,0 +1,59 @@
+-- The reader's answer is the line's refusal, or the two numbers under which the rest is promised.
+use mathlib.Core.Path.{ap, _∙_}
+use borrow.Author.Needs.{needs}
+use Rattle.machine.specs.Encoding.{Wrote}
+use Rattle.combiner.proofs.Combined.{line-refused, line-asks, line-is}
+use Rattle.combiner.proofs.combine.Statement.{statement}
+use Rattle.combiner.proofs.combine.Tie as tie
+
+code-line-requires : tie.Need-code-line-requires
+code-line-requires c κs = search needs
+
+enum-known-k : tie.Need-enum-known-k
+enum-known-k c = search needs
+
+enum-known-byte : tie.Need-enum-known-byte
+enum-known-byte c = search needs
+
+long-requires : tie.Need-long-requires
+long-requires c κs = search needs
+
+under-code-requires : tie.Need-under-code-requires
+under-code-requires c κs =
+    let w = c .before .long in
+    let v = c .before .before .before .byte .given in
+    let r = c .before .before .before .before .before .code-line in
+    let a = c .before .before .before .before .before .before .before .before .before .before .args in
+    line-asks (a .code .now) (r .result) (r .ensures) (a .first .now) (a .second .now) (a .out .now) (v .0 .0) (v .0 .1 .0) (v .0 .1 .1 .0) (v .0 .1 .1 .1 .0) (v .0 .1 .1 .1 .1 .0) (v .1) (w .result) (w .ensures .0)
+
+returns : tie.Need-returns
+returns c =
+    let r = c .before .before .before .code-line in
+    let a = c .before .before .before .before .before .before .before .before .args in
+    line-refused (a .code .now) (r .result) (r .ensures) (a .first .now) (a .second .now) (a .out .now) (c .before .k .given .0 .0) (c .before .k .given .1)
+
+same-length : tie.Need-same-length
+same-length c = search needs
+
+returns-2 : tie.Need-returns-2
+returns-2 c =
+    let o = c .before .before .under-code in
+    let w = c .before .before .before .before .long in
+    let v = c .before .before .before .before .before .before .byte .given in
+    let r = c .before .before .before .before .before .before .before .before .code-line in
+    let a = c .before .before .before .before .before .before .before .before .before .before .before .before .before .args in
+    let e = line-is (a .code .now) (r .result) (r .ensures) (a .first .now) (a .second .now) (a .out .now) (v .0 .0) (v .0 .1 .0) (v .0 .1 .1 .0) (v .0 .1 .1 .1 .0) (v .0 .1 .1 .1 .1 .0) (v .1) (w .result) (w .ensures .0) in
+    (o .ensures .0 ∙ ap (λ (w : Wrote). w .reply) e, o .ensures .1 ∙ ap (λ (w : Wrote). w .out) e)
+
+pub combine-spec : {M : Type 1} → statement M
+combine-spec =
+    tie.close
+    (tie.spec
+    code-line-requires
+    enum-known-k
+    enum-known-byte
+    long-requires
+    under-code-requires
+    returns
+    same-length
+    returns-2)
