@@ -48,8 +48,8 @@ enum petsivola_number {
     PETSIVOLA_NOT_FOUND = 1,        /* decode: they do not after I iterations */
 
     /* refusals caused by the caller */
-    PETSIVOLA_SHORT_BUFFER = 2,     /* decode's, channels' or encode's symbols, expand's or line's
-                                       out too short */
+    PETSIVOLA_SHORT_BUFFER = 2,     /* decode's, channels' or encode's symbols, or the out of
+                                       another call too short */
     PETSIVOLA_SHORT_COSTS = 3,      /* cost buffer shorter than N * q (channels: count * N * q) */
     PETSIVOLA_SHORT_STORE = 4,      /* record buffer or store too short */
     /* by the code line's writer */
@@ -63,9 +63,10 @@ enum petsivola_number {
     PETSIVOLA_WEIGHT = 11,          /* weight 0, or a weight or element not below q */
     /* by the frame's sender */
     PETSIVOLA_COST_COUNT = 12,      /* number of costs is not N * q (check, sweep: d * q, channels:
-                                       count * N * q) */
+                                       count * N * q); in combine of the first frame */
     PETSIVOLA_NO_ZERO_COST = 13,    /* a column without a cost of 0; in the window also a cost above
-                                       510 in the cost buffer; in channels one channel's own */
+                                       510 in the cost buffer; in channels one channel's own; in
+                                       combine of the first frame */
     /* by the line's writer */
     PETSIVOLA_DIGITS = 14,          /* odd digit count, or a byte other than 0-9 and A-F */
     PETSIVOLA_LONG_LINE = 15,       /* more than 32,768 bytes */
@@ -84,7 +85,10 @@ enum petsivola_number {
     PETSIVOLA_SPENT = 20,           /* still running when the allowance was spent */
     /* channels: by the caller */
     PETSIVOLA_CHANNEL_COUNT = 21,   /* channel count not 1 to 8 */
-    PETSIVOLA_NO_ALLOWANCE = 22     /* allowance 0 */
+    PETSIVOLA_NO_ALLOWANCE = 22,    /* allowance 0 */
+    /* combine: by the second frame's sender */
+    PETSIVOLA_SECOND_FRAME = 23     /* number of its costs is not N * q, or a column of it without a
+                                       cost of 0 */
 };
 
 /* All below are constant expressions for constant arguments.
@@ -286,6 +290,30 @@ uint8_t petsivola_window_read(struct petsivola_window w, uint8_t address);
 
 /* The interrupt line: 1 when mask and pending share a bit, else 0. */
 uint8_t petsivola_window_interrupt(struct petsivola_window w);
+
+/* Combines two frames of one word. Crews strike twice and the box sends the same symbols again: neither
+ * frame may be found alone, and what both say about a symbol is the sum of its two costs. Decode the
+ * combined frame as any other.
+ *
+ *   code     the code line that both are sent under, as for petsivola_decode. It says how long a frame
+ *            is; nothing else of it matters, but all of it has to be accepted.
+ *   first    the frame of one blow: N * q costs, column by column, each 0 to 255, a 0 in every column:
+ *            PETSIVOLA_FRAME_LENGTH(code[0], N), exactly
+ *   second   the frame of the other, of the same form and length; it may be the same buffer
+ *   out      gets the combined frame: at each column and symbol the sum of the two costs, less the
+ *            column's least sum, and at most 255: at least PETSIVOLA_FRAME_LENGTH(code[0], N)
+ *
+ * The combined frame has a 0 in every column, so it is accepted under the same code line, here too: a
+ * third blow is combined with what the first two gave. The order of the two does not matter. A frame of
+ * zeros says nothing: the other one comes out as it was.
+ *
+ * Number: 0, or a refusal; tested in this order: 5 to 11 as the code line is read front to back, 12 and
+ * 13 for the first frame, 23 for the second, 2. Value: the bytes written, N * q.
+ */
+uint32_t petsivola_combine(const uint8_t *code, size_t code_len,
+                           const uint8_t *first, size_t first_len,
+                           const uint8_t *second, size_t second_len,
+                           uint8_t *out, size_t out_len);
 
 /* Encodes one message: N - M symbols become the N symbols that decoding looks for.
  *

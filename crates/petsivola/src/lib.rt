@@ -11,6 +11,7 @@ ghost use Rattle.checknode.specs.Answers.{elementReply, productReply, writtenRe
 ghost use Rattle.machine.specs.Line.{lineReply, lineLeaves};
 ghost use Rattle.machine.specs.Decoding.{lending, decoding};
 ghost use Rattle.machine.specs.Encoding.{encoding};
+ghost use Rattle.machine.specs.Combining.{combining};
 ghost use Rattle.layered.specs.Answers.{answerReply};
 ghost use Rattle.trellis.specs.Lists.{pick};
 ghost use Rattle.window.specs.Window.{read, interrupt, write};
@@ -189,4 +190,12 @@ pub extern "C" fn petsivola_channels(
         store,
         margins,
     )
+}
+
+#[no_mangle]
+pub extern "C" fn petsivola_combine(code: &[u8], first: &[u8], second: &[u8], out: &mut [u8]) -> u32
+    ensures { λ r. ⌜ Packs r (combining (now (code .entry)) (now (first .entry)) (now (second .entry)) (now (out .entry)) .reply) ⌝ }
+    ensures { λ _. ⌜ now (out .exit) ≡ combining (now (code .entry)) (now (first .entry)) (now (second .entry)) (now (out .entry)) .out ⌝ }
+{
+    of_written(combiner::combine(code, first, second, out))
 }
