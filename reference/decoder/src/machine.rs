@@ -9,7 +9,7 @@ use crate::field::sum;
 use crate::record;
 use crate::refusal::Refusal;
 
-/// "cap at 255; this is Q"
+/// "cap at 255"
 const COST_CAP: i32 = 255;
 
 /// "The result is found (0) or not found (1), with t."
@@ -226,7 +226,7 @@ impl<'a> Machine<'a> {
             let differences = self.costs[column].iter().zip(old);
             let differences = differences.map(|(cost, old)| cost - old).collect();
             for cost in less_the_least(differences) {
-                brought.push(u8::try_from(cost.min(COST_CAP)).expect("Q is 0 to 255"));
+                brought.push(capped(cost));
             }
         }
         brought
@@ -240,7 +240,12 @@ impl<'a> Machine<'a> {
 }
 
 /// The costs of a column, each less the least of them.
-fn less_the_least(costs: Vec<i32>) -> Vec<i32> {
+pub(crate) fn less_the_least(costs: Vec<i32>) -> Vec<i32> {
     let least = costs.iter().min().expect("a column has q costs");
     costs.iter().map(|cost| cost - least).collect()
+}
+
+/// A cost less the least of its column, "cap at 255".
+pub(crate) fn capped(cost: i32) -> u8 {
+    u8::try_from(cost.min(COST_CAP)).expect("a cost is not below the least")
 }

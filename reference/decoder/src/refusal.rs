@@ -55,6 +55,8 @@ pub enum Refusal {
     ChannelCount = 21,
     /// Document 02, §9: "22, A is 0"
     NoAllowance = 22,
+    /// Document 02, §10: "23, second frame's length wrong or a column of it has no 0"
+    SecondFrame = 23,
 }
 
 impl Refusal {

@@ -19,6 +19,7 @@
 //! | [`line`] | the bytes of a line of hexadecimal digits | 15, 14, 2 |
 //! | [`decode`] | symbols, costs, records and margins of one frame | 5 to 11, 12, 13, 2, 3, 4, 19 |
 //! | [`encode`] | the symbols of one message | 5 to 11, 17, 18, 2 |
+//! | [`combine`] | the frame of two blows | 5 to 11, 12, 13, 23, 2 |
 //! | [`channels`](channels()) | the same of up to eight frames | 21, 22, 5 to 11, 12, 2, 3, 4, 19 |
 //!
 //! A [`Window`] does a decoding step by step, through the registers of document 02, §8.
@@ -123,4 +124,24 @@ pub fn decode(
 /// buffer N or more.
 pub fn encode(code: &[u8], message: &[u8], symbols: &mut [u8]) -> Result<usize, Refusal> {
     answer::written(library::encode(code, message, symbols))
+}
+
+/// Combines two frames of one word into one, which is to be decoded in their place; answers how many costs it wrote,
+/// N q, [`lengths::frame`]. Order: the code line's refusals, 12 and 13 for the first frame, 23 for the second, 2.
+///
+/// "at each column and symbol add the two costs, subtract the column's least, cap at 255. The result is itself an
+/// accepted frame, the same in either order of the two."
+///
+/// ```
+/// use petsivola::combine;
+///
+/// let code = [2, 0, 3, 1, 16, 1, 3, 0, 0, 1, 0, 1, 1, 0, 2, 1];
+/// let first = [5, 0, 9, 7, 0, 4, 8, 3, 0, 6, 2, 10];
+/// let second = [0, 9, 2, 0, 7, 3, 255, 0, 10, 6, 0, 4];
+/// let mut out = [0; 12];
+/// assert_eq!(combine(&code, &first, &second, &mut out), Ok(12));
+/// assert_eq!(out, [0, 4, 6, 2, 4, 4, 255, 0, 8, 10, 0, 12]);
+/// ```
+pub fn combine(code: &[u8], first: &[u8], second: &[u8], out: &mut [u8]) -> Result<usize, Refusal> {
+    answer::written(library::combine(code, first, second, out))
 }

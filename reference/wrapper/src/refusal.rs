@@ -51,6 +51,8 @@ pub enum Refusal {
     ChannelCount,
     /// "22, A is 0"; document 02, §9
     NoAllowance,
+    /// "23, second frame's length wrong or a column of it has no 0"; document 02, §10
+    SecondFrame,
     /// A number that the documents do not have. The proved library never answers one; it would mean
     /// that the program was linked with another archive than the one this package was written for.
     Unlisted(u16),
@@ -58,7 +60,7 @@ pub enum Refusal {
 
 impl Refusal {
     /// The documents' refusals, in the order of their numbers.
-    pub const ALL: [Refusal; 20] = [
+    pub const ALL: [Refusal; 21] = [
         Refusal::ShortBuffer,
         Refusal::ShortCosts,
         Refusal::ShortStore,
@@ -79,6 +81,7 @@ impl Refusal {
         Refusal::ShortMargins,
         Refusal::ChannelCount,
         Refusal::NoAllowance,
+        Refusal::SecondFrame,
     ];
 
     /// Document 01's number.
@@ -104,6 +107,7 @@ impl Refusal {
             Refusal::ShortMargins => 19,
             Refusal::ChannelCount => 21,
             Refusal::NoAllowance => 22,
+            Refusal::SecondFrame => 23,
             Refusal::Unlisted(number) => number,
         }
     }
@@ -135,6 +139,9 @@ impl Refusal {
             Refusal::ShortMargins => "the margin buffer is shorter than N",
             Refusal::ChannelCount => "the channel count is not 1 to 8",
             Refusal::NoAllowance => "the allowance of iterations is 0",
+            Refusal::SecondFrame => {
+                "the second frame's number of costs is wrong, or a column of it has no cost of 0"
+            }
             Refusal::Unlisted(_) => "the documents do not have this number",
         }
     }
@@ -172,8 +179,8 @@ mod tests {
     use super::*;
 
     #[test]
-    fn the_numbers_are_2_to_22_without_20() {
-        let numbers = (2..=22).filter(|&number| number != 20);
+    fn the_numbers_are_2_to_23_without_20() {
+        let numbers = (2..=23).filter(|&number| number != 20);
         assert!(Refusal::ALL.into_iter().map(u16::from).eq(numbers));
     }
 
@@ -183,7 +190,7 @@ mod tests {
             let refusal = Refusal::from(number);
             assert_eq!(refusal.number(), number);
             let listed = Refusal::ALL.contains(&refusal);
-            assert_eq!(listed, (2..=22).contains(&number) && number != 20);
+            assert_eq!(listed, (2..=23).contains(&number) && number != 20);
         }
     }
 
