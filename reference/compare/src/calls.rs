@@ -3,6 +3,7 @@
 mod buffers;
 mod channels;
 mod check;
+mod combine;
 mod decode;
 mod encode;
 mod expand;
@@ -22,6 +23,7 @@ use crate::tally::{Class, Tally};
 
 pub use channels::CHANNELS;
 pub use check::{CHECK, SWEEP};
+pub use combine::COMBINE;
 pub use decode::DECODE;
 pub use encode::ENCODE;
 pub use expand::EXPAND;
@@ -30,8 +32,8 @@ pub use product::PRODUCT;
 pub use window::WINDOW;
 
 /// Every entry point.
-pub const ENTRY_POINTS: [EntryPoint; 9] = [
-    PRODUCT, CHECK, SWEEP, EXPAND, LINE, DECODE, ENCODE, WINDOW, CHANNELS,
+pub const ENTRY_POINTS: [EntryPoint; 10] = [
+    PRODUCT, CHECK, SWEEP, EXPAND, LINE, DECODE, ENCODE, WINDOW, CHANNELS, COMBINE,
 ];
 
 /// An entry point and how it is compared.
@@ -70,8 +72,8 @@ impl EntryPoint {
     }
 
     /// Makes the calls that are few enough to be made all: every product, every line of two bytes, a check, a
-    /// sweep, an expansion, a decoding, an encoding and several channels with every first byte, every write to a
-    /// window, and every count of channels.
+    /// sweep, an expansion, a decoding, an encoding, several channels and two frames combined with every first byte,
+    /// every write to a window, and every count of channels.
     ///
     /// # Errors
     ///

@@ -114,14 +114,14 @@ fn lengths(input: &CheckSample) -> [usize; 2] {
 /// Makes the calls, each with the slices as they are lent to all, and compares them.
 fn compare(
     sides: &Sides,
-    lent: &Lending,
+    lent: &Lending<2>,
     input: &CheckSample,
     tally: &mut Tally,
 ) -> Result<(), Difference> {
     let first = input.first;
     let lend = |call: Call| {
         let mut lent = lent.clone();
-        let answer = lent.to(|weights, costs, record| call(first, weights, costs, record));
+        let answer = lent.to(|[weights, costs], record| call(first, weights, costs, record));
         (answer, lent)
     };
     let (expected, lent_expected) = lend(sides.reference);
@@ -130,7 +130,7 @@ fn compare(
         let (answer, lent_after) = lend(call);
         let mut comparison = Comparison::default();
         comparison.answers(&answer, &expected);
-        let names = ["weights", "costs", "record"];
+        let names = (["weights", "costs"], "record");
         lent_after.compare(&mut comparison, names, &lent_expected);
         comparison.end(name, || {
             Inputs::default()

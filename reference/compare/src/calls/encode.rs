@@ -4,9 +4,10 @@ use reference_decoder::encode::has_encoding_form;
 use reference_decoder::sample::{self, Generator, Miss, Size};
 use reference_decoder::{code_line, Code};
 
+use super::lending::Lending;
 use super::{accepted_or_refused, class_of, first_byte, of_library, of_reference, EntryPoint};
 use crate::comparison::{Comparison, Difference, Inputs};
-use crate::lent::{length_around, length_enough, Lent};
+use crate::lent::{length_around, length_enough};
 use crate::tally::{Class, Tally};
 
 /// `encode`.
@@ -152,36 +153,27 @@ impl Input {
 }
 
 fn compare(generator: &mut Generator, input: &Input, tally: &mut Tally) -> Result<(), Difference> {
-    let line = Lent::holding(generator, &input.line);
-    let message = Lent::holding(generator, &input.message);
-    let (line_lent, message_lent) = (line.clone(), message.clone());
-    let mut symbols = Lent::<u8>::to_fill(generator, input.length);
-    let mut symbols_expected = symbols.clone();
-    let expected = of_reference(reference_decoder::encode(
-        line.slice(),
-        message.slice(),
-        symbols_expected.slice_mut(),
-    ));
+    let mut lent = Lending::new(generator, [&input.line, &input.message], input.length);
+    let mut lent_expected = lent.clone();
+    let expected = lent_expected.to(|[code, message], symbols| {
+        of_reference(reference_decoder::encode(code, message, symbols))
+    });
 
     tally.answer(class_of(&expected));
     see(tally, input, &expected);
     let mut comparison = Comparison::default();
     // The second encoding is in the used buffer and gives the same: nothing was left behind.
     for _ in 0..2 {
-        let answer = of_library(petsivola::encode(
-            line_lent.slice(),
-            message_lent.slice(),
-            symbols.slice_mut(),
-        ));
+        let answer = lent
+            .to(|[code, message], symbols| of_library(petsivola::encode(code, message, symbols)));
         comparison.answers(&answer, &expected);
-        comparison.lent("symbols", &symbols, &symbols_expected);
+        let names = (["code", "message"], "symbols");
+        lent.compare(&mut comparison, names, &lent_expected);
     }
-    comparison.lent("code", &line_lent, &line);
-    comparison.lent("message", &message_lent, &message);
     comparison.end("encode", || {
         Inputs::default()
-            .bytes("code", line.slice())
-            .bytes("message", message.slice())
+            .bytes("code", &input.line)
+            .bytes("message", &input.message)
             .number("symbol buffer length", input.length)
     })
 }

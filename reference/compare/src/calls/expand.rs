@@ -107,11 +107,11 @@ fn compare(
     let first = input.first;
     let mut lent = Lending::new(generator, [&input.weights, record], length);
     let mut lent_expected = lent.clone();
-    let expected = lent_expected.to(|weights, record, out| {
+    let expected = lent_expected.to(|[weights, record], out| {
         of_reference(reference_decoder::expand(first, weights, record, out))
     });
-    let answer =
-        lent.to(|weights, record, out| of_library(petsivola::expand(first, weights, record, out)));
+    let answer = lent
+        .to(|[weights, record], out| of_library(petsivola::expand(first, weights, record, out)));
 
     tally.answer(class_of(&expected));
     see_refused(tally, input.degree(), expected == Err(9));
@@ -124,7 +124,7 @@ fn compare(
     comparison.answers(&answer, &expected);
     lent.compare(
         &mut comparison,
-        ["weights", "record", "out"],
+        (["weights", "record"], "out"),
         &lent_expected,
     );
     comparison.end("expand", || {

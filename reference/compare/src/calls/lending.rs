@@ -1,20 +1,20 @@
-//! The slices of a call that reads two and fills one.
+//! The slices of a call that reads some and fills one.
 
 use reference_decoder::sample::Generator;
 
 use crate::comparison::Comparison;
 use crate::lent::Lent;
 
-/// The slices, to lend to one side.
+/// The slices, N of them to read, to lend to one side.
 #[derive(Clone)]
-pub struct Lending {
-    read: [Lent<u8>; 2],
+pub struct Lending<const N: usize> {
+    read: [Lent<u8>; N],
     filled: Lent<u8>,
 }
 
-impl Lending {
-    /// Two slices with this content, and one of this length to fill.
-    pub fn new(generator: &mut Generator, read: [&[u8]; 2], length: usize) -> Lending {
+impl<const N: usize> Lending<N> {
+    /// Slices with this content, and one of this length to fill.
+    pub fn new(generator: &mut Generator, read: [&[u8]; N], length: usize) -> Lending<N> {
         Lending {
             read: read.map(|content| Lent::holding(generator, content)),
             filled: Lent::to_fill(generator, length),
@@ -22,9 +22,9 @@ impl Lending {
     }
 
     /// Lends them to a call.
-    pub fn to<A>(&mut self, call: impl FnOnce(&[u8], &[u8], &mut [u8]) -> A) -> A {
-        let [first, second] = &self.read;
-        call(first.slice(), second.slice(), self.filled.slice_mut())
+    pub fn to<A>(&mut self, call: impl FnOnce([&[u8]; N], &mut [u8]) -> A) -> A {
+        let read = self.read.each_ref().map(Lent::slice);
+        call(read, self.filled.slice_mut())
     }
 
     /// The slice that is filled.
@@ -33,14 +33,16 @@ impl Lending {
     }
 
     /// Compares the slices after the library's call with what they must hold; the names are in the order
-    /// of the parameters.
-    pub fn compare(&self, comparison: &mut Comparison, names: [&str; 3], expected: &Lending) {
-        let [first, second, filled] = names;
+    /// of the parameters, that of the filled one last.
+    pub fn compare(
+        &self,
+        comparison: &mut Comparison,
+        (names, filled): ([&str; N], &str),
+        expected: &Lending<N>,
+    ) {
         comparison.lent(filled, &self.filled, &expected.filled);
-        for (name, (after, before)) in [first, second]
-            .into_iter()
-            .zip(self.read.iter().zip(&expected.read))
-        {
+        let slices = self.read.iter().zip(&expected.read);
+        for (name, (after, before)) in names.into_iter().zip(slices) {
             comparison.lent(name, after, before);
         }
     }
