@@ -90,10 +90,14 @@ pub struct Row<'a> {
 }
 
 impl Row<'_> {
-    /// N times p bits a frame, by the proved library's time for a frame of mean iterations.
+    /// The proved library's seconds for a frame of mean iterations.
+    pub fn of_frame(&self) -> f64 {
+        self.decode.median(Engine::Proved) * self.mean_iterations
+    }
+
+    /// N times p bits a frame, by the proved library's time for it.
     pub fn bits_per_second(&self) -> f64 {
-        self.job.code.coded_bits() as f64
-            / (self.decode.median(Engine::Proved) * self.mean_iterations)
+        self.job.code.coded_bits() as f64 / self.of_frame()
     }
 }
 

@@ -10,7 +10,7 @@ use bench::checks;
 use bench::inputs::{self, Costs, Job};
 use bench::report::Report;
 use bench::targets::targets;
-use bench::{channels, charts, decoding, encoding};
+use bench::{channels, charts, combining, decoding, encoding};
 
 /// Where the documents of this project stand.
 const DOCUMENTS: &str = concat!(env!("CARGO_MANIFEST_DIR"), "/../../docs/bench");
@@ -66,6 +66,7 @@ fn run(rounds: usize, out: Option<&Path>) -> io::Result<()> {
     let channel_jobs = inputs::channel_jobs();
     let in_channels = |job| channels::measure(job, rounds);
     let channels = measured("eight channels", &channel_jobs, in_channels);
+    let combining = measured("combining", &jobs, |job| combining::measure(job, rounds));
     eprintln!("encoding");
     let encoding = encoding::measure(inputs::encodable(), rounds);
     let all: Vec<_> = channel.iter().chain(&uniform).collect();
@@ -77,6 +78,7 @@ fn run(rounds: usize, out: Option<&Path>) -> io::Result<()> {
         codes: &codes,
         windows: &windows,
         channels: &channels,
+        combining: &combining,
         encoding: &encoding,
         targets: &targets(&all, &codes, &windows, &channels),
         rounds,
@@ -90,11 +92,7 @@ fn run(rounds: usize, out: Option<&Path>) -> io::Result<()> {
 }
 
 /// Measures each of some codes, and says which.
-fn measured<'a>(
-    what: &str,
-    jobs: &'a [Job],
-    measure: impl Fn(&'a Job) -> decoding::Row<'a>,
-) -> Vec<decoding::Row<'a>> {
+fn measured<'a, R>(what: &str, jobs: &'a [Job], measure: impl Fn(&'a Job) -> R) -> Vec<R> {
     let each = |job: &'a Job| {
         eprintln!("{what}, {}", job.name);
         measure(job)

@@ -1,6 +1,7 @@
 //! The Markdown document that a run writes.
 
 mod beside;
+mod combining;
 mod deviations;
 mod editions;
 mod older;
@@ -29,6 +30,8 @@ pub struct Report<'a> {
     pub windows: &'a [decoding::Row<'a>],
     /// The codes of eight channels.
     pub channels: &'a [decoding::Row<'a>],
+    /// The codes of combining, which are those of decoding.
+    pub combining: &'a [crate::combining::Row<'a>],
     /// The encoding.
     pub encoding: &'a encoding::Row,
     /// The targets.
@@ -51,6 +54,7 @@ impl Report<'_> {
             self.decodings(),
             beside::window(self.windows),
             beside::channels(self.channels),
+            combining::section(self.combining, self.codes),
             self.encodings(),
             older::section(self),
         ];

@@ -4,7 +4,7 @@ use bench::checks::swept::Swept;
 use bench::checks::Row;
 use bench::inputs::{self, Costs, Job};
 use bench::report::Report;
-use bench::{channels, charts, decoding, encoding, targets};
+use bench::{channels, charts, combining, decoding, encoding, targets};
 
 /// A size, measured on a few checks.
 fn row(p: u8, degree: usize) -> Row {
@@ -25,6 +25,7 @@ fn markdown(rows: &[Row]) -> String {
         codes: &[],
         windows: &[],
         channels: &[],
+        combining: &[],
         encoding: &encoding::measure(inputs::encodable(), 1),
         targets: &[],
         rounds: 1,
@@ -88,8 +89,8 @@ fn the_proved_sweep_stands_beside_the_proved_check_with_both_k() {
     assert!(of_two.contains("The proved sweep takes "));
 }
 
-/// Holds a section against its codes: a line of six cells for each.
-fn codes_stand_in_it(text: &str, title: &str, jobs: &[Job]) {
+/// Holds a section against its codes: a line of so many cells for each.
+fn codes_stand_in_it(text: &str, (title, count): (&str, usize), jobs: &[Job]) {
     let (_, section) = text.split_once(title).expect("the section");
     let (section, _) = section.split_once("\n## ").expect("another section");
     for job in jobs {
@@ -97,7 +98,7 @@ fn codes_stand_in_it(text: &str, title: &str, jobs: &[Job]) {
             .lines()
             .filter(|line| line.starts_with(&format!("| {} | ", job.name)));
         let cells = of_code.map(|line| line.matches(" | ").count() + 1);
-        assert_eq!(cells.collect::<Vec<_>>(), [6]);
+        assert_eq!(cells.collect::<Vec<_>>(), [count]);
     }
 }
 
@@ -123,6 +124,7 @@ fn the_register_window_and_eight_channels_stand_beside_decode() {
         codes: &[],
         windows: &windows,
         channels: &in_channels,
+        combining: &[],
         encoding: &encoding::measure(inputs::encodable(), 1),
         targets: &targets,
         rounds: 1,
@@ -130,14 +132,43 @@ fn the_register_window_and_eight_channels_stand_beside_decode() {
     let text = report.markdown();
     codes_stand_in_it(
         &text,
-        "## Decoding through the register window",
+        ("## Decoding through the register window", 6),
         &window_jobs,
     );
-    codes_stand_in_it(&text, "## Eight channels with one allowance", &channel_jobs);
+    codes_stand_in_it(
+        &text,
+        ("## Eight channels with one allowance", 6),
+        &channel_jobs,
+    );
     assert_eq!(targets.each_ref().map(|target| target.measured), [1, 4]);
     assert_eq!(targets[0].worst.1, inputs::SIMULATED);
     assert!(text.contains("at most 1.15 times one `decode`"));
     assert!(text.contains("at most 1.05 times eight `decode`"));
+}
+
+/// A combined frame that is not the reference decoder's would stop the measurement.
+#[test]
+fn combining_stands_beside_decode() {
+    let jobs = inputs::jobs();
+    let codes: Vec<_> = jobs.iter().map(|job| decoding::measure(job, 1)).collect();
+    let combining: Vec<_> = jobs.iter().map(|job| combining::measure(job, 1)).collect();
+    let report = Report {
+        channel: &[row(2, 3)],
+        uniform: &[row(2, 3)],
+        swept: &[],
+        growth: [1.0, 1.0],
+        codes: &codes,
+        windows: &[],
+        channels: &[],
+        combining: &combining,
+        encoding: &encoding::measure(inputs::encodable(), 1),
+        targets: &[],
+        rounds: 1,
+    };
+    codes_stand_in_it(&report.markdown(), ("## Combining two frames", 4), &jobs);
+    for (row, code) in combining.iter().zip(&codes) {
+        assert!(0.0 < row.of_call() && row.of_call() < code.of_frame());
+    }
 }
 
 #[test]

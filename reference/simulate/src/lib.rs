@@ -1,12 +1,13 @@
 //! The simulation: frame error rates over BPSK and white noise, with the decoder called through the static
 //! library, with k = 2 in both editions beside the Trellis Min-Max rule of source document 003, and with
-//! k = 3 beside k = 2 under codes with long checks; how often a decided symbol is wrong, by its margin; and what
-//! eight channels gain by one allowance of iterations.
+//! k = 3 beside k = 2 under codes with long checks; how often a decided symbol is wrong, by its margin; what
+//! eight channels gain by one allowance of iterations; and what two blows for one word gain.
 
 #![forbid(unsafe_code)]
 #![deny(missing_docs)]
 
 pub mod array;
+pub mod blows;
 pub mod channel;
 pub mod chart;
 pub mod code;

@@ -31,6 +31,14 @@ impl Library {
     pub fn margins(&self) -> &[u16] {
         &self.margins
     }
+
+    /// The frame of two blows.
+    pub fn combine(&self, first: &[u8], second: &[u8]) -> Vec<u8> {
+        let mut frame = vec![0; self.costs.len()];
+        petsivola::combine(&self.line, first, second, &mut frame)
+            .expect("an accepted code line, two accepted frames and a buffer long enough");
+        frame
+    }
 }
 
 impl Decoder for Library {

@@ -77,6 +77,7 @@ fn run(plan: &Plan, out: Option<&Path>) -> io::Result<()> {
                 "one-allowance.svg",
                 report::chart_of_sharing(&results.sharing),
             ),
+            ("two-blows.svg", report::chart_of_blows(&results.blows)),
         ];
         for (name, chart) in charts {
             fs::write(directory.join(name), chart.svg())?;

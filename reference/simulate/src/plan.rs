@@ -1,12 +1,13 @@
 //! What a run simulates: a sweep over g, a curve over Eb/N0 with each rule at its best g, a sweep over the cost
 //! scale, a sweep over g by column weight, long checks with two and with three deviations, what a margin is worth,
-//! and one allowance of iterations for eight channels.
+//! one allowance of iterations for eight channels, and two blows for one word.
 
 use std::ops::RangeInclusive;
 
 use petsivola::Edition;
 use reference_decoder::sample::Generator;
 
+use crate::blows::{self, Blows};
 use crate::long_checks::{self, LongChecks, Trials};
 use crate::margins::{self, Worth};
 use crate::progress::Progress;
@@ -47,6 +48,8 @@ pub struct Plan {
     pub margins: Vec<(f64, Stop)>,
     /// The same rule on eight channels with one allowance.
     pub sharing: Vec<(f64, Stop)>,
+    /// The same rule on two blows for each word.
+    pub blows: Vec<(f64, Stop)>,
     /// What the frames depend on.
     pub seed: u64,
 }
@@ -68,6 +71,8 @@ pub struct Results {
     pub margins: Vec<Worth>,
     /// Eight channels with one allowance, at each Eb/N0.
     pub sharing: Vec<Sharing>,
+    /// Two blows for each word, at each Eb/N0.
+    pub blows: Vec<Blows>,
 }
 
 /// An Eb/N0 with the errors and the frames of its trial at size 1.
@@ -95,6 +100,20 @@ const WEIGHTS: [Size1; 3] = [
 const MARGINS: [Size1; 3] = [(2.25, 400, 2_000), (2.5, 400, 5_000), (2.75, 400, 25_000)];
 /// Eight channels with one allowance.
 const SHARING: [Size1; 3] = [(2.5, 200, 1_600), (2.75, 100, 4_000), (3.0, 100, 8_000)];
+/// Two blows for each word: where combined ones are lost, then where single ones are found.
+const BLOWS: [Size1; 11] = [
+    (-1.0, 100, 200),
+    (-0.75, 100, 300),
+    (-0.5, 100, 800),
+    (-0.25, 100, 3_000),
+    (0.0, 100, 6_000),
+    (1.75, 100, 200),
+    (2.0, 100, 400),
+    (2.25, 100, 1_000),
+    (2.5, 100, 3_000),
+    (2.75, 100, 6_000),
+    (3.0, 100, 6_000),
+];
 /// The sweep and the curve of each code with long checks.
 const LONG_CHECKS: [(Size1, &[Size1]); 2] = [
     (
@@ -143,6 +162,7 @@ impl Plan {
             }),
             margins: stops(&MARGINS),
             sharing: stops(&SHARING),
+            blows: stops(&BLOWS),
             seed,
         }
     }
@@ -153,9 +173,8 @@ impl Plan {
         let mut seeds = Generator::new(self.seed);
         let mut seeds_of =
             |trials: &[(f64, Stop)]| -> Vec<u64> { trials.iter().map(|_| seeds.bits()).collect() };
-        let of_curve = seeds_of(&self.curve);
-        let of_scaling = seeds_of(&self.scaling);
-        let of_costs = seeds_of(&self.costs);
+        let [of_curve, of_scaling, of_costs] =
+            [&self.curve, &self.scaling, &self.costs].map(|trials| seeds_of(trials));
         let mut stage = |name: &str, trials: &[(f64, Stop)], seeds: &[u64], setups: &[Setup]| {
             progress.stage(name);
             let trials = trials.iter().zip(seeds);
@@ -167,16 +186,24 @@ impl Plan {
         let best = RULES.map(|rule| (rule, best_g(&scaling, rule)));
         let curve = stage("curve", &self.curve, &of_curve, &at(best, COSTS_PER_NAT));
         let over_scale = SCALES.map(|scale| at(best, scale)).concat();
-        let name = "sweep over the cost scale";
-        let costs = stage(name, &self.costs, &of_costs, &over_scale);
+        let costs = stage("cost scale", &self.costs, &of_costs, &over_scale);
+        let weights = self.by_weight(&mut seeds, progress);
+        let long_checks = self.with_long_checks(&mut seeds, progress);
+        let mut proved = Proved {
+            scene,
+            setup: at(best, COSTS_PER_NAT)[0],
+            seeds: &mut seeds,
+            progress,
+        };
         let results = Results {
             scaling,
             curve,
             costs,
-            weights: self.by_weight(&mut seeds, progress),
-            long_checks: self.with_long_checks(&mut seeds, progress),
-            margins: self.by_margin(scene, best[0], &mut seeds, progress),
-            sharing: self.with_sharing(scene, best[0], &mut seeds, progress),
+            weights,
+            long_checks,
+            margins: proved.stage("symbols by margin", &self.margins, margins::run),
+            sharing: proved.stage("eight channels", &self.sharing, sharing::run),
+            blows: proved.stage("two blows", &self.blows, blows::run),
         };
         progress.end();
         results
@@ -191,38 +218,6 @@ impl Plan {
             .collect()
     }
 
-    /// The symbols by their margins, with a rule and its g.
-    fn by_margin(
-        &self,
-        scene: &Scene,
-        best: (Rule, u8),
-        seeds: &mut Generator,
-        progress: &mut Progress,
-    ) -> Vec<Worth> {
-        progress.stage("symbols by margin");
-        let [setup] = at([best], COSTS_PER_NAT);
-        let trials = self.margins.iter();
-        trials
-            .map(|&trial| margins::run(scene, setup, trial, seeds.bits(), progress))
-            .collect()
-    }
-
-    /// Eight channels with one allowance, with a rule and its g.
-    fn with_sharing(
-        &self,
-        scene: &Scene,
-        best: (Rule, u8),
-        seeds: &mut Generator,
-        progress: &mut Progress,
-    ) -> Vec<Sharing> {
-        progress.stage("one allowance for eight channels");
-        let [setup] = at([best], COSTS_PER_NAT);
-        let trials = self.sharing.iter();
-        trials
-            .map(|&trial| sharing::run(scene, setup, trial, seeds.bits(), progress))
-            .collect()
-    }
-
     /// The sweep over g by column weight.
     fn by_weight(&self, seeds: &mut Generator, progress: &mut Progress) -> Vec<Sweep> {
         progress.stage("sweep over g by column weight");
@@ -232,6 +227,27 @@ impl Plan {
                 weights::sweep(code, decibels, stop, seeds.bits(), progress)
             })
             .collect()
+    }
+}
+
+/// What trials of the proved library on the simulation's code share.
+struct Proved<'a> {
+    scene: &'a Scene,
+    setup: Setup,
+    seeds: &'a mut Generator,
+    progress: &'a mut Progress,
+}
+
+/// A trial at one Eb/N0, with the seed of its frames.
+type Trial<T> = fn(&Scene, Setup, (f64, Stop), u64, &mut Progress) -> T;
+
+impl Proved<'_> {
+    /// The trials of one kind.
+    fn stage<T>(&mut self, name: &str, trials: &[(f64, Stop)], run: Trial<T>) -> Vec<T> {
+        self.progress.stage(name);
+        let (scene, setup) = (self.scene, self.setup);
+        let run = |&trial| run(scene, setup, trial, self.seeds.bits(), self.progress);
+        trials.iter().map(run).collect()
     }
 }
 

@@ -1,5 +1,6 @@
 //! The Markdown document and the charts that a run writes.
 
+mod blows;
 mod curves;
 mod long_checks;
 mod margins;
@@ -12,6 +13,7 @@ use crate::chart::{Chart, Stroke, COLOURS};
 use crate::encoder::Encoder;
 use crate::plan::{best_g, Plan, Results, COSTS_PER_NAT, LIMIT, RULES};
 use crate::trial::{Count, Rule};
+pub use blows::chart as chart_of_blows;
 use curves::Line;
 pub use long_checks::chart as chart_of_long_checks;
 pub use margins::{chart as chart_of_margins, wrong_somewhere, wrong_up_to};
@@ -41,6 +43,7 @@ pub fn markdown(plan: &Plan, encoder: &Encoder, results: &Results) -> String {
         long_checks::section(&results.long_checks),
         margins::section(&results.margins),
         sharing::section(&results.sharing),
+        blows::section(&results.blows),
     ];
     parts.concat().trim_end().to_string() + "\n"
 }

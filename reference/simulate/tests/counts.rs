@@ -120,6 +120,7 @@ fn the_document_has_every_trial() {
     assert!(long.eq(plan.long_checks.iter().map(|code| 2 * code.curve.len())));
     assert_eq!(results.margins.len(), plan.margins.len());
     assert_eq!(results.sharing.len(), plan.sharing.len());
+    assert_eq!(results.blows.len(), plan.blows.len());
     let text = report::markdown(&plan, &scene.encoder, &results);
     let rows = |rule: &str| {
         let cell = format!("| {rule} |");
@@ -130,6 +131,9 @@ fn the_document_has_every_trial() {
     assert_eq!(rows("Trellis Min-Max"), 7 + 7 * 2 + 5);
     assert_eq!(rows("proved, k = 3"), 6 + 5);
     assert_eq!(rows("161 to 510"), 3);
+    for way in ["one blow", "better of two", "combined"] {
+        assert_eq!(rows(way), plan.blows.len());
+    }
     let (_, section) = text
         .split_once("## One allowance for eight channels")
         .expect("the section");
@@ -151,8 +155,9 @@ fn charts_have_their_lines(results: &Results) {
         report::chart_of_long_checks(&results.long_checks),
         report::chart_of_margins(&results.margins),
         report::chart_of_sharing(&results.sharing),
+        report::chart_of_blows(&results.blows),
     ];
-    for (chart, lines) in charts.iter().zip([3, 4, 6, 6]) {
+    for (chart, lines) in charts.iter().zip([3, 4, 6, 6, 3]) {
         let svg = chart.svg();
         assert!(svg.starts_with("<svg") && svg.ends_with("</svg>\n"));
         assert_eq!(chart.series.len(), lines);

@@ -28,9 +28,11 @@ pub fn chart(title: &str, lines: &[Line]) -> Chart {
     let places = || counts().map(|count| count.decibels);
     let low = places().fold(f64::INFINITY, f64::min);
     let high = places().fold(f64::NEG_INFINITY, f64::max);
+    // Wider marks where the finer ones would stand too close.
+    let step = if high - low > 2.0 { 0.5 } else { 0.25 };
     Chart {
         title: title.to_string(),
-        x: Axis::linear("Eb/N0, dB", low, high.max(low + 0.25), 0.25),
+        x: Axis::linear("Eb/N0, dB", low, high.max(low + step), step),
         y: Axis::decades(
             "frame error rate",
             counts()
