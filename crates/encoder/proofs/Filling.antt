@@ -7,17 +7,17 @@ use native.Mathlib.Decide.{ℕ-discrete}
 use native.Mathlib.Omega.{arith}
 use lib.Pow.{pow-pos}
 use lib.ListN.{length, getD, take, drop, set, length-append, length-drop, drop-of-length-le, take-append-drop, List·getD-append}
-use lib.Seq.{set-append-seam, getD-append-seam, drop-cons, length-take-le, getD-take, append-snoc, ext-getD}
-use Rattle.trellis.specs.Lists.{upto, tab}
+use lib.Seq.{set-append-seam, getD-append-seam, drop-cons, length-take-le, getD-take, append-snoc}
+use Rattle.trellis.specs.Lists.{upto}
 use Rattle.trellis.specs.Field.{xor, product, quotient}
-use Rattle.trellis.proofs.Loops.{tab-whole, length-tab, getD-tab}
 use Rattle.trellis.proofs.Xor.{xor-lt}
 use Rattle.trellis.proofs.FieldLaws.{fields-at}
 use Rattle.trellis.proofs.Quotients.{quotient-small, times-small}
 use Rattle.machine.specs.Tables.{before, term, sumFrom}
 use Rattle.machine.proofs.Places.{edge-within, end-within}
 use Rattle.encoder.specs.Words.{lastPlace, ownAt, encodeOn}
-use Rattle.encoder.specs.Rooms.{QuotientRoom, EdgeRoom, SumRoom, OwnRoom, FillRoom}
+use Rattle.division.specs.Numbers.{QuotientRoom}
+use Rattle.encoder.specs.Rooms.{SumRoom, OwnRoom, FillRoom}
 
 -- a sum of elements is an element
 pub sum-small : (p : ℕ) (cs ws z : List ℕ) (at n : ℕ) → SumRoom p cs ws z at n → sumFrom p cs ws z at n < 2 ^ p

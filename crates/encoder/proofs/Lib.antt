@@ -1,5 +1,4 @@
 -- Laws by topic; a function's own proof stands in a folder of its name.
-pub mod Quotients
 pub mod Filling
 pub mod Refusals
 pub mod Encoded

@@ -11,18 +11,6 @@ use Rattle.machine.specs.Encoding.{encodingUnder}
 use Rattle.machine.proofs.Lines.{GoodCode}
 use Rattle.encoder.specs.Words.{Leaves}
 
--- an element that is not 0
-pub record DivisorRoom (p h : ℕ) : Type 0 where
-  pub low : 2 ≤ p
-  pub high : p ≤ 6
-  pub some : h ≢ 0
-  pub small : h < 2 ^ p
-
--- and one to be divided by it
-pub record QuotientRoom (p h s : ℕ) : Type 0 where
-  pub divisor : DivisorRoom p h
-  pub dividend : s < 2 ^ p
-
 -- edge k has a column with a symbol, and two elements to multiply
 pub record EdgeRoom (p : ℕ) (cs ws z : List ℕ) (k : ℕ) : Type 0 where
   pub low : 2 ≤ p

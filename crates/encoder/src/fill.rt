@@ -1,5 +1,4 @@
 // The symbols after the message, one for each check, from the symbols before it.
-use crate::division;
 use crate::num;
 ghost use mathlib.Core.Path.{_≡_};
 ghost use lib.ListN.{length, take};

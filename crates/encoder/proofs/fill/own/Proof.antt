@@ -2,8 +2,10 @@
 use mathlib.Core.Path.{refl, ap, _∙_}
 use Prim.Native.Nat.{_+_, _-_}
 use native.Mathlib.Omega.{arith}
+use borrow.Author.Needs.{needs}
 use lib.ListN.{getD}
 use Rattle.trellis.specs.Field.{quotient}
+use Rattle.division.proofs.Quotients.{quotient-is}
 use Rattle.encoder.proofs.Filling.{own-room}
 use Rattle.encoder.proofs.fill.own.Statement.{statement}
 use Rattle.encoder.proofs.fill.own.Tie as tie
@@ -21,15 +23,15 @@ shared-slice-read-divide : tie.Need-shared-slice-read-divide
 shared-slice-read-divide c = let R = c .before .before .before .before .before .pre in omega (arith, R .in-weights, R .one)
 
 divide-requires : tie.Need-divide-requires
-divide-requires c κs =
-    let s = c .before .before .before .before .before in
-    let a = s .args in
-    own-room (a .p) (a .columns .now) (a .weights .now) (a .symbols .now) (a .at) (a .d) (a .d - 1) (c .before .sum .result) (s .pre) refl (c .before .sum .ensures)
+divide-requires c κs = search needs
 
 returns : tie.Need-returns
 returns c =
-    let a = c .before .before .before .before .before .before .args in
-    c .divide .ensures ∙ ap (quotient (a .p) (getD (a .weights .now) (a .at + (a .d - 1)) 0)) (c .before .before .sum .ensures)
+    let s = c .before .before .before .before .before .before in
+    let a = s .args in
+    let t = c .before .before .sum in
+    let R = own-room (a .p) (a .columns .now) (a .weights .now) (a .symbols .now) (a .at) (a .d) (a .d - 1) (t .result) (s .pre) refl (t .ensures) in
+    c .divide .ensures ∙ quotient-is (a .p) (getD (a .weights .now) (a .at + (a .d - 1)) 0) (t .result) R ∙ ap (quotient (a .p) (getD (a .weights .now) (a .at + (a .d - 1)) 0)) (t .ensures)
 
 pub own-spec : {M : Type 1} → statement M
 own-spec =

@@ -2,8 +2,8 @@
 use borrow.Author.Needs.{needs}
 use native.Mathlib.Omega.{arith}
 use Rattle.trellis.proofs.Recurrence.{size-64}
-use Rattle.encoder.proofs.num.size.Statement.{statement}
-use Rattle.encoder.proofs.num.size.Tie as tie
+use Rattle.division.proofs.size.Statement.{statement}
+use Rattle.division.proofs.size.Tie as tie
 
 shl-result : tie.Need-shl-result
 shl-result c = search needs

@@ -2,9 +2,9 @@
 use mathlib.Core.Path.{ap₂}
 use Prim.Native.Nat.{_+_}
 use borrow.Author.Needs.{needs}
-use Rattle.encoder.proofs.Quotients.{inverse-at}
-use Rattle.encoder.proofs.division.inverse.Statement.{statement}
-use Rattle.encoder.proofs.division.inverse.Tie as tie
+use Rattle.division.proofs.Quotients.{inverse-at}
+use Rattle.division.proofs.inverse.Statement.{statement}
+use Rattle.division.proofs.inverse.Tie as tie
 
 size-requires : tie.Need-size-requires
 size-requires c κs = search needs

@@ -1,8 +1,8 @@
 -- One computed test: each entry of the constant is the inverse of its element.
 use Rattle.trellis.specs.Field.{xor}
-use Rattle.encoder.specs.Table.{allInverted}
-use Rattle.encoder.proofs.division.inverses.Statement.{statement}
-use Rattle.encoder.proofs.division.inverses.Tie as tie
+use Rattle.division.specs.Table.{allInverted}
+use Rattle.division.proofs.inverses.Statement.{statement}
+use Rattle.division.proofs.inverses.Tie as tie
 
 returns : tie.Need-returns
 unfolding allInverted xor

@@ -1,12 +1,13 @@
-// Division in the field: a product with the inverse, which is read from a table.
-use crate::num;
+// Division in the field: a product with the inverse, which is read from a table. `times` and `divide` are total, so that every crate above
+// can call them with what it has.
 use checknode::Element;
 ghost use mathlib.Core.Path.{_≡_};
 ghost use Prim.Native.Nat.{_^_, _≤_, _<_};
 ghost use lib.Dec.{T};
-ghost use Rattle.trellis.specs.Field.{product, quotient};
-ghost use Rattle.encoder.specs.Table.{allInverted};
-ghost use Rattle.encoder.specs.Rooms.{DivisorRoom, QuotientRoom};
+ghost use Rattle.trellis.specs.Field.{product};
+ghost use Rattle.checknode.specs.Answers.{productReply};
+ghost use Rattle.division.specs.Table.{allInverted};
+ghost use Rattle.division.specs.Numbers.{divisorOk, quotientOr, DivisorRoom};
 
 // The inverse of h in the field of q elements stands at q + h; 0 has none, and its place is not read.
 const INVERSES: [u8; 128] = [
@@ -153,21 +154,50 @@ fn inverses() -> [u8; 128]
     INVERSES
 }
 
+fn index(x: u8) -> usize
+    ensures { λ r. ⌜ (r ≡ x) × (r < 256) ⌝ }
+{
+    x as usize
+}
+
+// q = 2^p
+fn size(p: u8) -> usize
+    requires { ⌜ p ≤ 6 ⌝ }
+    ensures { λ r. ⌜ (r ≡ 2 ^ p) × (r ≤ 64) ⌝ }
+{
+    1usize << p
+}
+
+// Whether p is one of the five fields' and h an element other than 0.
+fn divisor_ok(p: u8, h: u8) -> bool
+    ensures { λ r. ⌜ r ≡ divisorOk p h ⌝ }
+{
+    if p < 2 {
+        return false;
+    }
+    if 6 < p {
+        return false;
+    }
+    if h == 0 {
+        return false;
+    }
+    index(h) < size(p)
+}
+
 // The element that times h is 1.
 fn inverse(p: u8, h: u8) -> u8
     requires { ⌜ DivisorRoom p h ⌝ }
     ensures { λ r. ⌜ (r < 2 ^ p) × (product p h r ≡ 1) ⌝ }
 {
-    let q = num::size(p);
-    let x = num::index(h);
+    let q = size(p);
+    let x = index(h);
     let table = inverses();
     table[q + x]
 }
 
-// A product of two elements, which is not refused.
+// A product; 0 where the public product refuses it.
 pub fn times(p: u8, a: u8, b: u8) -> u8
-    requires { ⌜ (2 ≤ p) × ((p ≤ 6) × ((a < 2 ^ p) × (b < 2 ^ p))) ⌝ }
-    ensures { λ r. ⌜ r ≡ product p a b ⌝ }
+    ensures { λ r. ⌜ r ≡ productReply p a b .value ⌝ }
 {
     match checknode::product(p, a, b) {
         Element::Is(x) => x,
@@ -175,11 +205,13 @@ pub fn times(p: u8, a: u8, b: u8) -> u8
     }
 }
 
-// s divided by h: the element that times h is s.
+// s divided by h: the element that times h is s; 0 where p is no field's, h is 0 or no element, or s is no element.
 pub fn divide(p: u8, h: u8, s: u8) -> u8
-    requires { ⌜ QuotientRoom p h s ⌝ }
-    ensures { λ r. ⌜ r ≡ quotient p h s ⌝ }
+    ensures { λ r. ⌜ r ≡ quotientOr p h s ⌝ }
 {
+    if !divisor_ok(p, h) {
+        return 0;
+    }
     let g = inverse(p, h);
     times(p, g, s)
 }
