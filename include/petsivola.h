@@ -3,8 +3,8 @@
  * C99. Link with libpetsivola.a (x86-64 Linux). No heap, no files, no state between calls, so calls
  * from several threads need no lock.
  *
- * Stack of a call, as measured: decode, window_write and channels 27 KB, check 19 KB, sweep 36 KB,
- * expand 5 KB, encode 7 KB, product and line under 1 KB.
+ * Stack of a call, as measured: decode, window_write and channels 30 KB, check 19 KB, sweep 36 KB,
+ * expand and display 5 KB, encode 9 KB, combine 4 KB, product and line under 1 KB.
  *
  * Every input is answered: each function ends, stays inside its buffers, and refuses for the numbered
  * reasons below and no others. A refused call changes no byte. An accepted call fills the first bytes
@@ -104,6 +104,7 @@ enum petsivola_number {
 /* Lengths in elements; they are the same in both editions. */
 #define PETSIVOLA_RECORD_LENGTH(first, d) PETSIVOLA_STORE_LENGTH(first, 1, d)
 #define PETSIVOLA_EXPANSION_LENGTH(first, d) ((size_t)(d) * PETSIVOLA_Q(first))
+#define PETSIVOLA_DISPLAY_LENGTH(d) ((size_t)(d))
 #define PETSIVOLA_FRAME_LENGTH(first, n) ((size_t)(n) * PETSIVOLA_Q(first))
 #define PETSIVOLA_STORE_LENGTH(first, m, edges) \
     ((size_t)(edges) + \
@@ -115,6 +116,7 @@ enum petsivola_number {
 /* Lengths that are enough for every accepted input. */
 #define PETSIVOLA_MOST_RECORD PETSIVOLA_RECORD_LENGTH(0x26, 32)        /*    473 */
 #define PETSIVOLA_MOST_EXPANSION PETSIVOLA_EXPANSION_LENGTH(0x26, 32)  /*  2,048 */
+#define PETSIVOLA_MOST_DISPLAY PETSIVOLA_DISPLAY_LENGTH(32)
 #define PETSIVOLA_MOST_SYMBOLS ((size_t)256)
 #define PETSIVOLA_MOST_MESSAGE PETSIVOLA_MESSAGE_LENGTH(256, 1)        /*    255 */
 #define PETSIVOLA_MOST_COSTS PETSIVOLA_FRAME_LENGTH(0x26, 256)         /* 16,384 */
@@ -385,6 +387,26 @@ uint32_t petsivola_expand(uint8_t first,
                           const uint8_t *weights, size_t weights_len,
                           const uint8_t *record, size_t record_len,
                           uint8_t *out, size_t out_len);
+
+/* Shows which symbol each column was urged towards, and nothing else of a record: what a display may
+ * show, where a bench reads all of the record by petsivola_expand.
+ *
+ *   first    as a code line's first byte
+ *   weights  as for petsivola_check
+ *   record   PETSIVOLA_RECORD_LENGTH(first, d), exactly; any record of the right form
+ *   out      gets d symbols, 0 to q - 1, one for each column: its shift divided by its weight, the symbol
+ *            that costs 0 whatever else the record holds: at least PETSIVOLA_DISPLAY_LENGTH(d)
+ *
+ * For one field, weights and degree the symbols of two records are equal exactly when their shifts are:
+ * costs, pairs, k and the edition do not show.
+ *
+ * Number: 0, or 6, 9, 11, 16, 2 in this order, as for petsivola_expand; 16 for a fault anywhere in the
+ * record. Value: the bytes written, d.
+ */
+uint32_t petsivola_display(uint8_t first,
+                           const uint8_t *weights, size_t weights_len,
+                           const uint8_t *record, size_t record_len,
+                           uint8_t *out, size_t out_len);
 
 /* The product of two elements a and b, 0 to q - 1, of the field with q = 2^p elements. It takes p
  * alone, 2 to 6, where the calls above take a first byte.

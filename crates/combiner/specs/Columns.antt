@@ -1,5 +1,5 @@
--- What the loop over a column leaves, and a code line by the two numbers that combining reads of it. proofs/Combined.antt shows that these give
--- machine's combining.
+-- What the loop over a column leaves, and a code line by the two numbers that combining reads of it. proofs/Combined.antt shows that these
+-- give machine's combining.
 use mathlib.Core.List.{List, []}
 use Prim.Native.Nat.{ℕ, min}
 use Rattle.trellis.specs.Lists.{upto}

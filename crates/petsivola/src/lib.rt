@@ -8,6 +8,7 @@ use window::Registers;
 ghost use mathlib.Core.Path.{_≡_};
 ghost use Prim.Native.Nat.{_≤_};
 ghost use Rattle.checknode.specs.Answers.{elementReply, productReply, writtenReply, checkReply, checkLeaves, expandReply, expandLeaves};
+ghost use Rattle.display.specs.Answers.{displayReply, displayLeaves};
 ghost use Rattle.machine.specs.Line.{lineReply, lineLeaves};
 ghost use Rattle.machine.specs.Decoding.{lending, decoding};
 ghost use Rattle.machine.specs.Encoding.{encoding};
@@ -86,6 +87,14 @@ pub extern "C" fn petsivola_expand(first: u8, weights: &[u8], bytes: &[u8], out:
     ensures { λ _. ⌜ now (out .exit) ≡ expandLeaves first (now (weights .entry)) (now (bytes .entry)) (now (out .entry)) ⌝ }
 {
     of_written(checknode::expand(first, weights, bytes, out))
+}
+
+#[no_mangle]
+pub extern "C" fn petsivola_display(first: u8, weights: &[u8], bytes: &[u8], out: &mut [u8]) -> u32
+    ensures { λ r. ⌜ Packs r (displayReply first (now (weights .entry)) (now (bytes .entry)) (now (out .entry))) ⌝ }
+    ensures { λ _. ⌜ now (out .exit) ≡ displayLeaves first (now (weights .entry)) (now (bytes .entry)) (now (out .entry)) ⌝ }
+{
+    of_written(display::display(first, weights, bytes, out))
 }
 
 #[no_mangle]
