@@ -1,10 +1,10 @@
-//! The reference decoder: document 01 (`01-scope.md`) with §1 to §3 and §5 to §10 of document 02
+//! The reference decoder: document 01 (`01-scope.md`) with §1 to §3 and §5 to §11 of document 02
 //! (`02-change-requests.md`) written out once more, in Rust. The proved library is compared with it,
 //! so it is written from the documents alone, without that library's code: the least costs of a check
 //! come from listing the choices, as document 01 defines them, and once more from two sweeps over the
 //! columns; a message is encoded by solving the checks as equations.
 //!
-//! The entry points are [`product`], [`check`](check()), [`sweep`](sweep()), [`expand`],
+//! The entry points are [`product`], [`check`](check()), [`sweep`](sweep()), [`expand`], [`display`](display()),
 //! [`line`](line()), [`code_line`], [`decode`], [`encode`](encode()), [`combine`](combine()), [`frame_line`] and
 //! [`program`](program()). Each answers a [`Refusal`] in the documents' order or fills the used part of
 //! its lent buffers. [`channels`](channels()) decodes up to eight frames under one allowance of iterations. A
@@ -19,6 +19,7 @@ pub mod check;
 pub mod code;
 pub mod combine;
 pub mod decision;
+pub mod display;
 pub mod encode;
 pub mod field;
 pub mod lent;
@@ -37,6 +38,7 @@ pub use check::check;
 pub use code::{code_line, CheckNode, Code};
 pub use combine::combine;
 pub use decision::Decision;
+pub use display::display;
 pub use encode::encode;
 pub use field::product;
 pub use lent::Lent;

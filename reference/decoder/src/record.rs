@@ -41,17 +41,23 @@ pub fn pack(rule: Rule, messages: &Messages) -> Vec<u8> {
 /// Writes the sent costs that a record stands for. The degree is the number of weights.
 /// Order: "Expand: 6, 9, 11, 16, 2." "A record of accepted form expands even if no check wrote it."
 pub fn expand(first: u8, weights: &[u8], record: &[u8], out: &mut [u8]) -> Result<usize, Refusal> {
-    let rule = Rule::new(first)?;
-    accept_weights(rule.field(), weights)?;
-    if !has_accepted_form(rule, weights.len(), record) {
-        return Err(Refusal::Record);
-    }
+    let rule = accept(first, weights, record)?;
     let written = weights.len() * rule.field().size();
     if out.len() < written {
         return Err(Refusal::ShortBuffer);
     }
     out[..written].copy_from_slice(&expansion(rule, weights, record));
     Ok(written)
+}
+
+/// The rule of a record that is not refused. Order: "6, 9, 11, 16".
+pub fn accept(first: u8, weights: &[u8], record: &[u8]) -> Result<Rule, Refusal> {
+    let rule = Rule::new(first)?;
+    accept_weights(rule.field(), weights)?;
+    if !has_accepted_form(rule, weights.len(), record) {
+        return Err(Refusal::Record);
+    }
+    Ok(rule)
 }
 
 /// Whether refusal 16 does not apply: "16, length wrong, shift not below q, an unused pair that is

@@ -6,7 +6,7 @@
 //! [`Refusal`]. Elements past those that a call
 //! fills keep their old content. No call panics, whatever its arguments.
 //!
-//! The first byte of a code line, which `check`, `sweep` and `expand` take too, gives the field, the number of
+//! The first byte of a code line, which `check`, `sweep`, `expand` and `display` take too, gives the field, the number of
 //! deviations and the edition, sum or Min-Max: a [`Rule`] reads and composes it. [`lengths`] has the lengths
 //! that follow from it. `product` takes p alone.
 //!
@@ -16,6 +16,7 @@
 //! | [`check`] | the record of one check | 6, 9, 11, 12, 13, 4 |
 //! | [`sweep`] | the same record, by an engine that can be followed on paper | 6, 9, 11, 12, 13, 4 |
 //! | [`expand`] | the sent costs that a record stands for | 6, 9, 11, 16, 2 |
+//! | [`display`] | the symbols that a record urges its columns towards | 6, 9, 11, 16, 2 |
 //! | [`line`] | the bytes of a line of hexadecimal digits | 15, 14, 2 |
 //! | [`decode`] | symbols, costs, records and margins of one frame | 5 to 11, 12, 13, 2, 3, 4, 19 |
 //! | [`encode`] | the symbols of one message | 5 to 11, 17, 18, 2 |
@@ -89,6 +90,24 @@ pub fn sweep(first: u8, weights: &[u8], costs: &[u8], record: &mut [u8]) -> Resu
 /// 6, 9, 11, 16, 2."
 pub fn expand(first: u8, weights: &[u8], record: &[u8], out: &mut [u8]) -> Result<usize, Refusal> {
     answer::written(library::expand(first, weights, record, out))
+}
+
+/// Writes which symbol each column of a record was urged towards, its shift divided by its weight, and nothing else of
+/// the record; answers how many bytes it wrote, d. Order, as for [`expand`], which reads all of it: 6, 9, 11, 16, 2.
+///
+/// "For two accepted records of one field, weights and degree, the display bytes are equal exactly when the shifts are,
+/// however their costs and pairs differ".
+///
+/// ```
+/// use petsivola::display;
+///
+/// let record = [1, 2, 3, 4, 1, 5, 255, 0, 2, 2, 7, 255, 0, 3, 1, 7, 255, 0];
+/// let mut symbols = [0; 3];
+/// assert_eq!(display(2, &[1, 2, 1], &record, &mut symbols), Ok(3));
+/// assert_eq!(symbols, [1, 1, 3]);
+/// ```
+pub fn display(first: u8, weights: &[u8], record: &[u8], out: &mut [u8]) -> Result<usize, Refusal> {
+    answer::written(library::display(first, weights, record, out))
 }
 
 /// Reads the text of one line, without its 0A, into bytes, two digits a byte; answers how many

@@ -71,6 +71,22 @@ pub(crate) fn expand(first: u8, weights: &[u8], record: &[u8], out: &mut [u8]) -
     }
 }
 
+pub(crate) fn display(first: u8, weights: &[u8], record: &[u8], out: &mut [u8]) -> u32 {
+    // SAFETY: each pointer and length come from one borrowed slice; `out`, the only one written,
+    // overlaps no other.
+    unsafe {
+        petsivola_display(
+            first,
+            weights.as_ptr(),
+            weights.len(),
+            record.as_ptr(),
+            record.len(),
+            out.as_mut_ptr(),
+            out.len(),
+        )
+    }
+}
+
 pub(crate) fn line(text: &[u8], out: &mut [u8]) -> u32 {
     // SAFETY: each pointer and length come from one borrowed slice; `out`, the only one written,
     // does not overlap `text`.

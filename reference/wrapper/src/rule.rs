@@ -1,4 +1,4 @@
-//! The first byte of a code line, which `check`, `sweep` and `expand` take too.
+//! The first byte of a code line, which `check`, `sweep`, `expand` and `display` take too.
 
 use crate::refusal::Refusal;
 

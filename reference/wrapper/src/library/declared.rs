@@ -46,6 +46,16 @@ extern "C" {
         out_len: usize,
     ) -> u32;
 
+    pub(super) fn petsivola_display(
+        first: u8,
+        weights: *const u8,
+        weights_len: usize,
+        record: *const u8,
+        record_len: usize,
+        out: *mut u8,
+        out_len: usize,
+    ) -> u32;
+
     pub(super) fn petsivola_line(
         text: *const u8,
         text_len: usize,
