@@ -13,22 +13,31 @@ fn row(p: u8, degree: usize) -> Row {
     row
 }
 
-/// The document of these sizes alone.
-fn markdown(rows: &[Row]) -> String {
-    let mut swept = [Swept::new(2, 3), Swept::new(3, 8)];
-    swept.iter_mut().for_each(|size| size.measure([4, 5], 4));
-    let report = Report {
+/// A report of these sizes and an encoding alone.
+fn report<'a>(rows: &'a [Row], encoding: &'a encoding::Row) -> Report<'a> {
+    Report {
         channel: rows,
         uniform: rows,
-        swept: &swept,
+        swept: &[],
         growth: [1.0, 1.0],
         codes: &[],
         windows: &[],
         channels: &[],
         combining: &[],
-        encoding: &encoding::measure(inputs::encodable(), 1),
+        encoding,
         targets: &[],
         rounds: 1,
+    }
+}
+
+/// The document of these sizes, and of two of the proved sweep.
+fn markdown(rows: &[Row]) -> String {
+    let mut swept = [Swept::new(2, 3), Swept::new(3, 8)];
+    swept.iter_mut().for_each(|size| size.measure([4, 5], 4));
+    let encoding = encoding::measure(inputs::encodable(), 1);
+    let report = Report {
+        swept: &swept,
+        ..report(rows, &encoding)
     };
     report.markdown()
 }
@@ -116,18 +125,12 @@ fn the_register_window_and_eight_channels_stand_beside_decode() {
         targets::of_window(&windows),
         targets::of_channels(&in_channels),
     ];
+    let (rows, encoding) = ([row(2, 3)], encoding::measure(inputs::encodable(), 1));
     let report = Report {
-        channel: &[row(2, 3)],
-        uniform: &[row(2, 3)],
-        swept: &[],
-        growth: [1.0, 1.0],
-        codes: &[],
         windows: &windows,
         channels: &in_channels,
-        combining: &[],
-        encoding: &encoding::measure(inputs::encodable(), 1),
         targets: &targets,
-        rounds: 1,
+        ..report(&rows, &encoding)
     };
     let text = report.markdown();
     codes_stand_in_it(
@@ -152,18 +155,11 @@ fn combining_stands_beside_decode() {
     let jobs = inputs::jobs();
     let codes: Vec<_> = jobs.iter().map(|job| decoding::measure(job, 1)).collect();
     let combining: Vec<_> = jobs.iter().map(|job| combining::measure(job, 1)).collect();
+    let (rows, encoding) = ([row(2, 3)], encoding::measure(inputs::encodable(), 1));
     let report = Report {
-        channel: &[row(2, 3)],
-        uniform: &[row(2, 3)],
-        swept: &[],
-        growth: [1.0, 1.0],
         codes: &codes,
-        windows: &[],
-        channels: &[],
         combining: &combining,
-        encoding: &encoding::measure(inputs::encodable(), 1),
-        targets: &[],
-        rounds: 1,
+        ..report(&rows, &encoding)
     };
     codes_stand_in_it(&report.markdown(), ("## Combining two frames", 4), &jobs);
     for (row, code) in combining.iter().zip(&codes) {

@@ -26,14 +26,14 @@ pub use check::{CHECK, SWEEP};
 pub use combine::COMBINE;
 pub use decode::DECODE;
 pub use encode::ENCODE;
-pub use expand::EXPAND;
+pub use expand::{DISPLAY, EXPAND};
 pub use line::LINE;
 pub use product::PRODUCT;
 pub use window::WINDOW;
 
 /// Every entry point.
-pub const ENTRY_POINTS: [EntryPoint; 10] = [
-    PRODUCT, CHECK, SWEEP, EXPAND, LINE, DECODE, ENCODE, WINDOW, CHANNELS, COMBINE,
+pub const ENTRY_POINTS: [EntryPoint; 11] = [
+    PRODUCT, CHECK, SWEEP, EXPAND, DISPLAY, LINE, DECODE, ENCODE, WINDOW, CHANNELS, COMBINE,
 ];
 
 /// An entry point and how it is compared.
@@ -72,7 +72,7 @@ impl EntryPoint {
     }
 
     /// Makes the calls that are few enough to be made all: every product, every line of two bytes, a check, a
-    /// sweep, an expansion, a decoding, an encoding, several channels and two frames combined with every first byte,
+    /// sweep, an expansion, a display, a decoding, an encoding, several channels and two frames combined with every first byte,
     /// every write to a window, and every count of channels.
     ///
     /// # Errors

@@ -122,6 +122,12 @@ fn the_document_has_every_trial() {
     assert_eq!(results.sharing.len(), plan.sharing.len());
     assert_eq!(results.blows.len(), plan.blows.len());
     let text = report::markdown(&plan, &scene.encoder, &results);
+    tables_have_their_rows(&plan, &text);
+    charts_have_their_lines(&results);
+}
+
+/// Each table has a row for each of its trials.
+fn tables_have_their_rows(plan: &Plan, text: &str) {
     let rows = |rule: &str| {
         let cell = format!("| {rule} |");
         text.lines().filter(|line| line.contains(&cell)).count()
@@ -145,7 +151,6 @@ fn the_document_has_every_trial() {
         .lines()
         .filter(|line| line.matches(" of 1 |").count() == 3);
     assert_eq!(rows.count(), 11);
-    charts_have_their_lines(&results);
 }
 
 /// Each chart is a document with a line for each of its series.
