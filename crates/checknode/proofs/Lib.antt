@@ -14,6 +14,7 @@ pub mod ExpandCall
 pub mod Values
 pub mod MessagesCall
 pub mod TwoCalls
+pub mod KeptCalls
 pub mod ProductCall
 pub mod Lining
 pub mod Resting

@@ -32,7 +32,7 @@ use Rattle.checknode.proofs.expand as expand
 use Rattle.checknode.proofs.expand.Kinds as expand-kinds
 use Rattle.checknode.proofs.expand.Reads as expand-reads
 
-not-both : {b : Bool} → true ≡ b → b ≡ false → ⊥
+pub not-both : {b : Bool} → true ≡ b → b ≡ false → ⊥
 not-both e f = let z : _≡_ {A = ℕ} 0 1 = cc in omega arith
 
 -- a check that is not refused: its reply and what it leaves
@@ -86,7 +86,7 @@ written-bytes : (r : Written) (n : ℕ) → writtenReply r ≡ accepted n → r 
 written-bytes (Bytes m) n e = ap Bytes (ap (λ (r : Reply). r .value) e)
 written-bytes (Refused k) n e = absurd (not-both (ap (λ (r : Reply). r .refused) e) refl)
 
-given : {A : Type 0} (f : ℕ → List ℕ → List ℕ → A) {first q : ℕ} {v w l m : List ℕ} → first ≡ q → v ≡ w → l ≡ m → f first v l ≡ f q w m
+pub given : {A : Type 0} (f : ℕ → List ℕ → List ℕ → A) {first q : ℕ} {v w l m : List ℕ} → first ≡ q → v ≡ w → l ≡ m → f first v l ≡ f q w m
 given f e g h = rw (e, g, h)
 
 -- the arguments a are check's first, weights, costs, out, and b are expand's first, weights, bytes, out; s and s′ hold them as the calls return; each

@@ -13,6 +13,8 @@ pub mod Form
 pub mod Before
 pub mod Ranks
 pub mod Kept
+pub mod InOrder
+pub mod Selected
 pub mod Sweep
 pub mod Instances
 pub mod Rules
@@ -21,4 +23,6 @@ pub mod Quotients
 pub mod Recurrence
 pub mod Ready
 pub mod Messages
+pub mod Display
+pub mod KeptClaims
 pub mod Bench

@@ -9,6 +9,8 @@ pub mod Rows
 pub mod Sweep
 pub mod Rules
 pub mod Ready
+pub mod Display
+pub mod Kept
 pub mod Reply
 pub mod Margins
 pub mod Bench
