@@ -15,7 +15,7 @@ use Rattle.trellis.specs.Lists.{pick, upto, part, patch, blocks}
 use Rattle.trellis.specs.Check.{Column}
 use Rattle.trellis.specs.Record.{recordLength, recordOf}
 use Rattle.machine.specs.CodeLine.{Edge, Code, size, rule, check}
-use Rattle.machine.specs.Machine.{Last, none, made, State, lastOf, scaled, message, arriving, spread, update, iteration, start, Result, result, go, run, settled, found, notFound, place, used, recordIn, records}
+use Rattle.machine.specs.Machine.{Last, none, made, State, lastOf, scaled, message, arriving, spread, update, iteration, start, Result, result, go, run, settled, found, notFound, place, used, recordIn, records, pieceOf, held}
 use Rattle.machine.specs.Lent.{Lent, weightsOf, heard, gathered, turn, pass, Ended, ended, goLent}
 use Rattle.trellis.proofs.Lists.{of-upTo}
 use Rattle.trellis.proofs.Places.{map-ext}
@@ -74,16 +74,8 @@ module _ (C : Code) where
         | no e ↦ omega (arith, place-mono m n (omega arith), place-suc n)
       ]
 
-  -- a check's place in a store that held s₀: its record, or the old content
-  abbrev pub pieceOf : List ℕ → ℕ → Last → List ℕ
-  pieceOf s₀ m none = part s₀ (place C m) (len m)
-  pieceOf s₀ m (made cs) = recordOf (rule C) cs
-
-  pub held : List ℕ → State → List ℕ
-  held s₀ s = blocks (λ m. pieceOf s₀ m (lastOf s m)) (length (C .checks)) ++ drop (used C) s₀
-
   abbrev pub lentOf : List ℕ → State → Lent
-  lentOf s₀ s = record { costs = s .costs; store = held s₀ s }
+  lentOf s₀ s = record { costs = s .costs; store = held C s₀ s }
 
   -- in the first iteration no check has a record, later each has
   abbrev pub When : Bool → Last → Type 0

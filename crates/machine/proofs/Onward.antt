@@ -9,12 +9,12 @@ use lib.ListN.{length, getD, length-replicate, getD-replicate}
 use borrow.Author.Tests.{leb-true, leb-false}
 use Rattle.trellis.specs.Lists.{pick}
 use Rattle.machine.specs.CodeLine.{good, Code, parse, frameFault}
-use Rattle.machine.specs.Machine.{none, State, lastOf, start, iteration, settled, Status, found, notFound, Result, result, go, run}
+use Rattle.machine.specs.Machine.{none, State, lastOf, start, iteration, settled, Status, found, notFound, Result, result, go, run, held}
 use Rattle.machine.specs.Decoding.{Buffers, Room, Accepts, holding, admitted, storeOf, decodingUnder, decoding}
 use Rattle.machine.specs.Moments.{Moment, moment, loadingUnder, loading, stateAfter, stateFor, iterating, onward, Load-then-steps}
 use Rattle.machine.proofs.Lines.{GoodCode, parse-good}
 use Rattle.machine.proofs.Ranges.{frame-ranged}
-use Rattle.machine.proofs.Lent.{held, held-none, held-end, Ready, iteration-t, go-stands}
+use Rattle.machine.proofs.Lent.{held-none, held-end, Ready, iteration-t, go-stands}
 use Rattle.machine.proofs.Buffers.{admits, accepted-call}
 use Rattle.machine.proofs.Resume.{at, Sound, iteration-sound, iterating-at}
 

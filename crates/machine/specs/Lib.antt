@@ -1,6 +1,6 @@
--- What a reader must believe: Line, CodeLine, Machine, Decoding, Printing, Program, in document 01's order, and Margins, Encoding, Combining
--- and Moments of document 02; Moments goes on from lent records, as `pass` of Lent does. Blocks, Tables and Lent say the same in the shape of the code's loops;
--- proofs/ shows that they do.
+-- What a reader must believe: Line, CodeLine, Machine, Decoding, Printing, Program, in document 01's order, and Margins, Encoding, Combining,
+-- Moments and Early of document 02; Moments goes on from lent records, as `pass` of Lent does. Blocks, Tables, Lent and LentEarly say the same in
+-- the shape of the code's loops; proofs/ shows that they do.
 pub mod Line
 pub mod CodeLine
 pub mod Machine
@@ -14,3 +14,5 @@ pub mod Blocks
 pub mod Tables
 pub mod Lent
 pub mod Moments
+pub mod Early
+pub mod LentEarly

@@ -1,10 +1,10 @@
 -- Document 01's layered machine: start, one update of a check, one iteration, the run with its result. SPEC 6.
 use mathlib.Core.Bool.{Bool}
-use mathlib.Core.List.{List, [], map}
+use mathlib.Core.List.{List, [], _++_, map}
 use Prim.Native.Nat.{ℕ, zero, suc, _+_, _-_, _*_, _/_, min}
 use lib.Dec.{eqb}
-use lib.ListN.{length, getD, set, replicate}
-use Rattle.trellis.specs.Lists.{upTo, smallest, pick, upto, allTo, patch, blocks}
+use lib.ListN.{length, getD, set, replicate, drop}
+use Rattle.trellis.specs.Lists.{upTo, smallest, pick, upto, allTo, part, patch, blocks}
 use Rattle.trellis.specs.Field.{xor, product}
 use Rattle.trellis.specs.Check.{Rule, Column, Decision, column, decide, sent}
 use Rattle.trellis.specs.Record.{recordOf, recordLength}
@@ -137,3 +137,12 @@ recordIn C (made cs) = recordOf (rule C) cs
 
 unfoldable pub records : Code → State → List ℕ
 records C s = blocks (λ m. recordIn C (lastOf s m)) (length (C .checks))
+
+-- check m's place in a store that held s₀: its record, or the old bytes where it has none
+abbrev pub pieceOf : Code → List ℕ → ℕ → Last → List ℕ
+pieceOf C s₀ m none = part s₀ (place C m) (recordLength (rule C) (length (check C m)))
+pieceOf C s₀ m (made cs) = recordOf (rule C) cs
+
+-- the whole store; "Elements past the used part .. keep their old content."
+unfoldable pub held : Code → List ℕ → State → List ℕ
+held C s₀ s = blocks (λ m. pieceOf C s₀ m (lastOf s m)) (length (C .checks)) ++ drop (used C) s₀

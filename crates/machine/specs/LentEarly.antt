@@ -1,0 +1,26 @@
+-- Stopping inside an iteration over the lent buffers, in the shape of the code's loop. proofs/EarlyLent.antt shows that it is that of
+-- Early.antt.
+use Prim.Native.Nat.{ℕ, zero, suc, _+_, _%_}
+use lib.Dec.{ltb}
+use lib.ListN.{length}
+use Rattle.trellis.specs.Lists.{pick}
+use Rattle.machine.specs.CodeLine.{Code}
+use Rattle.machine.specs.Machine.{Status, found, notFound, settled}
+use Rattle.machine.specs.Lent.{Lent, turn}
+
+pub record Halted : Type 0 where
+  pub status : Status
+  pub updates : ℕ
+  pub lent : Lent
+
+abbrev pub halted : Status → ℕ → Lent → Halted
+halted o u l = record { status = o; updates = u; lent = l }
+
+-- update u: of check u mod M, which has no record in the first M of them
+abbrev pub turnNext : Code → ℕ → Lent → Lent
+turnNext C u l = turn C (ltb u (length (C .checks))) (u % length (C .checks)) l
+
+-- at most n updates more, after u
+unfoldable pub stopLent : Code → ℕ → ℕ → Lent → Halted
+stopLent C zero u l = pick (settled C (l .costs)) (halted found u l) (halted notFound u l)
+stopLent C (suc n) u l = pick (settled C (l .costs)) (halted found u l) (stopLent C n (u + 1) (turnNext C u l))
