@@ -13,14 +13,14 @@ use borrow.Author.Tests.{eq-eqb, ne-eqb, le-leb, lt-leb, eqb-true, eqb-false}
 use Rattle.trellis.specs.Lists.{pick}
 use Rattle.trellis.specs.Reply.{foundIn, notFoundIn}
 use Rattle.machine.specs.CodeLine.{Code, size, frameFault}
-use Rattle.machine.specs.Machine.{none, State, lastOf, start, iteration, settled, records, used}
+use Rattle.machine.specs.Machine.{none, State, lastOf, start, iteration, settled, records, used, held}
 use Rattle.machine.specs.Lent.{pass}
 use Rattle.machine.specs.Decoding.{Buffers, holding, Room}
 use Rattle.machine.specs.Moments.{Moment, moment, stateAfter, further, gone}
 use Rattle.machine.proofs.Lines.{GoodCode}
 use Rattle.machine.proofs.Updates.{Below}
 use Rattle.machine.proofs.Ranges.{frame-ranged}
-use Rattle.machine.proofs.Lent.{held, lentOf, held-none, held-end, pass-stands, Ready}
+use Rattle.machine.proofs.Lent.{lentOf, held-none, held-end, pass-stands, Ready}
 use Rattle.machine.proofs.Buffers.{holding-again}
 use Rattle.machine.proofs.Resume.{at, Sound, iteration-sound}
 use Rattle.channels.specs.Channels.{after, finished, spentIn, answer, received}
