@@ -55,8 +55,11 @@ pub fn wilson(rate: f64, count: f64) -> (f64, f64) {
     let spread = Z * (rate * (1.0 - rate) / count + Z * Z / (4.0 * count * count)).sqrt();
     let middle = rate + Z * Z / (2.0 * count);
     let whole = 1.0 + Z * Z / count;
-    (
-        ((middle - spread) / whole).max(0.0),
-        (middle + spread) / whole,
-    )
+    // Without an error the two terms are the same but for rounding.
+    let low = if rate > 0.0 {
+        ((middle - spread) / whole).max(0.0)
+    } else {
+        0.0
+    };
+    (low, (middle + spread) / whole)
 }
