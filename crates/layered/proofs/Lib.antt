@@ -3,6 +3,7 @@ pub mod Columns
 pub mod Satisfied
 pub mod Turns
 pub mod Passes
+pub mod Places
 pub mod Runs
 pub mod Resuming
 pub mod Decoded

@@ -92,7 +92,10 @@ module _ (C : Code) (cs ws : List ℕ) (hc : take (length (tablesOf (C .checks) 
   go-is zero t l = rw (settled-is (l .costs))
   go-is (suc n) t l = rw (settled-is (l .costs), pass-is (eqb t 0) l, go-is n (t + 1) (pass C (eqb t 0) l))
 
--- all turns made
+-- a turn more, and all turns made
+pub turns-more : (D : Graph) (start : Bool) (l now now′ : Lent) (m m′ : ℕ) → m′ ≡ m + 1 → now ≡ upto (turnAt D start) m l → now′ ≡ turnAt D start m now → now′ ≡ upto (turnAt D start) m′ l
+turns-more D start l now now′ m m′ e o i = i ∙ ap (turnAt D start m) o ∙ sym (ap (λ k. upto (turnAt D start) k l) (e ∙ add-one m))
+
 pub pass-done : (D : Graph) (start : Bool) (l now : Lent) (m : ℕ) → m ≡ length (D .degrees) → now ≡ upto (turnAt D start) m l → now ≡ passOver D start l
 unfolding passOver
 pass-done D start l now m e o = o ∙ ap (λ k. upto (turnAt D start) k l) e
@@ -131,6 +134,15 @@ module _ (D : Graph) (n n₀ limit t : ℕ) (l l₀ : Lent) (r : Bool) (same : n
 module _ (C : Code) (first g : ℕ) (ds cs ws : List ℕ) (H : Tables C (graph first g ds cs ws)) where
   pub tables-pass : (start : Bool) (l : Lent) → passOver (graph first g ds cs ws) start l ≡ pass C start l
   tables-pass start l = rw (H .first-is, H .scale-is, H .degrees-is) (pass-is C cs ws (H .columns) (H .weights) start l)
+
+  pub tables-turn : (start : Bool) (m : ℕ) → m < length (C .checks) → (l : Lent) → turnAt (graph first g ds cs ws) start m l ≡ turn C start m l
+  tables-turn start m h l = rw (H .first-is, H .scale-is, H .degrees-is) (turn-is C cs ws (H .columns) (H .weights) start m h l)
+
+  pub tables-turns : (start : Bool) (m : ℕ) → m ≤ length (C .checks) → (l : Lent) → upto (turnAt (graph first g ds cs ws) start) m l ≡ upto (turn C start) m l
+  tables-turns start m h l = rw (H .first-is, H .scale-is, H .degrees-is) (turns-are C cs ws (H .columns) (H .weights) start m h l)
+
+  pub tables-count : length ds ≡ length (C .checks)
+  tables-count = rw (H .degrees-is) (count C cs ws (H .columns) (H .weights))
 
   pub tables-go : (n t : ℕ) (l : Lent) → goOn (graph first g ds cs ws) (C .columns) n t l ≡ goLent C n t l
   tables-go n t l = rw (H .first-is, H .scale-is, H .degrees-is) (go-is C cs ws (H .columns) (H .weights) n t l)

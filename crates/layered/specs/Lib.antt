@@ -4,5 +4,6 @@ pub mod Columns
 pub mod Parity
 pub mod Turns
 pub mod Passes
+pub mod Places
 pub mod Frames
 pub mod Stages

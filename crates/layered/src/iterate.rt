@@ -1,8 +1,8 @@
 // One iteration and the run, over the lent buffers and the tables of a code.
 use crate::Outcome;
-use crate::num;
 use crate::parity;
-use crate::update;
+use crate::place;
+use crate::place::Place;
 ghost use mathlib.Core.Path.{_≡_};
 ghost use mathlib.Core.Bool.{true};
 ghost use Prim.Native.Nat.{_≤_};
@@ -11,7 +11,7 @@ ghost use Rattle.trellis.specs.Rules.{sizeOf};
 ghost use Rattle.layered.specs.Parity.{decisionsOf, marginsOf};
 ghost use Rattle.layered.specs.Passes.{graph, lent, passOver, goOn, endedIn, PassRoom, RunRoom};
 
-// "An iteration .. takes the checks in code order." The places of a check's edges and of its record are carried along.
+// "An iteration .. takes the checks in code order."
 pub fn pass(
     first: u8,
     g: u16,
@@ -27,30 +27,25 @@ pub fn pass(
     requires { ⌜ PassRoom (graph first g (now degrees) (now columns) (now weights)) start (now costs) (now store) (now arrived) (now sent) ⌝ }
     ensures { λ _. ⌜ lent (now (costs .exit)) (now (store .exit)) ≡ passOver (graph first g (now (degrees .entry)) (now (columns .entry)) (now (weights .entry))) start (lent (now (costs .entry)) (now (store .entry))) ⌝ }
 {
-    let q = rules::size(first);
-    let groups = rules::groups(first);
-    let mut m = 0;
-    let mut at = 0;
-    let mut place = 0;
-    while m < degrees.len() {
-        let d = num::index(degrees[m]);
-        let n = d * q;
-        let e = at + d;
-        let f = place + (d + groups);
-        update::update(
+    let mut here = Place {
+        check: 0,
+        edge: 0,
+        byte: 0,
+    };
+    while here.check < degrees.len() {
+        here = place::update_at(
             first,
             g,
             start,
-            &columns[at..e],
-            &weights[at..e],
+            here,
+            degrees,
+            columns,
+            weights,
             costs,
-            &mut store[place..f],
-            &mut arrived[..n],
-            &mut sent[..n],
+            store,
+            arrived,
+            sent,
         );
-        at = e;
-        place = f;
-        m += 1;
     }
 }
 

@@ -5,6 +5,7 @@ pub mod frame;
 mod iterate;
 pub mod num;
 mod parity;
+mod place;
 mod resume;
 pub mod stages;
 mod update;

@@ -1,6 +1,6 @@
--- Updates one after the other from any costs in range, check by check and iteration by iteration: each finds what it needs. A flat count of
--- updates in place of Passing.antt's count inside one iteration.
-use mathlib.Core.Path.{_≡_, refl, sym, ap, _∙_}
+-- Updates one after the other from any costs in range, check by check and iteration by iteration: each finds what it needs and leaves what the
+-- next one needs. A flat count of updates in place of Passing.antt's count inside one iteration.
+use mathlib.Core.Path.{_≡_, sym, ap, _∙_}
 use mathlib.Core.Bool.{false}
 use mathlib.Core.Logic.{_≢_}
 use Prim.Native.Nat.{ℕ, zero, suc, _+_, _*_, _/_, _%_, _≤_, _<_}
@@ -11,7 +11,7 @@ use lib.Arith.{digits-mod}
 use lib.Dec.{eqb, ltb}
 use lib.ListN.{length}
 use borrow.Author.Tests.{eq-eqb, ne-eqb, ltb-false}
-use Rattle.trellis.specs.Lists.{pick, upto}
+use Rattle.trellis.specs.Lists.{pick}
 use Rattle.machine.specs.CodeLine.{Code}
 use Rattle.machine.specs.Machine.{used}
 use Rattle.machine.specs.Lent.{Lent}
@@ -35,39 +35,37 @@ next-check u M some =
     whole : u ≡ u / M * M + u % M
     whole = omega (arith, div-add-mod u M, mul-comm M (u / M))
 
-module _ (C : Code) (G : GoodCode C) (l : Lent) (R : Ranged C (l .costs)) (room : used C ≤ length (l .store)) where
+module _ (C : Code) (G : GoodCode C) where
   abbrev M : ℕ
   M = length (C .checks)
 
-  -- after u updates
-  abbrev pub turned : ℕ → Lent
-  turned u = upto (turnNext C) u l
-
-  check-small : (u : ℕ) → u % M < M
+  pub check-small : (u : ℕ) → u % M < M
   check-small u = mod-lt u (G .checks-low)
 
-  pub record Turned (u : ℕ) : Type 0 where
-    pub ranged : Ranged C (turned u .costs)
-    pub kept : length (turned u .store) ≡ length (l .store)
-    pub done : (m : ℕ) → m < M → m < u → Formed C G (turned u) m
+  -- after u updates: costs in range, room in the store, and each check that was updated has a record of accepted form
+  pub record Advancing (u : ℕ) (l : Lent) : Type 0 where
+    pub ranged : Ranged C (l .costs)
+    pub room : used C ≤ length (l .store)
+    pub done : (m : ℕ) → m < M → m < u → Formed C G l m
 
-  pub turns-kept : (u : ℕ) → Turned u
-  turns-kept zero = record { ranged = R; kept = refl; done = λ m h i. absurd (not-suc-le-zero i) }
-  turns-kept (suc u) =
-      let K = turns-kept u in
-      let r : used C ≤ length (turned u .store) = omega (arith, K .kept) in
+  pub advancing-start : (l : Lent) → Ranged C (l .costs) → used C ≤ length (l .store) → Advancing 0 l
+  advancing-start l R r = record { ranged = R; room = r; done = λ m h i. absurd (not-suc-le-zero i) }
+
+  -- one update more
+  pub advanced : (u : ℕ) (l : Lent) → Advancing u l → Advancing (suc u) (turnNext C u l)
+  advanced u l A =
       let k = check-small u in
       record {
-        ranged = turn-ranged C G (ltb u M) (turned u) (K .ranged) r (u % M) k;
-        kept = turn-length C G (ltb u M) (turned u) (K .ranged) r (u % M) k ∙ K .kept;
+        ranged = turn-ranged C G (ltb u M) l (A .ranged) (A .room) (u % M) k;
+        room = omega (arith, A .room, turn-length C G (ltb u M) l (A .ranged) (A .room) (u % M) k);
         done = λ m h i. elim (ℕ-discrete m (u % M)) [
-          | yes e ↦ rw e (turn-formed C G (ltb u M) (turned u) (K .ranged) r (u % M) k)
+          | yes e ↦ rw e (turn-formed C G (ltb u M) l (A .ranged) (A .room) (u % M) k)
           | no e ↦
               let n : m ≢ u = λ (j : m ≡ u). e (j ∙ sym (mod-eq-of-lt (rw j at h))) in
-              rw (turn-others C G (ltb u M) (turned u) (K .ranged) r (u % M) k m h e) (K .done m h (omega arith))
+              rw (turn-others C G (ltb u M) l (A .ranged) (A .room) (u % M) k m h e) (A .done m h (omega arith))
         ];
       }
 
   -- after the first M updates the next check has its record
-  pub turned-formed : (u : ℕ) → ltb u M ≡ false → Formed C G (turned u) (u % M)
-  turned-formed u e = turns-kept u .done (u % M) (check-small u) (omega (arith, check-small u, ltb-false u M e))
+  pub next-formed : (u : ℕ) (l : Lent) → Advancing u l → ltb u M ≡ false → Formed C G l (u % M)
+  next-formed u l A e = A .done (u % M) (check-small u) (omega (arith, check-small u, ltb-false u M e))
