@@ -5,6 +5,7 @@ pub mod Turns
 pub mod Passes
 pub mod Places
 pub mod Runs
+pub mod Stopping
 pub mod Resuming
 pub mod Decoded
 pub mod Steps

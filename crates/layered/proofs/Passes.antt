@@ -19,7 +19,7 @@ use Rattle.machine.specs.Machine.{found, notFound, symbols, margins, paritySum,
 use Rattle.machine.specs.Tables.{tablesOf, before, sumFrom}
 use Rattle.machine.specs.Lent.{Lent, turn, pass, ended, goLent}
 use Rattle.machine.proofs.Places.{count, degree-at, edges-at, sum-flat}
-use Rattle.layered.specs.Parity.{decisionsOf, marginsOf, allHold}
+use Rattle.layered.specs.Parity.{decisionsOf, marginsOf, holdsAt, allHold}
 use Rattle.layered.specs.Turns.{recordNow, costsNow}
 use Rattle.layered.specs.Passes.{Graph, graph, placeAt, turnAt, passOver, settledOn, goOn, Tables}
 use Rattle.layered.proofs.Columns.{upTo-tab}
@@ -81,7 +81,7 @@ module _ (C : Code) (cs ws : List ℕ) (hc : take (length (tablesOf (C .checks) 
   sum-is z m h = sum-flat C cs ws hc hw m h z (getD ds m 0) (omega arith) ∙ ap (paritySum (power C) (check C m) z) (degree-at C cs ws hc hw m)
 
   pub settled-is : (P : List ℕ) → settledOn T (C .columns) P ≡ settled C P
-  unfolding allHold settled
+  unfolding holdsAt allHold settled
   settled-is P =
       rw (symbols-are P, count C cs ws hc hw)
       (all-ext (length (C .checks)) _ _ (λ m h. ap (λ s. eqb s 0) (sum-is (symbols C P) m h)))

@@ -5,5 +5,6 @@ pub mod Parity
 pub mod Turns
 pub mod Passes
 pub mod Places
+pub mod Early
 pub mod Frames
 pub mod Stages

@@ -1,5 +1,6 @@
 -- The decisions and the test of every check, over the tables of degrees, columns and weights. proofs/Satisfied.antt shows that this is settled.
-use mathlib.Core.Bool.{Bool}
+use mathlib.Core.Path.{_≡_}
+use mathlib.Core.Bool.{Bool, true, false}
 use mathlib.Core.List.{List}
 use Prim.Native.Nat.{ℕ, _+_, _*_, _^_, _≤_, _<_}
 use lib.Dec.{eqb}
@@ -8,6 +9,7 @@ use Rattle.trellis.specs.Lists.{tab, allTo}
 use Rattle.trellis.specs.Check.{firstZero, decide}
 use Rattle.machine.specs.CodeLine.{columnOf}
 use Rattle.machine.specs.Tables.{before, sumFrom}
+use Rattle.layered.specs.declared.parity.CheckAt.{CheckAt}
 
 -- the decisions of n columns of q costs, and their margins
 unfoldable pub decisionsOf : ℕ → List ℕ → ℕ → List ℕ
@@ -16,9 +18,13 @@ decisionsOf q P n = tab (λ c. decide (columnOf q P c) .symbol) n
 unfoldable pub marginsOf : ℕ → List ℕ → ℕ → List ℕ
 marginsOf q P n = tab (λ c. decide (columnOf q P c) .margin) n
 
--- the first m checks are satisfied
+-- check j is satisfied
+unfoldable pub holdsAt : ℕ → List ℕ → List ℕ → List ℕ → List ℕ → ℕ → Bool
+holdsAt p ds cs ws z j = eqb (sumFrom p cs ws z (before ds j) (getD ds j 0)) 0
+
+-- the first m checks are
 unfoldable pub allHold : ℕ → List ℕ → List ℕ → List ℕ → List ℕ → ℕ → Bool
-allHold p ds cs ws z m = allTo (λ j. eqb (sumFrom p cs ws z (before ds j) (getD ds j 0)) 0) m
+allHold p ds cs ws z m = allTo (holdsAt p ds cs ws z) m
 
 -- edge k has a column with a symbol, and two elements to multiply
 pub record EdgeRoom (p : ℕ) (cs ws z : List ℕ) (k : ℕ) : Type 0 where
@@ -34,6 +40,30 @@ pub record EdgeRoom (p : ℕ) (cs ws z : List ℕ) (k : ℕ) : Type 0 where
 pub record ParityRoom (p : ℕ) (ds cs ws z : List ℕ) : Type 0 where
   pub each-edge : (m n : ℕ) → m < length ds → n < getD ds m 0 → EdgeRoom p cs ws z (before ds m + n)
   pub in-columns : before ds (length ds) ≤ length cs
+
+-- the first edge of a check
+abbrev pub EdgeOf : List ℕ → CheckAt → Type 0
+EdgeOf ds c = c .edge ≡ before ds (c .check)
+
+-- some of the checks
+pub record FromTo (ds : List ℕ) (from : CheckAt) (to : ℕ) : Type 0 where
+  pub edge-is : EdgeOf ds from
+  pub ordered : from .check ≤ to
+  pub inside : to ≤ length ds
+
+-- of the checks from `from` on and before `to` r is the first that is not satisfied, or `to`
+pub record FirstNot (p : ℕ) (ds cs ws z : List ℕ) (from to : ℕ) (r : CheckAt) : Type 0 where
+  pub edge-is : EdgeOf ds r
+  pub low : from ≤ r .check
+  pub high : r .check ≤ to
+  pub before-it : (j : ℕ) → from ≤ j → j < r .check → holdsAt p ds cs ws z j ≡ true
+  pub not-it : r .check < to → holdsAt p ds cs ws z (r .check) ≡ false
+
+-- r is a check that is not satisfied; the number of checks where every one is
+pub record SomeNot (p : ℕ) (ds cs ws z : List ℕ) (r : CheckAt) : Type 0 where
+  pub edge-is : EdgeOf ds r
+  pub high : r .check ≤ length ds
+  pub test-is : eqb (r .check) (length ds) ≡ allHold p ds cs ws z (length ds)
 
 -- before the decisions: each of the columns has a cost of 0
 pub record SettledRoom (p : ℕ) (ds cs ws P z : List ℕ) : Type 0 where

@@ -1,6 +1,7 @@
 // Above the check layer and the code line: the layered decoder.
 mod column;
 mod decoding;
+mod early;
 pub mod frame;
 mod iterate;
 pub mod num;
@@ -82,6 +83,12 @@ pub fn decode_counted(
         &mut arrived,
         &mut sent,
     )
+}
+
+// How a run that may stop inside an iteration ended, with its check updates.
+pub enum Stopped {
+    Found(u16),
+    NotFound(u16),
 }
 
 // Where a load or an iteration ended.

@@ -11,7 +11,7 @@ ghost use Rattle.trellis.specs.Check.{decide as decideOf};
 ghost use Rattle.trellis.specs.Margins.{leastBut, marginAt};
 ghost use Rattle.trellis.specs.Field.{product};
 ghost use Rattle.machine.specs.Tables.{term};
-ghost use Rattle.layered.specs.Parity.{decisionsOf, marginsOf, EdgeRoom, ParityRoom, allHold, SettledRoom};
+ghost use Rattle.layered.specs.Parity.{decisionsOf, marginsOf, EdgeRoom, ParityRoom, FromTo, FirstNot, allHold, SettledRoom};
 
 // The cost of symbol x; where x is z, no cost is greater.
 fn but(cost: u16, x: usize, z: usize) -> u16
@@ -114,16 +114,30 @@ fn term_at(p: u8, columns: &[u16], weights: &[u8], symbols: &[u8], k: usize) -> 
     times(p, weights[k], symbols[c])
 }
 
-// Whether the symbols satisfy every check: "the sum of h_n times x_n is 0".
-fn holds(p: u8, degrees: &[u8], columns: &[u16], weights: &[u8], symbols: &[u8]) -> bool
-    requires { ⌜ ParityRoom p (now degrees) (now columns) (now weights) (now symbols) ⌝ }
-    ensures { λ r. ⌜ r ≡ allHold p (now (degrees .entry)) (now (columns .entry)) (now (weights .entry)) (now (symbols .entry)) (length (now (degrees .entry))) ⌝ }
+// A check by its number, with its first edge in the tables.
+pub struct CheckAt {
+    pub check: usize,
+    pub edge: usize,
+}
+
+// The first check from `from` on and before `to` that the symbols do not satisfy, "the sum of h_n times x_n is 0"; `to` where they satisfy them all.
+pub fn unsatisfied(
+    p: u8,
+    from: CheckAt,
+    to: usize,
+    degrees: &[u8],
+    columns: &[u16],
+    weights: &[u8],
+    symbols: &[u8],
+) -> CheckAt
+    requires { ⌜ ParityRoom p (now degrees) (now columns) (now weights) (now symbols) × FromTo (now degrees) from to ⌝ }
+    ensures { λ r. ⌜ FirstNot p (now (degrees .entry)) (now (columns .entry)) (now (weights .entry)) (now (symbols .entry)) (from .check) to r ⌝ }
 {
-    let mut m = 0;
-    let mut at = 0;
+    let mut m = from.check;
+    let mut at = from.edge;
     'checks: loop {
-        if m == degrees.len() {
-            break 'checks true;
+        if m == to {
+            break 'checks CheckAt { check: m, edge: at };
         }
         let d = num::index(degrees[m]);
         let mut sum = 0u8;
@@ -131,7 +145,7 @@ fn holds(p: u8, degrees: &[u8], columns: &[u16], weights: &[u8], symbols: &[u8])
         loop {
             if n == d {
                 if sum != 0 {
-                    break 'checks false;
+                    break 'checks CheckAt { check: m, edge: at };
                 }
                 break;
             }
@@ -141,6 +155,16 @@ fn holds(p: u8, degrees: &[u8], columns: &[u16], weights: &[u8], symbols: &[u8])
         at += d;
         m += 1;
     }
+}
+
+// Whether the symbols satisfy every check.
+fn holds(p: u8, degrees: &[u8], columns: &[u16], weights: &[u8], symbols: &[u8]) -> bool
+    requires { ⌜ ParityRoom p (now degrees) (now columns) (now weights) (now symbols) ⌝ }
+    ensures { λ r. ⌜ r ≡ allHold p (now (degrees .entry)) (now (columns .entry)) (now (weights .entry)) (now (symbols .entry)) (length (now (degrees .entry))) ⌝ }
+{
+    let count = degrees.len();
+    let from = CheckAt { check: 0, edge: 0 };
+    unsatisfied(p, from, count, degrees, columns, weights, symbols).check == count
 }
 
 // The decisions into the symbol buffer, and whether they satisfy every check.
