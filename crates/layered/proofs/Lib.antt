@@ -6,6 +6,7 @@ pub mod Passes
 pub mod Places
 pub mod Runs
 pub mod Stopping
+pub mod Advances
 pub mod Resuming
 pub mod Decoded
 pub mod Steps

@@ -144,5 +144,8 @@ module _ (C : Code) (first g : ℕ) (ds cs ws : List ℕ) (H : Tables C (graph f
   pub tables-count : length ds ≡ length (C .checks)
   tables-count = rw (H .degrees-is) (count C cs ws (H .columns) (H .weights))
 
+  pub tables-settled : (P : List ℕ) → settledOn (graph first g ds cs ws) (C .columns) P ≡ settled C P
+  tables-settled P = rw (H .first-is, H .degrees-is) (settled-is C cs ws (H .columns) (H .weights) P)
+
   pub tables-go : (n t : ℕ) (l : Lent) → goOn (graph first g ds cs ws) (C .columns) n t l ≡ goLent C n t l
   tables-go n t l = rw (H .first-is, H .scale-is, H .degrees-is) (go-is C cs ws (H .columns) (H .weights) n t l)

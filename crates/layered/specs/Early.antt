@@ -3,7 +3,7 @@
 use mathlib.Core.Path.{_≡_}
 use mathlib.Core.Bool.{false}
 use mathlib.Core.List.{List}
-use Prim.Native.Nat.{ℕ, zero, suc, _+_, _*_, _%_, _≤_, _<_}
+use Prim.Native.Nat.{ℕ, zero, suc, _+_, _-_, _*_, _%_, _≤_, _<_}
 use lib.Dec.{eqb, ltb}
 use lib.ListN.{length, getD, set}
 use Rattle.trellis.specs.Lists.{pick, upto}
@@ -21,6 +21,7 @@ use Rattle.layered.specs.declared.Stopped.the-variants.{Found, NotFound}
 use Rattle.layered.specs.declared.parity.CheckAt.{CheckAt}
 use Rattle.layered.specs.declared.place.Place.{Place}
 use Rattle.layered.specs.Parity.{decisionsOf, EdgeOf, SettledRoom}
+use Rattle.layered.specs.Places.{Stands}
 use Rattle.layered.specs.Passes.{Graph, lent, tableAt, turnAt, testOn, settledOn, Tables}
 
 -- the symbols z where the first k of the columns cs are decided again, from costs P
@@ -79,3 +80,15 @@ pub record GoRoom (T : Graph) (P store z A S : List ℕ) : Type 0 where
   pub unsettled : Unsettled T 0 P store z
   pub arrived : 2048 ≤ length A
   pub sent : 2048 ≤ length S
+
+-- in the loop over the updates, of which there are at most `most`: the next check stands here, check `from` is not satisfied, and what is left gives the
+-- same as the whole
+pub record Going (T : Graph) (n most : ℕ) (l₀ : Lent) (u : ℕ) (here : Place) (from : CheckAt) (P store z : List ℕ) : Type 0 where
+  pub at-most : u ≤ most
+  pub check-is : here .check ≡ u % length (T .degrees)
+  pub stands : Stands (T .first) (T .degrees) (here .check) here
+  pub from-edge : EdgeOf (T .degrees) from
+  pub from-inside : from .check < length (T .degrees)
+  pub unsettled : Unsettled T u P store z
+  pub symbols : length z ≡ n
+  pub left : stopOn T n (most - u) u (lent P store) ≡ stopOn T n most 0 l₀

@@ -107,3 +107,55 @@ fn tested_again(
         symbols,
     )
 }
+
+// The updates one after the other, at most `most` of them, from decisions that do not satisfy every check.
+fn go_on(
+    first: u8,
+    g: u16,
+    most: u16,
+    degrees: &[u8],
+    columns: &[u16],
+    weights: &[u8],
+    symbols: &mut [u8],
+    costs: &mut [u16],
+    store: &mut [u8],
+    arrived: &mut [u8],
+    sent: &mut [u8],
+) -> Stopped
+    requires { ⌜ GoRoom (graph first g (now degrees) (now columns) (now weights)) (now costs) (now store) (now symbols) (now arrived) (now sent) ⌝ }
+    ensures { λ r. ⌜ haltedIn r (lent (now (costs .exit)) (now (store .exit))) ≡ stopOn (graph first g (now (degrees .entry)) (now (columns .entry)) (now (weights .entry))) (length (now (symbols .entry))) most 0 (lent (now (costs .entry)) (now (store .entry))) ⌝ }
+    ensures { λ _. ⌜ now (symbols .exit) ≡ decisionsOf (sizeOf first) (now (costs .exit)) (length (now (symbols .entry))) ⌝ }
+{
+    let count = degrees.len();
+    let mut here = Place {
+        check: 0,
+        edge: 0,
+        byte: 0,
+    };
+    let mut from = CheckAt { check: 0, edge: 0 };
+    let mut u: u16 = 0;
+    loop {
+        if u == most {
+            return Stopped::NotFound(u);
+        }
+        let next = place::update_at(
+            first,
+            g,
+            num::long(u) < count,
+            here,
+            degrees,
+            columns,
+            weights,
+            costs,
+            store,
+            arrived,
+            sent,
+        );
+        u += 1;
+        from = tested_again(first, here, from, degrees, columns, weights, costs, symbols);
+        if from.check == count {
+            return Stopped::Found(u);
+        }
+        here = place::around(next, count);
+    }
+}
