@@ -19,13 +19,13 @@ use Rattle.machine.specs.Lent.{Lent, turn}
 use Rattle.machine.specs.LentEarly.{halted, turnNext, stopLent}
 use Rattle.machine.specs.Tables.{before}
 use Rattle.machine.proofs.Changed.{redone, redecided-lent}
-use Rattle.machine.proofs.EarlyPassing.{next-check, check-small, Advancing, advanced, next-formed}
+use Rattle.machine.proofs.EarlyPassing.{next-check, check-small, Advancing, advancing-start, advanced, next-formed}
 use Rattle.machine.proofs.Places.{same-length, weights-length, column-table}
 use Rattle.layered.specs.declared.Stopped.the-variants.{Found, NotFound}
 use Rattle.layered.specs.declared.parity.CheckAt.{CheckAt}
 use Rattle.layered.specs.declared.place.Place.{Place}
 use Rattle.layered.specs.Parity.{decisionsOf, EdgeOf}
-use Rattle.layered.specs.Passes.{Graph, graph, lent, tableAt, placeAt, turnAt, settledOn, Tables}
+use Rattle.layered.specs.Passes.{Graph, graph, lent, tableAt, placeAt, turnAt, settledOn, Tables, RunRoom}
 use Rattle.layered.specs.Places.{Stands, Around, Updatable}
 use Rattle.layered.specs.Early.{decidedAgain, RetestRoom, Retested, turnNextOn, stopOn, haltedIn, Unsettled, Going}
 use Rattle.layered.proofs.Passes.{upto-ext, tables-turn, tables-count, tables-settled}
@@ -241,6 +241,29 @@ module _ (first g : ℕ) (ds cs ws : List ℕ) (n most : ℕ) (l₀ : Lent) wher
                 symbols = full ∙ G .symbols;
                 left = stop-more D n most u (lent P s) l₀ not-yet (G .left) h (lent P′ s′) on;
               }
+
+-- the first test
+pub stop-first : (T : Graph) (n k u : ℕ) (l : Lent) → settledOn T n (l .costs) ≡ true → halted found u l ≡ stopOn T n k u l
+unfolding stopOn
+stop-first T n zero u l e = sym (rw e)
+stop-first T n (suc k) u l e = sym (rw e)
+
+module _ (first g : ℕ) (ds cs ws P s z : List ℕ) (R : RunRoom (graph first g ds cs ws) true P s z) where
+  pub few-checks : length ds ≤ 128
+  few-checks = omega (arith, tables-count (R .running .code) first g ds cs ws (R .running .tables), R .running .good .checks-high)
+
+  pub first-unsettled : (y : List ℕ) → y ≡ decisionsOf (sizeOf first) P (length z) → length y ≡ length z → settledOn (graph first g ds cs ws) (length z) P ≡ false
+      → Unsettled (graph first g ds cs ws) 0 P s y
+  first-unsettled y d e f =
+      record {
+        code = R .running .code;
+        good = R .running .good;
+        tables = R .running .tables;
+        advancing = advancing-start (R .running .code) (R .running .good) (lent P s) (R .running .passable .ranged) (R .running .passable .room);
+        symbols = e ∙ R .symbols;
+        decided = d ∙ ap (decisionsOf (sizeOf first) P) (sym e);
+        unsettled = ap (λ k. settledOn (graph first g ds cs ws) k P) e ∙ f;
+      }
 
 -- the whole run is the machine's
 module _ (C : Code) (first g : ℕ) (ds cs ws : List ℕ) (H : Tables C (graph first g ds cs ws)) (some : 0 < length (C .checks)) where

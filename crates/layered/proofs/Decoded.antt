@@ -19,7 +19,7 @@ use Rattle.trellis.specs.Reply.{Reply, refusal}
 use Rattle.machine.specs.CodeLine.{Read, good, bad, Code, numbersOf, parse, size, columnOf, zeroIn, frameFault}
 use Rattle.machine.specs.Machine.{none as none′, Status, lastOf, symbols, margins, start, run, used}
 use Rattle.machine.specs.Lent.{Lent, Ended, ended, goLent}
-use Rattle.machine.specs.Decoding.{Buffers, After, lending, outcome, storeOf, roomFault as faultOfRoom, admittedUnder, admitted, decodingUnder, decoding, Decodes, Room}
+use Rattle.machine.specs.Decoding.{Buffers, After, lending, outcome, holding, storeOf, roomFault as faultOfRoom, admittedUnder, admitted, decodingUnder, decoding, Leaves, Decodes, Room}
 use Rattle.machine.specs.Tables.{Tabled}
 use Rattle.machine.proofs.Lines.{parse-good}
 use Rattle.machine.proofs.Ranges.{frame-ranged}
@@ -36,7 +36,7 @@ use Rattle.layered.specs.Answers.{answerReply}
 use Rattle.layered.specs.Columns.{Below}
 use Rattle.layered.specs.Parity.{decisionsOf, marginsOf}
 use Rattle.layered.specs.Passes.{graph, lent, placeAt, goOn, endedIn, Tables, RunRoom}
-use Rattle.layered.specs.Frames.{frameFaultOf, roomFault, faultOf, decodingOf, Coded, CodeRoom, Leaves}
+use Rattle.layered.specs.Frames.{frameFaultOf, roomFault, faultOf, decodingOf, Coded, CodeRoom}
 use Rattle.layered.proofs.Columns.{length-part}
 use Rattle.machine.proofs.Lists.{all-not}
 use Rattle.layered.proofs.Passes.{place-is, symbols-are, margins-are, tables-go}
@@ -145,6 +145,17 @@ module _ (C : Code) (first n m g limit : ℕ) (ds cs ws : List ℕ) (H : Coded C
   pub used-is : placeAt first (take m ds) (length (take m ds)) ≡ used C
   used-is = rw (degree-count, H .first-is, coded-tables .degrees-is) (place-is C cs ws (H .tabled .columns) (H .tabled .weights) (length (C .checks)))
 
+  symbols-there : (P : List ℕ) → decisionsOf (sizeOf first) P n ≡ symbols C P
+  symbols-there P = rw (H .columns-is, H .first-is) (symbols-are C cs ws (H .tabled .columns) (H .tabled .weights) P)
+
+  margins-there : (P : List ℕ) → marginsOf (sizeOf first) P n ≡ margins C P
+  margins-there P = rw (H .columns-is, H .first-is) (margins-are C cs ws (H .tabled .columns) (H .tabled .weights) P)
+
+  -- what the buffers hold of costs P and a store u
+  pub holds-then : (P u s y c v x x′ : List ℕ) (w : ℕ) → w ≡ C .columns * size C → x ≡ decisionsOf (sizeOf first) P n → x′ ≡ marginsOf (sizeOf first) P n
+      → lending (x ++ drop n y) (P ++ drop w c) u (x′ ++ drop n v) ≡ holding C P u (lending y c s v)
+  holds-then P u s y c v x x′ w e i j = rw (i, j, symbols-there P, margins-there P, e, H .columns-is)
+
   module _ (f y c s v : List ℕ) (k : ℕ) (e : k ≡ faultOf first n (take m ds) f (length y) (length c) (length s) (length v)) where
     abbrev b : Buffers
     b = lending y c s v
@@ -153,10 +164,10 @@ module _ (C : Code) (first n m g limit : ℕ) (ds cs ws : List ℕ) (H : Coded C
     unfolding faultOf frameFaultOf frameFault roomFault faultOfRoom
     fault-is = e ∙ rw (used-is, H .first-is, H .columns-is)
 
-    -- a refusal
-    pub refused-leaves : (k ≡ 0 → ⊥) → Leaves (decodingOf C f b) (refusal k) b
-    refused-leaves h =
-        let x : decodingOf C f b ≡ decodingUnder (bad k) f b = by-fault C f b (λ r. decodingUnder r f b) ∙ rw (← fault-is, ne-eqb k 0 h) in
+    -- a refusal, of decoding or of a call that refuses as decoding does
+    pub refused-leaves : (call : Read Code → After) → call (bad k) ≡ record { reply = refusal k; buffers = b } → (k ≡ 0 → ⊥) → Leaves (call (admittedUnder (good C) f b)) (refusal k) b
+    refused-leaves call i h =
+        let x : call (admittedUnder (good C) f b) ≡ record { reply = refusal k; buffers = b } = let q : call (admittedUnder (good C) f b) ≡ call (bad k) = by-fault C f b call ∙ rw (← fault-is, ne-eqb k 0 h) in q ∙ i in
         rw x record { replies = refl; symbols-then = refl; costs-then = refl; store-then = refl; margins-then = refl }
 
     -- no refusal
@@ -188,7 +199,16 @@ module _ (C : Code) (first n m g limit : ℕ) (ds cs ws : List ℕ) (H : Coded C
             symbols = l ∙ H .columns-is;
           }
 
-      -- and leaves what the machine's run leaves
+      -- a call that replies r and whose run leaves the costs P and the store u leaves these, and the decisions and margins of P
+      module _ (call : Read Code → After) (r : Reply) (P u x x′ : List ℕ) where
+        pub holds-leaves : call (good C) ≡ record { reply = r; buffers = holding C P u b } → x ≡ decisionsOf (sizeOf first) P n → x′ ≡ marginsOf (sizeOf first) P n
+            → Leaves (call (admittedUnder (good C) f b)) r (lending (x ++ drop n y) (P ++ drop (length f) c) u (x′ ++ drop n v))
+        holds-leaves i j j′ =
+            let w : length f ≡ C .columns * size C = frame-length ∙ ap₂ (λ a b. a * sizeOf b) (H .columns-is) (H .first-is) in
+            let d : call (admittedUnder (good C) f b) ≡ record { reply = r; buffers = holding C P u b } = let q : call (admittedUnder (good C) f b) ≡ call (good C) = by-fault C f b call ∙ rw (← fault-is, eq-eqb k 0 z) in q ∙ i in
+            rw (d, holds-then P u s y c v x x′ (length f) w j j′) record { replies = refl; symbols-then = refl; costs-then = refl; store-then = refl; margins-then = refl }
+
+      -- the run of decode
       module _ (o : Outcome) (P x u x′ : List ℕ) (i : endedIn o (lent P u) ≡ goOn (graph first g (take m ds) cs ws) n limit 0 (lent f s)) where
         ends : (answerReply (Decoded o) ≡ outcome (run C f .status) (run C f .end .t)) × (lent P u ≡ lent (run C f .end .costs) (storeOf C (run C f .end) s))
         ends =
@@ -196,31 +216,17 @@ module _ (C : Code) (first n m g limit : ℕ) (ds cs ws : List ℕ) (H : Coded C
             i ∙ ap₂ (λ a b. goOn (graph first g (take m ds) cs ws) a b 0 (lent f s)) (H .columns-is) (H .limit-is) ∙ tables-go C first g (take m ds) cs ws coded-tables (C .limit) 0 (lent f s) in
             reply-is o (lent P u) _ _ _ (a ∙ run-stands C (H .good) s (rooms .for-store) f)
 
-        costs-are : P ≡ run C f .end .costs
-        costs-are = ap (λ (l : Lent). l .costs) (ends .1)
-
         pub run-leaves : x ≡ decisionsOf (sizeOf first) P n → x′ ≡ marginsOf (sizeOf first) P n
             → Leaves (decodingOf C f b) (answerReply (Decoded o)) (lending (x ++ drop n y) (P ++ drop (length f) c) u (x′ ++ drop n v))
-        run-leaves j j′ =
-            let q : x ≡ symbols C (run C f .end .costs) =
-            j ∙ ap₂ (λ a b. decisionsOf (sizeOf a) P b) (H .first-is) (H .columns-is) ∙ ap (λ l. decisionsOf (size C) l (C .columns)) costs-are ∙ symbols-are C cs ws (H .tabled .columns) (H .tabled .weights) (run C f .end .costs) in
-            let q′ : x′ ≡ margins C (run C f .end .costs) =
-            j′ ∙ ap₂ (λ a b. marginsOf (sizeOf a) P b) (H .first-is) (H .columns-is) ∙ ap (λ l. marginsOf (size C) l (C .columns)) costs-are ∙ margins-are C cs ws (H .tabled .columns) (H .tabled .weights) (run C f .end .costs) in
-            let w : length f ≡ C .columns * size C = frame-length ∙ ap₂ (λ a b. a * sizeOf b) (H .columns-is) (H .first-is) in
-            let d : decodingOf C f b ≡ decodingUnder (good C) f b = by-fault C f b (λ r. decodingUnder r f b) ∙ rw (← fault-is, eq-eqb k 0 z) in
-            rw d
-            record {
-              replies = ends .0;
-              symbols-then = ap₂ (λ a b. a ++ drop b y) q (H .columns-is);
-              costs-then = ap₂ (λ a b. a ++ drop b c) costs-are w;
-              store-then = ap (λ (l : Lent). l .store) (ends .1);
-              margins-then = ap₂ (λ a b. a ++ drop b v) q′ (H .columns-is);
-            }
+        run-leaves = holds-leaves (λ r. decodingUnder r f b) (answerReply (Decoded o)) P u x x′ (ap₂ (λ r (l : Lent). record { reply = r; buffers = holding C (l .costs) (l .store) b }) (sym (ends .0)) (sym (ends .1)))
 
       -- the same with the costs copied into the front of the cost buffer
       module _ (f′ : List ℕ) (i : f′ ≡ f) where
         pub copied-front : take (length f) (f′ ++ drop (length f) c) ≡ f
         copied-front = ap (λ a. take (length f) (a ++ drop (length f) c)) i ∙ take-at f (drop (length f) c) (length f) refl
+
+        pub copied-rest : drop (length f) (f′ ++ drop (length f) c) ≡ drop (length f) c
+        copied-rest = ap (λ a. drop (length f) (a ++ drop (length f) c)) i ∙ drop-at f (drop (length f) c) (length f) refl
 
         pub copied-room : Below 255 f → (x : List ℕ) → length x ≡ n → RunRoom (graph first g (take m ds) cs ws) true (take (length f) (f′ ++ drop (length f) c)) s x
         copied-room d x l = start-room d _ x copied-front l
@@ -230,22 +236,20 @@ module _ (C : Code) (first n m g limit : ℕ) (ds cs ws : List ℕ) (H : Coded C
             → x ≡ decisionsOf (sizeOf first) P (length w) → x′ ≡ marginsOf (sizeOf first) P (length w′)
             → Leaves (decodingOf C f b) (answerReply (Decoded o)) (lending (x ++ drop n y) (P ++ drop (length f) (f′ ++ drop (length f) c)) u (x′ ++ drop n v))
         copied-leaves o P x u x′ w w′ l l′ a j j′ =
-            let d : drop (length f) (f′ ++ drop (length f) c) ≡ drop (length f) c = ap (λ a. drop (length f) (a ++ drop (length f) c)) i ∙ drop-at f (drop (length f) c) (length f) refl in
-            rw d (run-leaves o P x u x′ (a ∙ ap₂ (λ k q. goOn (graph first g (take m ds) cs ws) k limit 0 (lent q s)) l copied-front) (j ∙ ap (decisionsOf (sizeOf first) P) l) (j′ ∙ ap (marginsOf (sizeOf first) P) l′))
+            rw copied-rest (run-leaves o P x u x′ (a ∙ ap₂ (λ k q. goOn (graph first g (take m ds) cs ws) k limit 0 (lent q s)) l copied-front) (j ∙ ap (decisionsOf (sizeOf first) P) l) (j′ ∙ ap (marginsOf (sizeOf first) P) l′))
 
 -- what the reader's answer says of the line
 module _ (s₀ : List ℕ) (h : Header) (e : headerNumbers h ≡ numbersOf (parse s₀)) where
+  pub refused-calls : (f : List ℕ) (b : Buffers) (call : Read Code → After) (k : ℕ) → call (bad k) ≡ record { reply = refusal k; buffers = b } → h ≡ HeaderRefused k
+      → Leaves (call (admitted s₀ f b)) (refusal k) b
+  unfolding admitted
+  refused-calls f b call k o i =
+      let x : call (admitted s₀ f b) ≡ record { reply = refusal k; buffers = b } = ap (λ r. call (admittedUnder r f b)) (header-refused s₀ h e k i) ∙ o in
+      rw x record { replies = refl; symbols-then = refl; costs-then = refl; store-then = refl; margins-then = refl }
+
   pub refused-decodes : (k : ℕ) → h ≡ HeaderRefused k → (f : List ℕ) (b : Buffers) → Decodes s₀ f b (refusal k) b
-  unfolding decoding admitted
-  refused-decodes k i f b =
-      let x : decoding s₀ f b ≡ decodingUnder (bad k) f b = ap (λ r. decodingUnder (admittedUnder r f b) f b) (header-refused s₀ h e k i) in
-      record {
-        replies = sym (ap (λ (a : After). a .reply) x);
-        symbols-then = sym (ap (λ (a : After). a .buffers .symbols) x);
-        costs-then = sym (ap (λ (a : After). a .buffers .costs) x);
-        store-then = sym (ap (λ (a : After). a .buffers .store) x);
-        margins-then = sym (ap (λ (a : After). a .buffers .margins) x);
-      }
+  unfolding decoding
+  refused-decodes k i f b = refused-calls f b (λ r. decodingUnder r f b) k refl i
 
   module _ (first n m g limit : ℕ) (i : h ≡ HeaderRead first n m g limit) where
     pub read : Accepted s₀ first n m g limit
@@ -268,17 +272,14 @@ module _ (s₀ : List ℕ) (h : Header) (e : headerNumbers h ≡ numbersOf (pars
       pub coded-room : (A S : List ℕ) → length A ≡ 2048 → length S ≡ 2048 → CodeRoom first N M G limit ds cs ws A S
       coded-room A S a b = record { code = read .code; coded = coded; arrived = omega arith; sent = omega arith }
 
+      pub coded-calls : (f : List ℕ) (b : Buffers) (call : Read Code → After) (r : Reply) (b′ : Buffers)
+          → ((C : Code) → Coded C first N M G limit ds cs ws → Leaves (call (admittedUnder (good C) f b)) r b′)
+          → Leaves (call (admitted s₀ f b)) r b′
+      unfolding admitted
+      coded-calls f b call r b′ L = rw (read .parsed) (L (read .code) coded)
+
       pub coded-decodes : (f : List ℕ) (b : Buffers) (r : Reply) (b′ : Buffers)
           → ((C : Code) → Coded C first N M G limit ds cs ws → Leaves (decodingOf C f b) r b′)
           → Decodes s₀ f b r b′
-      unfolding decoding admitted
-      coded-decodes f b r b′ L =
-          let x : decoding s₀ f b ≡ decodingOf (read .code) f b = ap (λ a. decodingUnder (admittedUnder a f b) f b) (read .parsed) in
-          let v = L (read .code) coded in
-          record {
-            replies = v .replies ∙ sym (ap (λ (a : After). a .reply) x);
-            symbols-then = v .symbols-then ∙ sym (ap (λ (a : After). a .buffers .symbols) x);
-            costs-then = v .costs-then ∙ sym (ap (λ (a : After). a .buffers .costs) x);
-            store-then = v .store-then ∙ sym (ap (λ (a : After). a .buffers .store) x);
-            margins-then = v .margins-then ∙ sym (ap (λ (a : After). a .buffers .margins) x);
-          }
+      unfolding decoding
+      coded-decodes f b r b′ L = coded-calls f b (λ r. decodingUnder r f b) r b′ L

@@ -5,9 +5,10 @@ pub mod Turns
 pub mod Passes
 pub mod Places
 pub mod Runs
-pub mod Stopping
+pub mod Retests
 pub mod Advances
 pub mod Resuming
 pub mod Decoded
+pub mod EarlyDecoded
 pub mod Steps
 pub mod TwoCalls

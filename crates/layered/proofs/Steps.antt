@@ -11,7 +11,7 @@ use lib.ListN.{length, take, drop}
 use Rattle.trellis.specs.Lists.{pick, allTo}
 use Rattle.trellis.specs.Rules.{powerOf, sizeOf}
 use Rattle.machine.specs.CodeLine.{Read, good, bad, Code, numbersOf, parse, size}
-use Rattle.machine.specs.Machine.{symbols, margins, settled, used}
+use Rattle.machine.specs.Machine.{settled, used}
 use Rattle.machine.specs.Lent.{pass}
 use Rattle.machine.specs.Decoding.{Buffers, lending, holding, admittedUnder, admitted, Room}
 use Rattle.machine.specs.Moments.{Stage as Ends, moment, Moves, loadingUnder, loading, costsOk, storeOk, resumableUnder, resumable, iteratingUnder, iterating, further}
@@ -28,9 +28,9 @@ use Rattle.layered.specs.Parity.{decisionsOf, marginsOf}
 use Rattle.layered.specs.Passes.{Graph, graph, lent, passOver, testOn, Running}
 use Rattle.layered.specs.Frames.{faultOf, Coded}
 use Rattle.layered.specs.Stages.{ends, stageAfter, loadingOf, iteratingOf, costsIn, formedAt, recordsIn, resumeFault, FormRoom, StoreRoom, ResumeRoom, TestRoom, StepRoom, Loaded, LoadRoom}
-use Rattle.layered.proofs.Passes.{place-is, symbols-are, margins-are, settled-is, tables-pass, all-ext}
+use Rattle.layered.proofs.Passes.{place-is, settled-is, tables-pass, all-ext}
 use Rattle.layered.proofs.Runs.{pass-running, running-columns, test-room}
-use Rattle.layered.proofs.Decoded.{by-fault, coded-tables, degree-count, fault-is, rooms, frame-length, start-room, copied-front, read, coded}
+use Rattle.layered.proofs.Decoded.{by-fault, coded-tables, holds-then, degree-count, fault-is, rooms, frame-length, start-room, copied-front, read, coded}
 
 -- the three stages that are no refusal
 module _ (t limit : ℕ) where
@@ -63,17 +63,6 @@ module _ (C : Code) (first n m g limit : ℕ) (ds cs ws : List ℕ) (H : Coded C
   settled-there P =
       let E = coded-tables C first n m g limit ds cs ws H in
       rw (H .columns-is, E .first-is, E .degrees-is) (settled-is C cs ws (H .tabled .columns) (H .tabled .weights) P)
-
-  symbols-there : (P : List ℕ) → decisionsOf (sizeOf first) P n ≡ symbols C P
-  symbols-there P = rw (H .columns-is, H .first-is) (symbols-are C cs ws (H .tabled .columns) (H .tabled .weights) P)
-
-  margins-there : (P : List ℕ) → marginsOf (sizeOf first) P n ≡ margins C P
-  margins-there P = rw (H .columns-is, H .first-is) (margins-are C cs ws (H .tabled .columns) (H .tabled .weights) P)
-
-  -- what the buffers hold of costs P
-  holds-then : (P s y c v x x′ : List ℕ) (w : ℕ) → w ≡ C .columns * size C → x ≡ decisionsOf (sizeOf first) P n → x′ ≡ marginsOf (sizeOf first) P n
-      → lending (x ++ drop n y) (P ++ drop w c) s (x′ ++ drop n v) ≡ holding C P s (lending y c s v)
-  holds-then P s y c v x x′ w e i j = rw (i, j, symbols-there P, margins-there P, e, H .columns-is)
 
   -- every check's record may be tested
   pub form-room : (s : List ℕ) → used C ≤ length s → StoreRoom first (take m ds) ws s
@@ -180,7 +169,7 @@ module _ (C : Code) (first n m g limit : ℕ) (ds cs ws : List ℕ) (H : Coded C
             let t : found ≡ settled C f = o ∙ rw (front, l) (settled-there f) in
             let u : leb limit 0 ≡ false = rw (H .limit-is) (lt-leb (C .limit) 0 (H .good .limit-low)) in
             let h : lending (x ++ drop n y) (f′ ++ drop (length f) c) s (x′ ++ drop n v) ≡ holding C f s b =
-            rw i (holds-then f s y c v x x′ (length f) width (p ∙ rw (front, l)) (p′ ∙ rw (front, l′))) in
+            rw i (holds-then C first n m g limit ds cs ws H f s s y c v x x′ (length f) width (p ∙ rw (front, l)) (p′ ∙ rw (front, l′))) in
             rw (a, h) record { staged = q ∙ rw (t, u); symbols-then = refl; costs-then = refl; store-then = refl; margins-then = refl }
 
       pub resume-room : ResumeRoom first n (take m ds) ws c s
@@ -233,7 +222,7 @@ module _ (C : Code) (first n m g limit : ℕ) (ds cs ws : List ℕ) (H : Coded C
               p ∙ tables-pass C first g (take m ds) cs ws (coded-tables C first n m g limit ds cs ws H) (eqb t 0) (lent (take (length f) c) s) ∙ ap (λ k. pass C (eqb t 0) (lent (take k c) s)) width in
               let t₁ : found ≡ settled C P = i ∙ rw l (settled-there P) in
               let e₁ : lending (x ++ drop n y) (P ++ drop (length f) c) u (x′ ++ drop n v) ≡ holding C P u b =
-              rw (q, q′, l, l′, symbols-there P, margins-there P, width, H .columns-is) in
+              holds-then C first n m g limit ds cs ws H P u s y c v x x′ (length f) width (q ∙ rw l) (q′ ∙ rw l′) in
               rw (a, ← g₁, e₁) record { staged = d ∙ rw (t₁, H .limit-is); symbols-then = refl; costs-then = refl; store-then = refl; margins-then = refl }
 
 -- what the reader's answer says of the line

@@ -1,4 +1,4 @@
--- Stopping inside an iteration over the tables, in the shape of the code's loop, and what its functions ask. proofs/Stopping.antt shows that it is stopLent of
+-- Stopping inside an iteration over the tables, in the shape of the code's loop, and what its functions ask. proofs/Advances.antt shows that it is stopLent of
 -- the machine.
 use mathlib.Core.Path.{_≡_}
 use mathlib.Core.Bool.{false}

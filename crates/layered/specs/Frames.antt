@@ -6,10 +6,10 @@ use lib.Dec.{eqb, ltb}
 use lib.ListN.{length}
 use Rattle.trellis.specs.Lists.{pick, allTo}
 use Rattle.trellis.specs.Rules.{sizeOf}
-use Rattle.trellis.specs.Reply.{Reply}
 use Rattle.machine.specs.CodeLine.{good, Code, zeroIn}
 use Rattle.machine.specs.Tables.{Tabled}
 use Rattle.machine.specs.Decoding.{Buffers, After, admittedUnder, decodingUnder}
+use Rattle.machine.specs.Early.{earlyUnder}
 use Rattle.machine.proofs.Lines.{GoodCode}
 use Rattle.layered.specs.Passes.{placeAt}
 
@@ -30,6 +30,10 @@ faultOf first n ds f y c s v =
 abbrev pub decodingOf : Code → List ℕ → Buffers → After
 decodingOf C f b = decodingUnder (admittedUnder (good C) f b) f b
 
+-- and one that may stop inside an iteration
+abbrev pub earlyOf : Code → List ℕ → Buffers → After
+earlyOf C f b = earlyUnder (admittedUnder (good C) f b) f b
+
 -- the numbers of an accepted code, and tables that start with its own
 pub record Coded (C : Code) (first n m g limit : ℕ) (ds cs ws : List ℕ) : Type 0 where
   pub good : GoodCode C
@@ -46,11 +50,3 @@ pub record CodeRoom (first n m g limit : ℕ) (ds cs ws A S : List ℕ) : Type 0
   pub coded : Coded code first n m g limit ds cs ws
   pub arrived : 2048 ≤ length A
   pub sent : 2048 ≤ length S
-
--- the reply and the four buffers are those of a decoding
-pub record Leaves (A : After) (reply : Reply) (b : Buffers) : Type 0 where
-  pub replies : reply ≡ A .reply
-  pub symbols-then : b .symbols ≡ A .buffers .symbols
-  pub costs-then : b .costs ≡ A .buffers .costs
-  pub store-then : b .store ≡ A .buffers .store
-  pub margins-then : b .margins ≡ A .buffers .margins

@@ -159,3 +159,87 @@ fn go_on(
         here = place::around(next, count);
     }
 }
+
+// "M times I".
+fn most_updates(count: usize, limit: u8) -> u16
+    requires { ⌜ count ≤ 128 ⌝ }
+    ensures { λ r. ⌜ r ≡ count * limit ⌝ }
+{
+    (count as u16) * num::wide(limit)
+}
+
+// The machine on the costs in `costs`, "tested at the start and after each check update".
+fn run(
+    first: u8,
+    g: u16,
+    limit: u8,
+    degrees: &[u8],
+    columns: &[u16],
+    weights: &[u8],
+    symbols: &mut [u8],
+    costs: &mut [u16],
+    store: &mut [u8],
+    arrived: &mut [u8],
+    sent: &mut [u8],
+) -> Stopped
+    requires { ⌜ RunRoom (graph first g (now degrees) (now columns) (now weights)) true (now costs) (now store) (now symbols) × ((2048 ≤ length (now arrived)) × (2048 ≤ length (now sent))) ⌝ }
+    ensures { λ r. ⌜ haltedIn r (lent (now (costs .exit)) (now (store .exit))) ≡ stopOn (graph first g (now (degrees .entry)) (now (columns .entry)) (now (weights .entry))) (length (now (symbols .entry))) (length (now (degrees .entry)) * limit) 0 (lent (now (costs .entry)) (now (store .entry))) ⌝ }
+    ensures { λ _. ⌜ now (symbols .exit) ≡ decisionsOf (sizeOf first) (now (costs .exit)) (length (now (symbols .entry))) ⌝ }
+{
+    let p = rules::power(first);
+    if parity::settled(p, degrees, columns, weights, costs, symbols) {
+        return Stopped::Found(0);
+    }
+    let most = most_updates(degrees.len(), limit);
+    go_on(
+        first,
+        g,
+        most,
+        degrees,
+        columns,
+        weights,
+        symbols,
+        costs,
+        store,
+        arrived,
+        sent,
+    )
+}
+
+// The same, with the margins of the last decisions.
+pub fn run_to_margins(
+    first: u8,
+    g: u16,
+    limit: u8,
+    degrees: &[u8],
+    columns: &[u16],
+    weights: &[u8],
+    symbols: &mut [u8],
+    costs: &mut [u16],
+    store: &mut [u8],
+    margins: &mut [u16],
+    arrived: &mut [u8],
+    sent: &mut [u8],
+) -> Stopped
+    requires { ⌜ RunRoom (graph first g (now degrees) (now columns) (now weights)) true (now costs) (now store) (now symbols) × ((2048 ≤ length (now arrived)) × (2048 ≤ length (now sent))) ⌝ }
+    requires { ⌜ length (now margins) ≡ length (now symbols) ⌝ }
+    ensures { λ r. ⌜ haltedIn r (lent (now (costs .exit)) (now (store .exit))) ≡ stopOn (graph first g (now (degrees .entry)) (now (columns .entry)) (now (weights .entry))) (length (now (symbols .entry))) (length (now (degrees .entry)) * limit) 0 (lent (now (costs .entry)) (now (store .entry))) ⌝ }
+    ensures { λ _. ⌜ now (symbols .exit) ≡ decisionsOf (sizeOf first) (now (costs .exit)) (length (now (symbols .entry))) ⌝ }
+    ensures { λ _. ⌜ now (margins .exit) ≡ marginsOf (sizeOf first) (now (costs .exit)) (length (now (margins .entry))) ⌝ }
+{
+    let o = run(
+        first,
+        g,
+        limit,
+        degrees,
+        columns,
+        weights,
+        symbols,
+        costs,
+        store,
+        arrived,
+        sent,
+    );
+    parity::margins(costs, rules::size(first), margins);
+    o
+}

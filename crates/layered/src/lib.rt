@@ -9,14 +9,16 @@ mod parity;
 mod place;
 mod resume;
 pub mod stages;
+mod stopping;
 mod update;
 
 ghost use mathlib.Core.Path.{_≡_};
 ghost use Prim.Native.Nat.{_≤_};
 ghost use Rattle.machine.specs.CodeLine.{parse, numbersOf, columnsRead};
 ghost use Rattle.machine.specs.Decoding.{lending, Decodes};
+ghost use Rattle.machine.specs.Early.{DecodesEarly};
 ghost use Rattle.machine.specs.Moments.{Moves, loading, iterating};
-ghost use Rattle.layered.specs.Answers.{answerReply};
+ghost use Rattle.layered.specs.Answers.{answerReply, earlyReply};
 ghost use Rattle.layered.specs.Stages.{stageOf};
 
 // How a run of the machine ended, with its iterations.
@@ -89,6 +91,45 @@ pub fn decode_counted(
 pub enum Stopped {
     Found(u16),
     NotFound(u16),
+}
+
+// Where such a decoding stopped, or the number of the refusal.
+pub enum EarlyAnswer {
+    Decoded(Stopped),
+    Refused(u8),
+}
+
+// Decodes a frame as decode does, but stops "as soon as the decisions satisfy all checks, tested at the start and after each check update": found or
+// not found with the check updates made. Symbols, margins, costs and the records of updated checks are those of that moment; checks not yet updated keep
+// the old bytes of their place in the store. Refuses as decode does.
+pub fn decode_early(
+    code: &[u8],
+    frame: &[u8],
+    symbols: &mut [u8],
+    costs: &mut [u16],
+    store: &mut [u8],
+    margins: &mut [u16],
+) -> EarlyAnswer
+    ensures { λ r. ⌜ DecodesEarly (now (code .entry)) (now (frame .entry)) (lending (now (symbols .entry)) (now (costs .entry)) (now (store .entry)) (now (margins .entry))) (earlyReply r) (lending (now (symbols .exit)) (now (costs .exit)) (now (store .exit)) (now (margins .exit))) ⌝ }
+{
+    let mut degrees = [0u8; 128];
+    let mut columns = [0u16; 1024];
+    let mut weights = [0u8; 1024];
+    let mut arrived = [0u8; 2048];
+    let mut sent = [0u8; 2048];
+    stopping::decode_early_in(
+        code,
+        frame,
+        symbols,
+        costs,
+        store,
+        margins,
+        &mut degrees,
+        &mut columns,
+        &mut weights,
+        &mut arrived,
+        &mut sent,
+    )
 }
 
 // Where a load or an iteration ended.

@@ -77,13 +77,17 @@ decodingUnder (good C) f b =
 unfoldable pub decoding : List ℕ → List ℕ → Buffers → After
 decoding code f b = decodingUnder (admitted code f b) f b
 
+-- the reply and the four buffers are these
+pub record Leaves (A : After) (reply : Reply) (b : Buffers) : Type 0 where
+  pub replies : reply ≡ A .reply
+  pub symbols-then : b .symbols ≡ A .buffers .symbols
+  pub costs-then : b .costs ≡ A .buffers .costs
+  pub store-then : b .store ≡ A .buffers .store
+  pub margins-then : b .margins ≡ A .buffers .margins
+
 -- what a call of decode promises: its reply, and each buffer afterwards
-pub record Decodes (code frame : List ℕ) (b : Buffers) (reply : Reply) (b′ : Buffers) : Type 0 where
-  pub replies : reply ≡ decoding code frame b .reply
-  pub symbols-then : b′ .symbols ≡ decoding code frame b .buffers .symbols
-  pub costs-then : b′ .costs ≡ decoding code frame b .buffers .costs
-  pub store-then : b′ .store ≡ decoding code frame b .buffers .store
-  pub margins-then : b′ .margins ≡ decoding code frame b .buffers .margins
+abbrev pub Decodes : List ℕ → List ℕ → Buffers → Reply → Buffers → Type 0
+Decodes code frame b reply b′ = Leaves (decoding code frame b) reply b′
 
 -- "A frame is accepted under a code line when none of 5 to 13 applies to the two." (SPEC 5.3)
 pub record Accepts (code frame : List ℕ) (C : Code) : Type 0 where

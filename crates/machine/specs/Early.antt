@@ -13,7 +13,7 @@ use Rattle.trellis.specs.Reply.{Reply, refusal}
 use Rattle.machine.specs.CodeLine.{Read, good, bad, Code, size, rule, check, parse}
 use Rattle.machine.specs.Machine.{none, made, State, lastOf, columnsIn, settled, update, iteration, start, place, used, held}
 use Rattle.machine.specs.Machine.{Status, found, notFound}
-use Rattle.machine.specs.Decoding.{Buffers, After, outcome, holding, admitted, decoding, Decodes, Accepts, Room, LeastSent}
+use Rattle.machine.specs.Decoding.{Buffers, After, outcome, holding, admitted, decoding, Leaves, Decodes, Accepts, Room, LeastSent}
 
 -- "the machine's sequence of updates": the state after the first u of them. The checks come in code order, iteration after iteration, so
 -- update k, from 0, is of check k mod M. No update reads t, which stays 0 here
@@ -64,12 +64,8 @@ unfoldable pub decodingEarly : List ℕ → List ℕ → Buffers → After
 decodingEarly code f b = earlyUnder (admitted code f b) f b
 
 -- what a call promises: its reply, and each buffer afterwards
-pub record DecodesEarly (code frame : List ℕ) (b : Buffers) (reply : Reply) (b′ : Buffers) : Type 0 where
-  pub replies : reply ≡ decodingEarly code frame b .reply
-  pub symbols-then : b′ .symbols ≡ decodingEarly code frame b .buffers .symbols
-  pub costs-then : b′ .costs ≡ decodingEarly code frame b .buffers .costs
-  pub store-then : b′ .store ≡ decodingEarly code frame b .buffers .store
-  pub margins-then : b′ .margins ≡ decodingEarly code frame b .buffers .margins
+abbrev pub DecodesEarly : List ℕ → List ℕ → Buffers → Reply → Buffers → Type 0
+DecodesEarly code frame b reply b′ = Leaves (decodingEarly code frame b) reply b′
 
 -- the sequence is the machine's: M updates are one iteration, so after t times M of them costs and records are those after t iterations
 abbrev pub Whole-iterations : Type 0

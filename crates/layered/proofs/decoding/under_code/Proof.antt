@@ -1,11 +1,12 @@
 -- Each refusal by its number; after them the run starts on the copied frame, and its equations give all five of the promise's.
-use mathlib.Core.Path.{_≡_, sym, _∙_}
+use mathlib.Core.Path.{_≡_, refl, sym, _∙_}
 use Prim.Native.Nat.{_≤_}
 use native.Mathlib.Omega.{arith}
 use borrow.Author.Needs.{needs}
 use lib.ListN.{length, take, length-take}
 use lib.Seq.{length-take-le}
 use Rattle.machine.specs.CodeLine.{Code}
+use Rattle.machine.specs.Decoding.{lending, decodingUnder}
 use Rattle.layered.proofs.Columns.{front-room}
 use Rattle.layered.proofs.Decoded.{degree-slice, few, refused-leaves, fits, copied-room, copied-leaves}
 use Rattle.layered.proofs.decoding.under_code.Statement.{statement}
@@ -50,7 +51,7 @@ returns : tie.Need-returns
 returns c =
     let k = c .before in
     let a = start k .args in
-    λ (C : Code) H. refused-leaves C (a .first) (a .n) (a .m) (a .g) (a .limit) (a .degrees .now) (a .columns .now) (a .weights .now) H (a .frame .now) (a .symbols .now) (a .costs .now) (a .store .now) (a .margins .now) (k .fault .result) (k .fault .ensures) (c .if1 .taken)
+    λ (C : Code) H. refused-leaves C (a .first) (a .n) (a .m) (a .g) (a .limit) (a .degrees .now) (a .columns .now) (a .weights .now) H (a .frame .now) (a .symbols .now) (a .costs .now) (a .store .now) (a .margins .now) (k .fault .result) (k .fault .ensures) (λ r. decodingUnder r (a .frame .now) (lending (a .symbols .now) (a .costs .now) (a .store .now) (a .margins .now))) refl (c .if1 .taken)
 
 slice-relend-prefix-copy : tie.Need-slice-relend-prefix-copy
 slice-relend-prefix-copy c = omega (arith, room (c .before) (c .if1 .left))

@@ -3,7 +3,7 @@ use mathlib.Core.Path.{refl, _≡_}
 use Prim.Native.Nat.{ℕ}
 use native.Mathlib.Omega.{arith}
 use borrow.Author.Needs.{needs}
-use Rattle.layered.proofs.Stopping.{decided-same, decided-other}
+use Rattle.layered.proofs.Retests.{decided-same, decided-other}
 use Rattle.layered.proofs.early.decide_at.Statement.{statement}
 use Rattle.layered.proofs.early.decide_at.Tie as tie
 

@@ -1,7 +1,7 @@
 -- The columns decided again give the decisions of these costs; without a new symbol the test is what it was.
 use native.Mathlib.Omega.{arith}
 use borrow.Author.Needs.{needs}
-use Rattle.layered.proofs.Stopping.{edges-inside, again-asks, again-decided, again-same, again-room, again-tested}
+use Rattle.layered.proofs.Retests.{edges-inside, again-asks, again-decided, again-same, again-room, again-tested}
 use Rattle.layered.proofs.early.tested_again.Statement.{statement}
 use Rattle.layered.proofs.early.tested_again.Tie as tie
 

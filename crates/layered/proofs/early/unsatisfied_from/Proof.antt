@@ -2,7 +2,7 @@
 use mathlib.Core.Path.{refl}
 use native.Mathlib.Omega.{arith}
 use borrow.Author.Needs.{needs}
-use Rattle.layered.proofs.Stopping.{not-behind, not-before, none-not}
+use Rattle.layered.proofs.Retests.{not-behind, not-before, none-not}
 use Rattle.layered.proofs.early.unsatisfied_from.Statement.{statement}
 use Rattle.layered.proofs.early.unsatisfied_from.Tie as tie
 

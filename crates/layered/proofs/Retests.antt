@@ -1,4 +1,4 @@
--- Stopping inside an iteration: deciding a check's columns again gives the decisions after its update, and the loop over the updates is the machine's.
+-- Deciding the columns of an updated check again gives the decisions after it, and the test from a check on is the whole test.
 use mathlib.Core.Path.{_≡_, refl, sym, ap, ap₂, _∙_}
 use mathlib.Core.Bool.{Bool, false}
 use mathlib.Core.Logic.{_≢_}

@@ -1,0 +1,114 @@
+// Decoding that may stop inside an iteration, over lent tables and lists to work in: the code is read, then its refusals, or the run.
+use crate::EarlyAnswer;
+use crate::early;
+use crate::frame;
+use crate::num;
+use codeline::Header;
+ghost use mathlib.Core.Path.{_≡_};
+ghost use Rattle.machine.specs.CodeLine.{Code};
+ghost use Rattle.machine.specs.Decoding.{lending, Leaves};
+ghost use Rattle.machine.specs.Early.{DecodesEarly};
+ghost use Rattle.layered.specs.Answers.{earlyReply};
+ghost use Rattle.layered.specs.Frames.{earlyOf, Coded, CodeRoom};
+
+// "It refuses as decoding does." Nothing is written before the last refusal has been tested.
+fn under_code(
+    first: u8,
+    n: usize,
+    m: usize,
+    g: u16,
+    limit: u8,
+    degrees: &[u8],
+    columns: &[u16],
+    weights: &[u8],
+    frame: &[u8],
+    symbols: &mut [u8],
+    costs: &mut [u16],
+    store: &mut [u8],
+    margins: &mut [u16],
+    arrived: &mut [u8],
+    sent: &mut [u8],
+) -> EarlyAnswer
+    requires { ⌜ CodeRoom first n m g limit (now degrees) (now columns) (now weights) (now arrived) (now sent) ⌝ }
+    ensures { λ r. ⌜ ((C : Code) → Coded C first n m g limit (now (degrees .entry)) (now (columns .entry)) (now (weights .entry)) → Leaves (earlyOf C (now (frame .entry)) (lending (now (symbols .entry)) (now (costs .entry)) (now (store .entry)) (now (margins .entry)))) (earlyReply r) (lending (now (symbols .exit)) (now (costs .exit)) (now (store .exit)) (now (margins .exit)))) ⌝ }
+{
+    let k = frame::fault(
+        first,
+        n,
+        &degrees[..m],
+        frame,
+        symbols,
+        costs,
+        store,
+        margins,
+    );
+    if k != 0 {
+        return EarlyAnswer::Refused(k);
+    }
+    let w = frame.len();
+    frame::copy(frame, &mut costs[..w]);
+    let o = early::run_to_margins(
+        first,
+        g,
+        limit,
+        &degrees[..m],
+        columns,
+        weights,
+        &mut symbols[..n],
+        &mut costs[..w],
+        store,
+        &mut margins[..n],
+        arrived,
+        sent,
+    );
+    EarlyAnswer::Decoded(o)
+}
+
+// Over the tables and lists of decode_early.
+pub fn decode_early_in(
+    code: &[u8],
+    frame: &[u8],
+    symbols: &mut [u8],
+    costs: &mut [u16],
+    store: &mut [u8],
+    margins: &mut [u16],
+    degrees: &mut [u8; 128],
+    columns: &mut [u16; 1024],
+    weights: &mut [u8; 1024],
+    arrived: &mut [u8; 2048],
+    sent: &mut [u8; 2048],
+) -> EarlyAnswer
+    ensures { λ r. ⌜ DecodesEarly (now (code .entry)) (now (frame .entry)) (lending (now (symbols .entry)) (now (costs .entry)) (now (store .entry)) (now (margins .entry))) (earlyReply r) (lending (now (symbols .exit)) (now (costs .exit)) (now (store .exit)) (now (margins .exit))) ⌝ }
+{
+    match codeline::code_tables(code, degrees, columns, weights) {
+        Header::Refused(k) => EarlyAnswer::Refused(k),
+        Header::Read {
+            first,
+            columns: n,
+            checks: m,
+            scale: g,
+            limit,
+        } => {
+            let n = num::long(n);
+            let m = num::index(m);
+            let g = num::wide(g);
+            under_code(
+                first,
+                n,
+                m,
+                g,
+                limit,
+                degrees,
+                columns,
+                weights,
+                frame,
+                symbols,
+                costs,
+                store,
+                margins,
+                arrived,
+                sent,
+            )
+        }
+    }
+}
