@@ -3,7 +3,9 @@ use channels::Served;
 use checknode::Element;
 use checknode::Written;
 use layered::Answer;
+use layered::EarlyAnswer;
 use layered::Outcome;
+use layered::Stopped;
 use window::Registers;
 ghost use mathlib.Core.Path.{_≡_};
 ghost use Prim.Native.Nat.{_≤_};
@@ -11,15 +13,16 @@ ghost use Rattle.checknode.specs.Answers.{elementReply, productReply, writtenRe
 ghost use Rattle.display.specs.Answers.{displayReply, displayLeaves};
 ghost use Rattle.machine.specs.Line.{lineReply, lineLeaves};
 ghost use Rattle.machine.specs.Decoding.{lending, decoding};
+ghost use Rattle.machine.specs.Early.{decodingEarly};
 ghost use Rattle.machine.specs.Encoding.{encoding};
 ghost use Rattle.machine.specs.Combining.{combining};
-ghost use Rattle.layered.specs.Answers.{answerReply};
+ghost use Rattle.layered.specs.Answers.{answerReply, earlyReply};
 ghost use Rattle.trellis.specs.Lists.{pick};
 ghost use Rattle.window.specs.Window.{read, interrupt, write};
 ghost use Rattle.window.specs.Meaning.{bytesOf, windowOf};
 ghost use Rattle.channels.specs.Channels.{channels};
 ghost use Rattle.channels.specs.Layouts.{Gives};
-ghost use Rattle.petsivola.specs.Packed.{Packs, outcomeReply};
+ghost use Rattle.petsivola.specs.Packed.{Packs, outcomeReply, stoppedReply};
 
 fn of_element(e: Element) -> u32
     ensures { λ r. ⌜ Packs r (elementReply e) ⌝ }
@@ -55,6 +58,24 @@ fn of_answer(a: Answer) -> u32
     match a {
         Answer::Decoded(o) => of_outcome(o),
         Answer::Refused(k) => (k as u32) * 65536,
+    }
+}
+
+fn of_stopped(o: Stopped) -> u32
+    ensures { λ r. ⌜ Packs r (stoppedReply o) ⌝ }
+{
+    match o {
+        Stopped::Found(u) => u as u32,
+        Stopped::NotFound(u) => 65536 + (u as u32),
+    }
+}
+
+fn of_early(a: EarlyAnswer) -> u32
+    ensures { λ r. ⌜ Packs r (earlyReply a) ⌝ }
+{
+    match a {
+        EarlyAnswer::Decoded(o) => of_stopped(o),
+        EarlyAnswer::Refused(k) => (k as u32) * 65536,
     }
 }
 
@@ -121,6 +142,24 @@ pub extern "C" fn petsivola_decode(
     ensures { λ _. ⌜ now (margins .exit) ≡ decoding (now (code .entry)) (now (frame .entry)) (lending (now (symbols .entry)) (now (costs .entry)) (now (store .entry)) (now (margins .entry))) .buffers .margins ⌝ }
 {
     of_answer(layered::decode(code, frame, symbols, costs, store, margins))
+}
+
+#[no_mangle]
+pub extern "C" fn petsivola_decode_early(
+    code: &[u8],
+    frame: &[u8],
+    symbols: &mut [u8],
+    costs: &mut [u16],
+    store: &mut [u8],
+    margins: &mut [u16],
+) -> u32
+    ensures { λ r. ⌜ Packs r (decodingEarly (now (code .entry)) (now (frame .entry)) (lending (now (symbols .entry)) (now (costs .entry)) (now (store .entry)) (now (margins .entry))) .reply) ⌝ }
+    ensures { λ _. ⌜ now (symbols .exit) ≡ decodingEarly (now (code .entry)) (now (frame .entry)) (lending (now (symbols .entry)) (now (costs .entry)) (now (store .entry)) (now (margins .entry))) .buffers .symbols ⌝ }
+    ensures { λ _. ⌜ now (costs .exit) ≡ decodingEarly (now (code .entry)) (now (frame .entry)) (lending (now (symbols .entry)) (now (costs .entry)) (now (store .entry)) (now (margins .entry))) .buffers .costs ⌝ }
+    ensures { λ _. ⌜ now (store .exit) ≡ decodingEarly (now (code .entry)) (now (frame .entry)) (lending (now (symbols .entry)) (now (costs .entry)) (now (store .entry)) (now (margins .entry))) .buffers .store ⌝ }
+    ensures { λ _. ⌜ now (margins .exit) ≡ decodingEarly (now (code .entry)) (now (frame .entry)) (lending (now (symbols .entry)) (now (costs .entry)) (now (store .entry)) (now (margins .entry))) .buffers .margins ⌝ }
+{
+    of_early(layered::decode_early(code, frame, symbols, costs, store, margins))
 }
 
 #[no_mangle]

@@ -7,8 +7,6 @@ use Rattle.layered.proofs.Retests.{decided-same, decided-other}
 use Rattle.layered.proofs.early.decide_at.Statement.{statement}
 use Rattle.layered.proofs.early.decide_at.Tie as tie
 
-
-
 mul-a : tie.Need-mul-a
 mul-a c = search needs
 
