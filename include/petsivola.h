@@ -3,8 +3,8 @@
  * C99. Link with libpetsivola.a (x86-64 Linux). No heap, no files, no state between calls, so calls
  * from several threads need no lock.
  *
- * Stack of a call, as measured: decode, window_write and channels 30 KB, check 19 KB, sweep 36 KB,
- * expand and display 5 KB, encode 9 KB, combine 4 KB, product and line under 1 KB.
+ * Stack of a call, as measured: decode, decode_early, window_write and channels 30 KB, check 19 KB,
+ * sweep 36 KB, expand and display 5 KB, encode 9 KB, combine 4 KB, product and line under 1 KB.
  *
  * Every input is answered: each function ends, stays inside its buffers, and refuses for the numbered
  * reasons below and no others. A refused call changes no byte. An accepted call fills the first bytes
@@ -15,8 +15,8 @@
  * buffer of the call.
  *
  * The result is one number: PETSIVOLA_NUMBER(result) says what happened, PETSIVOLA_VALUE(result) is
- * the product, the bytes written or the iterations t; it is 0 on a refusal. The register window answers
- * in registers, and petsivola_channels in a struct.
+ * the product, the bytes written, the iterations t or the check updates; it is 0 on a refusal. The
+ * register window answers in registers, and petsivola_channels in a struct.
  *
  * The first byte of a code line, "first" below, gives the field, the number of deviations and the
  * edition. Its low hexadecimal digit is p, 2 to 6: the field has q = 2^p elements. What a check sends
@@ -44,12 +44,12 @@ extern "C" {
 /* What happened. */
 enum petsivola_number {
     PETSIVOLA_ACCEPTED = 0,
-    PETSIVOLA_FOUND = 0,            /* decode: the symbols satisfy every check */
-    PETSIVOLA_NOT_FOUND = 1,        /* decode: they do not after I iterations */
+    PETSIVOLA_FOUND = 0,            /* decode, decode_early: the symbols satisfy every check */
+    PETSIVOLA_NOT_FOUND = 1,        /* decode, decode_early: they do not after I iterations */
 
     /* refusals caused by the caller */
-    PETSIVOLA_SHORT_BUFFER = 2,     /* decode's, channels' or encode's symbols, or the out of
-                                       another call too short */
+    PETSIVOLA_SHORT_BUFFER = 2,     /* decode's, decode_early's, channels' or encode's symbols, or
+                                       the out of another call too short */
     PETSIVOLA_SHORT_COSTS = 3,      /* cost buffer shorter than N * q (channels: count * N * q) */
     PETSIVOLA_SHORT_STORE = 4,      /* record buffer or store too short */
     /* by the code line's writer */
@@ -79,7 +79,7 @@ enum petsivola_number {
                                        a higher one */
     /* encode: by the message's writer */
     PETSIVOLA_MESSAGE = 18,         /* message length is not N - M, or a symbol not below q */
-    /* decode, window, channels: by the caller */
+    /* decode, decode_early, window, channels: by the caller */
     PETSIVOLA_SHORT_MARGINS = 19,   /* margin buffer shorter than N (channels: count * N) */
     /* channels: no refusal, a channel's status */
     PETSIVOLA_SPENT = 20,           /* still running when the allowance was spent */
@@ -152,6 +152,36 @@ uint32_t petsivola_decode(const uint8_t *code, size_t code_len,
                           uint16_t *costs, size_t costs_len,
                           uint8_t *store, size_t store_len,
                           uint16_t *margins, size_t margins_len);
+
+/* Decodes one frame and stops as soon as the decisions satisfy every check, tested at the start and after
+ * each check update. petsivola_decode tests after whole iterations, of M check updates each; this call,
+ * for receivers on a battery, never makes more updates, and may stop inside an iteration.
+ *
+ *   code     the code line, as for petsivola_decode
+ *   frame    N * q costs, as for petsivola_decode: PETSIVOLA_FRAME_LENGTH(first, N), exactly
+ *   symbols  gets the N decisions of the moment at which it stops: at least N
+ *   costs    gets the N * q costs of that moment, 0 to 510: at least PETSIVOLA_FRAME_LENGTH(first, N)
+ *   store    gets the records of the checks that were updated, each in its place. The other checks keep
+ *            the old bytes of theirs: with fewer than M updates only the first records are of this frame,
+ *            as many as there were updates. Wherever it stops: at least
+ *            PETSIVOLA_STORE_LENGTH(first, M, edges)
+ *   margins  gets the N margins of that moment, 0 to 510, as for petsivola_decode: at least
+ *            PETSIVOLA_MARGINS_LENGTH(N)
+ *
+ * Update u, counted from 0, is of check u mod M. It stops at the first moment at which the decisions
+ * satisfy every check, with 0 updates if the first ones do, or else after M * I updates. A frame that
+ * petsivola_decode finds is found, now and then as another word, and one that it does not find may be.
+ *
+ * Number: 0 found, 1 not found, or a refusal; tested in the order of petsivola_decode: 5 to 11 as the
+ * code line is read front to back, 12, 13, 2, 3, 4, 19. Value: the check updates, 0 to M * I, which is at
+ * most 32,640.
+ */
+uint32_t petsivola_decode_early(const uint8_t *code, size_t code_len,
+                                const uint8_t *frame, size_t frame_len,
+                                uint8_t *symbols, size_t symbols_len,
+                                uint16_t *costs, size_t costs_len,
+                                uint8_t *store, size_t store_len,
+                                uint16_t *margins, size_t margins_len);
 
 /* What petsivola_channels answers. Unused channels and a refused call: 0. */
 struct petsivola_served {

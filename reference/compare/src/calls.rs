@@ -5,6 +5,7 @@ mod channels;
 mod check;
 mod combine;
 mod decode;
+mod early;
 mod encode;
 mod expand;
 mod first_byte;
@@ -25,6 +26,7 @@ pub use channels::CHANNELS;
 pub use check::{CHECK, SWEEP};
 pub use combine::COMBINE;
 pub use decode::DECODE;
+pub use early::EARLY;
 pub use encode::ENCODE;
 pub use expand::{DISPLAY, EXPAND};
 pub use line::LINE;
@@ -32,8 +34,8 @@ pub use product::PRODUCT;
 pub use window::WINDOW;
 
 /// Every entry point.
-pub const ENTRY_POINTS: [EntryPoint; 11] = [
-    PRODUCT, CHECK, SWEEP, EXPAND, DISPLAY, LINE, DECODE, ENCODE, WINDOW, CHANNELS, COMBINE,
+pub const ENTRY_POINTS: [EntryPoint; 12] = [
+    PRODUCT, CHECK, SWEEP, EXPAND, DISPLAY, LINE, DECODE, EARLY, ENCODE, WINDOW, CHANNELS, COMBINE,
 ];
 
 /// An entry point and how it is compared.
@@ -72,8 +74,9 @@ impl EntryPoint {
     }
 
     /// Makes the calls that are few enough to be made all: every product, every line of two bytes, a check, a
-    /// sweep, an expansion, a display, a decoding, an encoding, several channels and two frames combined with every first byte,
-    /// every write to a window, and every count of channels.
+    /// sweep, an expansion, a display, a decoding, one that may stop inside an iteration, an encoding, several channels
+    /// and two frames combined with every first byte, the most updates, every write to a window, and every count of
+    /// channels.
     ///
     /// # Errors
     ///

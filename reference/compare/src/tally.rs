@@ -9,9 +9,9 @@ use std::io::{self, Write};
 pub enum Class {
     /// Accepted, in the calls that have no outcome.
     Accepted,
-    /// Found, t = 0.
+    /// Found with no iteration or update.
     FoundAtStart,
-    /// Found, t > 0.
+    /// Found later.
     FoundLater,
     /// Not found.
     NotFound,
@@ -22,9 +22,9 @@ pub enum Class {
 }
 
 impl Class {
-    /// The kind of an answer that has an outcome, from its status and t.
-    pub fn of_outcome(status: u8, t: u8) -> Class {
-        match (status, t) {
+    /// The kind of an answer that has an outcome, from its status and the number of iterations or updates.
+    pub fn of_outcome(status: u8, steps: impl Into<u16>) -> Class {
+        match (status, steps.into()) {
             (0, 0) => Class::FoundAtStart,
             (0, _) => Class::FoundLater,
             _ => Class::NotFound,
@@ -40,7 +40,7 @@ impl fmt::Display for Class {
     fn fmt(&self, formatter: &mut fmt::Formatter<'_>) -> fmt::Result {
         match self {
             Class::Accepted => write!(formatter, "accepted"),
-            Class::FoundAtStart => write!(formatter, "found at t = 0"),
+            Class::FoundAtStart => write!(formatter, "found at the start"),
             Class::FoundLater => write!(formatter, "found later"),
             Class::NotFound => write!(formatter, "not found"),
             Class::Refused(number) => write!(formatter, "refused by {number}"),

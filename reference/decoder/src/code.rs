@@ -3,6 +3,8 @@
 //! for each edge the column (two bytes, high first, below N, rising within the check) and weight."
 //! The first byte is that of document 02, §3 and §5: p in its low digit, k and the edition in the high one.
 
+use std::ops::Range;
+
 use crate::check::DEGREES;
 use crate::field::Field;
 use crate::record;
@@ -93,16 +95,21 @@ impl Code {
             .sum()
     }
 
+    /// The place of each check's record in a store: "the records end to end in code order".
+    pub fn places(&self) -> Vec<Range<usize>> {
+        let mut end = 0;
+        let place = |check: &CheckNode| {
+            let start = end;
+            end += record::length(self.rule(), check.weights.len());
+            start..end
+        };
+        self.checks.iter().map(place).collect()
+    }
+
     /// The records of a store in code order, whether or not they have accepted form; it is long enough.
     pub fn records<'s>(&self, store: &'s [u8]) -> Vec<&'s [u8]> {
-        let mut rest = store;
-        let mut records = Vec::new();
-        for check in &self.checks {
-            let (record, others) = rest.split_at(record::length(self.rule(), check.weights.len()));
-            records.push(record);
-            rest = others;
-        }
-        records
+        let places = self.places().into_iter();
+        places.map(|place| &store[place]).collect()
     }
 
     /// The used parts of a decoding's buffers, in the order of the parameters: symbols, costs, store and

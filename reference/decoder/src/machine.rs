@@ -165,10 +165,12 @@ impl<'a> Machine<'a> {
         for (out, &cost) in costs.iter_mut().zip(self.costs.iter().flatten()) {
             *out = u16::try_from(cost).expect("P is 0 to 510");
         }
-        // With t = 0 no check has a record, so nothing is written here.
-        let records = self.records.iter().flatten().flatten();
-        for (out, &byte) in store.iter_mut().zip(records) {
-            *out = byte;
+        // With t = 0 no check has a record, so nothing is written here. Document 02, §13: "Checks not yet updated keep
+        // the old bytes of their place in the store".
+        for (place, record) in self.code.places().into_iter().zip(&self.records) {
+            if let Some(record) = record {
+                store[place].copy_from_slice(record);
+            }
         }
     }
 

@@ -1,6 +1,6 @@
 //! What a call's result says. The library answers one 32-bit number: document 01's number (0
 //! accepted or found, 1 not found, else the refusal) times 65,536, plus the value (the product, the
-//! bytes written, or t; 0 on a refusal).
+//! bytes written, t, or the check updates; 0 on a refusal).
 
 use crate::refusal::Refusal;
 
@@ -30,6 +30,33 @@ impl Outcome {
     }
 }
 
+/// Where a decoding stopped. Document 02, §13: "It returns the number of check updates, which is at most M times I", so
+/// at most 32,640.
+#[derive(Clone, Copy, Debug, PartialEq, Eq, PartialOrd, Ord, Hash)]
+pub enum Stopped {
+    /// The symbols satisfy every check after this many check updates, and after no fewer.
+    Found(u16),
+    /// The symbols satisfy every check at no moment up to this many check updates, M times I.
+    NotFound(u16),
+}
+
+impl Stopped {
+    /// 0 found, 1 not found, as for an [`Outcome`].
+    pub const fn status(self) -> u8 {
+        match self {
+            Stopped::Found(_) => 0,
+            Stopped::NotFound(_) => 1,
+        }
+    }
+
+    /// The number of check updates.
+    pub const fn updates(self) -> u16 {
+        match self {
+            Stopped::Found(updates) | Stopped::NotFound(updates) => updates,
+        }
+    }
+}
+
 /// The answer of a call whose value is the number of bytes written.
 pub(crate) fn written(result: u32) -> Result<usize, Refusal> {
     match halves(result) {
@@ -51,6 +78,15 @@ pub(crate) fn outcome(result: u32) -> Result<Outcome, Refusal> {
     match halves(result) {
         (0, value) => Ok(Outcome::Found(low_byte(value))),
         (1, value) => Ok(Outcome::NotFound(low_byte(value))),
+        (number, _) => Err(Refusal::from(number)),
+    }
+}
+
+/// The answer of a call whose value is the number of check updates.
+pub(crate) fn stopped(result: u32) -> Result<Stopped, Refusal> {
+    match halves(result) {
+        (0, value) => Ok(Stopped::Found(value)),
+        (1, value) => Ok(Stopped::NotFound(value)),
         (number, _) => Err(Refusal::from(number)),
     }
 }
@@ -89,6 +125,9 @@ mod tests {
         assert_eq!(outcome(0), Ok(Outcome::Found(0)));
         assert_eq!(outcome(0xFF), Ok(Outcome::Found(255)));
         assert_eq!(outcome(0x0001_0003), Ok(Outcome::NotFound(3)));
+        assert_eq!(stopped(0), Ok(Stopped::Found(0)));
+        assert_eq!(stopped(0x7F7F), Ok(Stopped::Found(32_639)));
+        assert_eq!(stopped(0x0001_7F80), Ok(Stopped::NotFound(32_640)));
     }
 
     #[test]
@@ -98,15 +137,20 @@ mod tests {
             assert_eq!(written(result), Err(refusal));
             assert_eq!(element(result), Err(refusal));
             assert_eq!(outcome(result), Err(refusal));
+            assert_eq!(stopped(result), Err(refusal));
         }
     }
 
     #[test]
-    fn status_and_iterations() {
+    fn status_with_iterations_or_updates() {
         assert_eq!(Outcome::Found(7).status(), 0);
         assert_eq!(Outcome::NotFound(7).status(), 1);
         assert_eq!(Outcome::Found(7).iterations(), 7);
         assert_eq!(Outcome::NotFound(255).iterations(), 255);
+        assert_eq!(Stopped::Found(7).status(), 0);
+        assert_eq!(Stopped::NotFound(7).status(), 1);
+        assert_eq!(Stopped::Found(7).updates(), 7);
+        assert_eq!(Stopped::NotFound(32_640).updates(), 32_640);
     }
 
     /// No result makes the wrapper panic, not even one that the proved library never gives.
@@ -117,6 +161,7 @@ mod tests {
             assert_eq!(written(result).is_ok(), number == 0);
             assert_eq!(element(result).is_ok(), number == 0);
             assert_eq!(outcome(result).is_ok(), number <= 1);
+            assert_eq!(stopped(result).is_ok(), number <= 1);
         }
     }
 }

@@ -19,9 +19,10 @@
 //! | [`display`] | the symbols that a record urges its columns towards | 6, 9, 11, 16, 2 |
 //! | [`line`] | the bytes of a line of hexadecimal digits | 15, 14, 2 |
 //! | [`decode`] | symbols, costs, records and margins of one frame | 5 to 11, 12, 13, 2, 3, 4, 19 |
+//! | [`decode_early`] | the same, stopped as soon as the symbols satisfy every check | 5 to 11, 12, 13, 2, 3, 4, 19 |
 //! | [`encode`] | the symbols of one message | 5 to 11, 17, 18, 2 |
 //! | [`combine`] | the frame of two blows | 5 to 11, 12, 13, 23, 2 |
-//! | [`channels`](channels()) | the same of up to eight frames | 21, 22, 5 to 11, 12, 2, 3, 4, 19 |
+//! | [`channels`](channels()) | what `decode` fills, of up to eight frames | 21, 22, 5 to 11, 12, 2, 3, 4, 19 |
 //!
 //! A [`Window`] does a decoding step by step, through the registers of document 02, §8.
 //!
@@ -55,7 +56,7 @@ mod refusal;
 mod rule;
 pub mod window;
 
-pub use answer::Outcome;
+pub use answer::{Outcome, Stopped};
 pub use channels::{channels, Channel, Served};
 pub use lent::Lent;
 pub use refusal::Refusal;
@@ -132,6 +133,39 @@ pub fn decode(
     margins: &mut [u16],
 ) -> Result<Outcome, Refusal> {
     answer::outcome(library::decode(code, frame, symbols, costs, store, margins))
+}
+
+/// Decodes one frame and stops "as soon as the decisions satisfy all checks, tested at the start and after each check
+/// update" (document 02, §13), which may be inside an iteration. It makes no more updates than [`decode`] does, M in each
+/// iteration. Order, as there: the code line's refusals, 12, 13, 2, 3, 4, 19.
+///
+/// "Symbols, margins, costs and updated records are those of that moment. Checks not yet updated keep the old bytes of
+/// their place in the store": with fewer than M updates only the first records are of this frame, as many as there were
+/// updates. The buffers' lengths are those of [`decode`], wherever it stops.
+///
+/// A frame that [`decode`] finds is found, now and then as another word, and one that it does not find may be, as here:
+///
+/// ```
+/// use petsivola::{decode_early, Stopped};
+///
+/// let code = [2, 0, 2, 2, 8, 3, 2, 0, 0, 1, 0, 1, 1, 2, 0, 0, 1, 0, 1, 2];
+/// let frame = [0, 1, 0, 2, 2, 2, 1, 0];
+/// let (mut symbols, mut costs) = ([9; 2], [0; 8]);
+/// let (mut store, mut margins) = ([0; 34], [0; 2]);
+/// let stopped = decode_early(&code, &frame, &mut symbols, &mut costs, &mut store, &mut margins);
+/// assert_eq!(stopped, Ok(Stopped::Found(3)));
+/// assert_eq!(symbols, [0, 0]);
+/// ```
+pub fn decode_early(
+    code: &[u8],
+    frame: &[u8],
+    symbols: &mut [u8],
+    costs: &mut [u16],
+    store: &mut [u8],
+    margins: &mut [u16],
+) -> Result<Stopped, Refusal> {
+    let result = library::decode_early(code, frame, symbols, costs, store, margins);
+    answer::stopped(result)
 }
 
 /// Writes the N symbols of a message of N - M symbols under a code line "where N exceeds M and check

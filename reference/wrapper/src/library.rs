@@ -122,6 +122,33 @@ pub(crate) fn decode(
     }
 }
 
+pub(crate) fn decode_early(
+    code: &[u8],
+    frame: &[u8],
+    symbols: &mut [u8],
+    costs: &mut [u16],
+    store: &mut [u8],
+    margins: &mut [u16],
+) -> u32 {
+    // SAFETY: as for `decode`.
+    unsafe {
+        petsivola_decode_early(
+            code.as_ptr(),
+            code.len(),
+            frame.as_ptr(),
+            frame.len(),
+            symbols.as_mut_ptr(),
+            symbols.len(),
+            costs.as_mut_ptr(),
+            costs.len(),
+            store.as_mut_ptr(),
+            store.len(),
+            margins.as_mut_ptr(),
+            margins.len(),
+        )
+    }
+}
+
 pub(crate) fn encode(code: &[u8], message: &[u8], symbols: &mut [u8]) -> u32 {
     // SAFETY: each pointer and length come from one borrowed slice; `symbols`, the only one written,
     // overlaps no other.

@@ -1,5 +1,6 @@
 //! `decode`.
 
+pub mod common;
 pub mod inputs;
 mod seen;
 
@@ -20,13 +21,7 @@ pub const DECODE: EntryPoint = EntryPoint {
 
 /// A random call.
 fn call(generator: &mut Generator, tally: &mut Tally) -> Result<(), Difference> {
-    let (size, refused) = inputs::size(generator);
-    let (code, mut input) = Input::accepted(generator, &size);
-    if refused {
-        input.damage_one(generator, &code);
-    } else {
-        input.damage_some(generator, &code);
-    }
+    let input = Input::random(generator);
     compare(generator, &input, tally)
 }
 
@@ -34,10 +29,7 @@ fn call(generator: &mut Generator, tally: &mut Tally) -> Result<(), Difference> 
 fn every(tally: &mut Tally) -> Result<(), Difference> {
     let mut generator = Generator::new(0);
     for first in first_byte::ALL {
-        let accepted_first = first_byte::accepted_or_drawn(&mut generator, first);
-        let size = first_byte::small_codes(accepted_first);
-        let (_, mut input) = Input::accepted(&mut generator, &size);
-        input.line[0] = first;
+        let input = Input::with_first_byte(&mut generator, first);
         compare(&mut generator, &input, tally)?;
     }
     Ok(())

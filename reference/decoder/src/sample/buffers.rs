@@ -1,6 +1,7 @@
 //! The buffers that a decoding fills.
 
 use super::Generator;
+use crate::early::{decode_early, Stopped};
 use crate::lent::Lent;
 use crate::machine::{decode, Outcome};
 use crate::refusal::Refusal;
@@ -49,6 +50,17 @@ impl Buffers {
         let (symbols, costs) = (&mut self.symbols, &mut self.costs);
         let (store, margins) = (&mut self.store, &mut self.margins);
         decode(code, frame, symbols, costs, store, margins)
+    }
+
+    /// The same up to the first moment at which the decisions satisfy every check.
+    ///
+    /// # Errors
+    ///
+    /// The refusal.
+    pub fn decode_early(&mut self, code: &[u8], frame: &[u8]) -> Result<Stopped, Refusal> {
+        let (symbols, costs) = (&mut self.symbols, &mut self.costs);
+        let (store, margins) = (&mut self.store, &mut self.margins);
+        decode_early(code, frame, symbols, costs, store, margins)
     }
 
     /// Lends them with a code line and a frame, or the frames of several channels.

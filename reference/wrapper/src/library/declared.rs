@@ -78,6 +78,21 @@ extern "C" {
         margins_len: usize,
     ) -> u32;
 
+    pub(super) fn petsivola_decode_early(
+        code: *const u8,
+        code_len: usize,
+        frame: *const u8,
+        frame_len: usize,
+        symbols: *mut u8,
+        symbols_len: usize,
+        costs: *mut u16,
+        costs_len: usize,
+        store: *mut u8,
+        store_len: usize,
+        margins: *mut u16,
+        margins_len: usize,
+    ) -> u32;
+
     pub(super) fn petsivola_encode(
         code: *const u8,
         code_len: usize,

@@ -27,7 +27,7 @@ pub const WIDE: Size = Size {
 
 /// The size of a code, and whether the input is to be refused. Small codes are many, and those at
 /// the limits are mostly refused, since the reference decoder answers these at once.
-pub fn size(generator: &mut Generator) -> (Size, bool) {
+fn size(generator: &mut Generator) -> (Size, bool) {
     match generator.below(2_000) {
         0..2 => (Size::MOST_CHECKS, false),
         2 => (Size::MOST_DEGREE, false),
@@ -80,6 +80,27 @@ impl Input {
             line: sample.line,
         };
         (code, input)
+    }
+
+    /// Any input: of any size, and accepted or damaged.
+    pub fn random(generator: &mut Generator) -> Input {
+        let (size, refused) = size(generator);
+        let (code, mut input) = Input::accepted(generator, &size);
+        if refused {
+            input.damage_one(generator, &code);
+        } else {
+            input.damage_some(generator, &code);
+        }
+        input
+    }
+
+    /// An input in which nothing but the first byte, this one, may be refused.
+    pub fn with_first_byte(generator: &mut Generator, first: u8) -> Input {
+        let accepted_first = first_byte::accepted_or_drawn(generator, first);
+        let size = first_byte::small_codes(accepted_first);
+        let (_, mut input) = Input::accepted(generator, &size);
+        input.line[0] = first;
+        input
     }
 
     /// All that a call is given, so that it can be made again.
