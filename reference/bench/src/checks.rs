@@ -201,8 +201,8 @@ impl Row {
                 let old = foreign::old_library().expect("the old library is present");
                 Contender::new(inputs, lent, check_by(old.check))
             }
-            Engine::ProvedWindow | Engine::ProvedChannels => {
-                unreachable!("neither makes a single check")
+            Engine::ProvedWindow | Engine::ProvedChannels | Engine::ProvedEarly => {
+                unreachable!("none of them makes a single check")
             }
         }
     }

@@ -14,6 +14,8 @@ pub enum Engine {
     ProvedWindow,
     /// The proved library's call for several channels.
     ProvedChannels,
+    /// The proved library's decoding that stops inside an iteration.
+    ProvedEarly,
     /// The same algorithm in Rust.
     Rust,
     /// The search over kept entries in Rust.
@@ -44,6 +46,7 @@ impl Engine {
             Engine::ProvedSweep => "proved sweep",
             Engine::ProvedWindow => "proved window",
             Engine::ProvedChannels => "proved channels",
+            Engine::ProvedEarly => "proved early",
             Engine::Rust => "Rust",
             Engine::Search => "search",
             Engine::Sse2 => "C, SSE2",

@@ -79,6 +79,8 @@ impl Job {
 
 /// The name of the simulation's code.
 pub const SIMULATED: &str = "(248,137) over GF(32), degree 8";
+/// The name of the code at the limits of document 01.
+pub const AT_THE_LIMITS: &str = "N = 256, p = 6, M = 128, degree 8";
 
 /// The codes: at the limits of document 01, the code of the simulation, and a small one.
 pub fn jobs() -> Vec<Job> {
@@ -96,10 +98,14 @@ pub fn channel_jobs() -> Vec<Job> {
     jobs.map(Job::by_eight).into()
 }
 
+/// The codes of stopping inside an iteration: those of decoding, and one with p = 4.
+pub fn early_jobs() -> Vec<Job> {
+    vec![at_the_limits(4), simulated(6), of_sixteen(), small()]
+}
+
 /// The code at the limits of document 01, with so many frames.
 fn at_the_limits(count: usize) -> Job {
-    let name = "N = 256, p = 6, M = 128, degree 8";
-    job(name, regular(6, 256, 8, 4), 3.5, count)
+    job(AT_THE_LIMITS, regular(6, 256, 8, 4), 3.5, count)
 }
 
 /// The code of the simulation, with so many frames.
@@ -161,7 +167,7 @@ pub fn encodable() -> Encodable {
     };
     let code = sample::encodable_code(&mut Generator::new(3), &size);
     Encodable {
-        name: "N = 256, p = 6, M = 128, degree 8",
+        name: AT_THE_LIMITS,
         p: code.field().p(),
         columns: code.n,
         checks: code.m,

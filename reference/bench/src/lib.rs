@@ -3,7 +3,8 @@
 //! sweeps in Rust, (c) expansion and record sizes against the d·q bytes of plain messages. All in one
 //! run, as ratios". Beside these, for the check: k = 3 beside k = 2, the Min-Max edition beside the sum, the
 //! proved library's own sweep beside its check, a search over kept entries in Rust, and the same algorithm by hand
-//! in C with SSE2 and AVX2; symbols per second of encoding; and the time of combining two frames.
+//! in C with SSE2 and AVX2; symbols per second of encoding; the time of combining two frames; and a check update of
+//! a decoding that stops inside an iteration beside one of `decode`.
 
 #![deny(unsafe_code)]
 #![deny(missing_docs)]
@@ -15,6 +16,7 @@ pub mod checks;
 pub mod combining;
 pub mod decision;
 pub mod decoding;
+pub mod early;
 pub mod encoding;
 pub mod engines;
 pub mod foreign;

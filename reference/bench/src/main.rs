@@ -10,7 +10,7 @@ use bench::checks;
 use bench::inputs::{self, Costs, Job};
 use bench::report::Report;
 use bench::targets::targets;
-use bench::{channels, charts, combining, decoding, encoding};
+use bench::{channels, charts, combining, decoding, early, encoding};
 
 /// Where the documents of this project stand.
 const DOCUMENTS: &str = concat!(env!("CARGO_MANIFEST_DIR"), "/../../docs/bench");
@@ -59,14 +59,15 @@ fn run(rounds: usize, out: Option<&Path>) -> io::Result<()> {
     eprintln!("check, growth from d = 16 to d = 32 at p = 6");
     let growth = kinds.map(|costs| checks::growth(costs, rounds));
     let jobs = inputs::jobs();
-    let codes = measured("decoding", &jobs, |job| decoding::measure(job, rounds));
+    let codes = measured("decoding", &jobs, rounds, decoding::measure);
     let window_jobs = inputs::window_jobs();
-    let through_window = |job| decoding::measure_window(job, rounds);
-    let windows = measured("register window", &window_jobs, through_window);
+    let through_window = decoding::measure_window;
+    let windows = measured("register window", &window_jobs, rounds, through_window);
     let channel_jobs = inputs::channel_jobs();
-    let in_channels = |job| channels::measure(job, rounds);
-    let channels = measured("eight channels", &channel_jobs, in_channels);
-    let combining = measured("combining", &jobs, |job| combining::measure(job, rounds));
+    let channels = measured("eight channels", &channel_jobs, rounds, channels::measure);
+    let early_jobs = inputs::early_jobs();
+    let early = measured("early stops", &early_jobs, rounds, early::measure);
+    let combining = measured("combining", &jobs, rounds, combining::measure);
     eprintln!("encoding");
     let encoding = encoding::measure(inputs::encodable(), rounds);
     let all: Vec<_> = channel.iter().chain(&uniform).collect();
@@ -78,9 +79,10 @@ fn run(rounds: usize, out: Option<&Path>) -> io::Result<()> {
         codes: &codes,
         windows: &windows,
         channels: &channels,
+        early: &early,
         combining: &combining,
         encoding: &encoding,
-        targets: &targets(&all, &codes, &windows, &channels),
+        targets: &targets(&all, &codes, &windows, &channels, &early),
         rounds,
     };
     let text = report.markdown();
@@ -92,10 +94,15 @@ fn run(rounds: usize, out: Option<&Path>) -> io::Result<()> {
 }
 
 /// Measures each of some codes, and says which.
-fn measured<'a, R>(what: &str, jobs: &'a [Job], measure: impl Fn(&'a Job) -> R) -> Vec<R> {
+fn measured<'a, R>(
+    what: &str,
+    jobs: &'a [Job],
+    rounds: usize,
+    measure: fn(&'a Job, usize) -> R,
+) -> Vec<R> {
     let each = |job: &'a Job| {
         eprintln!("{what}, {}", job.name);
-        measure(job)
+        measure(job, rounds)
     };
     jobs.iter().map(each).collect()
 }

@@ -3,6 +3,7 @@
 mod beside;
 mod combining;
 mod deviations;
+mod early;
 mod editions;
 mod older;
 mod swept;
@@ -30,6 +31,8 @@ pub struct Report<'a> {
     pub windows: &'a [decoding::Row<'a>],
     /// The codes of eight channels.
     pub channels: &'a [decoding::Row<'a>],
+    /// The codes of stopping inside an iteration.
+    pub early: &'a [crate::early::Row<'a>],
     /// The codes of combining, which are those of decoding.
     pub combining: &'a [crate::combining::Row<'a>],
     /// The encoding.
@@ -54,6 +57,7 @@ impl Report<'_> {
             self.decodings(),
             beside::window(self.windows),
             beside::channels(self.channels),
+            early::section(self.early),
             combining::section(self.combining, self.codes),
             self.encodings(),
             older::section(self),

@@ -10,6 +10,7 @@
 
 mod code;
 mod decode;
+mod early;
 mod encode;
 mod expansion;
 mod groups;
@@ -24,6 +25,7 @@ mod symbols;
 mod tables;
 
 pub use decode::decode;
+pub use early::decode_early;
 pub use encode::encode;
 pub use expansion::{expand, expand_by};
 pub use record::{check, messages};

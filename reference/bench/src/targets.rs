@@ -1,8 +1,8 @@
 //! What is asked of the figures, and whether a run meets it.
 
 use crate::engines::Engine;
-use crate::inputs::SIMULATED;
-use crate::{checks, decoding};
+use crate::inputs::{AT_THE_LIMITS, SIMULATED};
+use crate::{checks, decoding, early};
 
 /// The most that a check, and an iteration, may take of the time of the same algorithm in Rust.
 pub const OF_RUST: f64 = 1.0;
@@ -17,6 +17,8 @@ pub const OF_SUM: f64 = 1.1;
 pub const OF_DECODE: f64 = 1.15;
 /// The most that eight channels with an allowance that is enough may take of the time of eight `decode`.
 pub const OF_EIGHT: f64 = 1.05;
+/// The most that a check update of `decode_early` may take of the time of one of `decode`, where this is asked.
+pub const OF_UPDATE: f64 = 1.1;
 /// The least that the sweeps may take of the time of a check with k = 3, where this is asked.
 pub const BY_SWEEPS: f64 = 8.0;
 
@@ -32,12 +34,14 @@ pub struct Target {
     pub missed: usize,
 }
 
-/// Every target, over all measured checks and codes, those of the register window and those of eight channels.
+/// Every target, over all measured checks and codes, those of the register window, of eight channels and of stopping
+/// inside an iteration.
 pub fn targets(
     checks: &[&checks::Row],
     codes: &[decoding::Row],
     windows: &[decoding::Row],
     channels: &[decoding::Row],
+    stopping: &[early::Row],
 ) -> Vec<Target> {
     let large: Vec<_> = checks.iter().copied().filter(|row| row.p >= 4).collect();
     let short: Vec<_> = large
@@ -65,6 +69,7 @@ pub fn targets(
     targets.push(target_of_decoding(codes));
     targets.push(of_window(windows));
     targets.push(of_channels(channels));
+    targets.push(of_early(stopping));
     targets
 }
 
@@ -133,6 +138,21 @@ pub fn of_channels(codes: &[decoding::Row]) -> Target {
     at_most(
         format!("eight channels, the allowance enough: at most {OF_EIGHT} times eight `decode`"),
         OF_EIGHT,
+        ratios.collect(),
+    )
+}
+
+/// The target of stopping inside an iteration, on the simulation's code and on that at the limits.
+pub fn of_early(codes: &[early::Row]) -> Target {
+    let asked = codes
+        .iter()
+        .filter(|row| [SIMULATED, AT_THE_LIMITS].contains(&row.job.name));
+    let ratios = asked.map(|row| (row.of_update(), row.job.name.to_string()));
+    at_most(
+        format!(
+            "stopping inside an iteration: an update at most {OF_UPDATE} times one of `decode`"
+        ),
+        OF_UPDATE,
         ratios.collect(),
     )
 }

@@ -60,29 +60,50 @@ pub struct Rules<O> {
     pub spoil: fn(&mut O),
     /// Whether two contenders left the same result.
     pub agree: fn(&O, &O) -> bool,
-    /// What a call is counted as: 1, or the iterations that it made.
+    /// What a call is counted as: 1, or the iterations or check updates that it made.
     pub units: fn(&O) -> usize,
 }
 
-/// The seconds for each unit, in every stretch.
+/// The times of one contender.
 #[derive(Clone, Debug, Default, PartialEq)]
-pub struct Times(Vec<f64>);
+pub struct Times {
+    /// The seconds for each unit, in every stretch.
+    each: Vec<f64>,
+    /// The seconds of all stretches together.
+    total: f64,
+}
 
 impl Times {
+    /// The times of stretches, each with its seconds and its units.
+    fn of(stretches: impl Iterator<Item = (f64, usize)>) -> Times {
+        let mut times = Times::default();
+        for (seconds, units) in stretches {
+            times.each.push(seconds / units as f64);
+            times.total += seconds;
+        }
+        times
+    }
+
     /// Adds the times of a further race.
     pub fn append(&mut self, mut further: Times) {
-        self.0.append(&mut further.0);
+        self.each.append(&mut further.each);
+        self.total += further.total;
     }
 
     /// The median.
     pub fn median(&self) -> f64 {
-        median(self.0.clone())
+        median(self.each.clone())
     }
 
     /// The median of this time divided by the other in the same stretch.
     pub fn ratio(&self, other: &Times) -> f64 {
-        let pairs = self.0.iter().zip(&other.0);
+        let pairs = self.each.iter().zip(&other.each);
         median(pairs.map(|(time, other)| time / other).collect())
+    }
+
+    /// All seconds, whatever the units, by all of the other's.
+    pub fn whole_ratio(&self, other: &Times) -> f64 {
+        self.total / other.total
     }
 }
 
@@ -119,14 +140,12 @@ pub fn race<I, O: Clone>(
         }
     }
     compare(contenders, rules);
-    let outputs = &contenders[0].outputs;
-    let units = |part: &Range<usize>| outputs[part.clone()].iter().map(rules.units).sum::<usize>();
-    let units: Vec<usize> = parts.iter().map(units).collect();
-    let each = |seconds: Vec<f64>| {
-        let each = seconds.iter().zip(&units);
-        Times(each.map(|(time, &units)| time / units as f64).collect())
+    let times = |(contender, seconds): (&Contender<I, O>, Vec<f64>)| {
+        let outputs = parts.iter().map(|part| &contender.outputs[part.clone()]);
+        let units = outputs.map(|outputs| outputs.iter().map(rules.units).sum());
+        Times::of(seconds.into_iter().zip(units))
     };
-    seconds.into_iter().map(each).collect()
+    contenders.iter().zip(seconds).map(times).collect()
 }
 
 /// The numbers below `count` in a drawn order.
@@ -160,7 +179,7 @@ fn compare<I, O>(contenders: &[Contender<I, O>], rules: &Rules<O>) {
 }
 
 /// The median of some numbers.
-fn median(mut numbers: Vec<f64>) -> f64 {
+pub fn median(mut numbers: Vec<f64>) -> f64 {
     numbers.sort_by(f64::total_cmp);
     let (middle, odd) = (numbers.len() / 2, numbers.len() % 2 == 1);
     if odd {
@@ -176,9 +195,11 @@ mod tests {
 
     #[test]
     fn medians_and_ratios() {
-        let (a, b) = (Times(vec![4.0, 1.0, 9.0]), Times(vec![2.0, 1.0, 3.0]));
+        let a = Times::of([(8.0, 2), (1.0, 1), (9.0, 1)].into_iter());
+        let b = Times::of([(2.0, 1), (1.0, 1), (9.0, 3)].into_iter());
         assert_eq!(a.median(), 4.0);
         assert_eq!(a.ratio(&b), 2.0);
+        assert_eq!(a.whole_ratio(&b), 1.5);
         assert_eq!(median(vec![1.0, 4.0, 2.0, 8.0]), 3.0);
     }
 

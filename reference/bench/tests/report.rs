@@ -4,7 +4,7 @@ use bench::checks::swept::Swept;
 use bench::checks::Row;
 use bench::inputs::{self, Costs, Job};
 use bench::report::Report;
-use bench::{channels, charts, combining, decoding, encoding, targets};
+use bench::{channels, charts, combining, decoding, early, encoding, targets};
 
 /// A size, measured on a few checks.
 fn row(p: u8, degree: usize) -> Row {
@@ -23,6 +23,7 @@ fn report<'a>(rows: &'a [Row], encoding: &'a encoding::Row) -> Report<'a> {
         codes: &[],
         windows: &[],
         channels: &[],
+        early: &[],
         combining: &[],
         encoding,
         targets: &[],
@@ -147,6 +148,28 @@ fn the_register_window_and_eight_channels_stand_beside_decode() {
     assert_eq!(targets[0].worst.1, inputs::SIMULATED);
     assert!(text.contains("at most 1.15 times one `decode`"));
     assert!(text.contains("at most 1.05 times eight `decode`"));
+}
+
+/// A stop that is not that of the same algorithm in Rust, or behind that of `decode`, would end the race.
+#[test]
+fn stopping_inside_an_iteration_stands_beside_decode() {
+    let jobs = inputs::early_jobs();
+    let early: Vec<_> = jobs.iter().map(|job| early::measure(job, 1)).collect();
+    let targets = [targets::of_early(&early)];
+    let (rows, encoding) = ([row(2, 3)], encoding::measure(inputs::encodable(), 1));
+    let report = Report {
+        early: &early,
+        targets: &targets,
+        ..report(&rows, &encoding)
+    };
+    let text = report.markdown();
+    codes_stand_in_it(&text, ("## Stopping inside an iteration", 11), &jobs);
+    assert_eq!(targets[0].measured, 2);
+    assert!(text.contains("an update at most 1.1 times one of `decode`"));
+    for row in &early {
+        assert!(0.0 < row.early_updates && row.early_updates < row.decode_updates);
+        assert!(0.0 < row.of_frames() && row.of_frames().is_finite());
+    }
 }
 
 /// A combined frame that is not the reference decoder's would stop the measurement.

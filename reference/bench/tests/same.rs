@@ -5,7 +5,7 @@ use std::collections::BTreeSet;
 
 use bench::same;
 use reference_decoder::sample::{self, Buffers, Generator, Miss, Size, Style};
-use reference_decoder::{code_line, encode, expand, Outcome, Refusal, Rule};
+use reference_decoder::{code_line, encode, expand, Outcome, Refusal, Rule, Stopped};
 
 /// A refusal by its number.
 fn numbered<T>(answer: Result<T, Refusal>) -> Result<T, u8> {
@@ -35,49 +35,66 @@ fn expansions() {
     }
 }
 
+/// A code line, a frame and buffers to decode it in, in some rounds not accepted.
+fn decoding(generator: &mut Generator, round: usize) -> (Vec<u8>, Vec<u8>, Buffers) {
+    let size = [Size::SMALL, Size::MEDIUM][round % 2].clone();
+    let sample = sample::code(generator, &size);
+    let code = code_line(&sample.line).unwrap();
+    let style = generator.one_of(&Style::ALL);
+    let wrong = generator.below(code.n);
+    let mut frame = sample::noisy_frame(generator, &code, &sample.word, wrong, style);
+    let mut line = sample.line;
+    match round % 8 {
+        0 => line = sample::damaged_code(generator, &line),
+        1 => frame = sample::damaged_frame(generator, code.field().size(), &frame),
+        _ => (),
+    }
+    // About one buffer in nine is an element short.
+    let lengths = code.lengths().map(|length| length + generator.below(9) - 1);
+    (line, frame, Buffers::arbitrary(generator, lengths))
+}
+
+/// The refusals of decoding that are met.
+const REFUSED: [Option<u8>; 6] = [Some(2), Some(3), Some(4), Some(12), Some(13), Some(19)];
+
 #[test]
 fn decodings() {
     let mut generator = Generator::new(2);
     let mut numbers = BTreeSet::new();
     for round in 0..600 {
-        let size = [Size::SMALL, Size::MEDIUM][round % 2].clone();
-        let sample = sample::code(&mut generator, &size);
-        let code = code_line(&sample.line).unwrap();
-        let style = generator.one_of(&Style::ALL);
-        let wrong = generator.below(code.n);
-        let mut frame = sample::noisy_frame(&mut generator, &code, &sample.word, wrong, style);
-        let mut line = sample.line;
-        if round % 8 == 0 {
-            line = sample::damaged_code(&mut generator, &line);
-        }
-        if round % 8 == 1 {
-            frame = sample::damaged_frame(&mut generator, code.field().size(), &frame);
-        }
-        // About one buffer in nine is an element short.
-        let lengths = code.lengths().map(|length| length + generator.below(9) - 1);
-        let mut expected = Buffers::arbitrary(&mut generator, lengths);
+        let (line, frame, mut expected) = decoding(&mut generator, round);
         let mut found = expected.clone();
-        let answer = same_decode(&line, &frame, &mut found);
+        let (symbols, costs) = (&mut found.symbols, &mut found.costs);
+        let (store, margins) = (&mut found.store, &mut found.margins);
+        let answer = same::decode(&line, &frame, symbols, costs, store, margins);
         let pair = |outcome: Outcome| (outcome.status(), outcome.iterations());
         assert_eq!(answer, numbered(expected.decode(&line, &frame)).map(pair));
         assert_eq!(found, expected);
         numbers.insert(answer.err());
     }
-    let refused = [2, 3, 4, 12, 13, 19].map(Some);
-    assert!(refused.iter().all(|number| numbers.contains(number)));
+    assert!(REFUSED.iter().all(|number| numbers.contains(number)));
 }
 
-/// A decoding by the same algorithm.
-fn same_decode(line: &[u8], frame: &[u8], lent: &mut Buffers) -> Result<(u8, u8), u8> {
-    let (symbols, costs) = (&mut lent.symbols, &mut lent.costs);
-    same::decode(
-        line,
-        frame,
-        symbols,
-        costs,
-        &mut lent.store,
-        &mut lent.margins,
-    )
+#[test]
+fn decodings_that_stop_inside_an_iteration() {
+    let mut generator = Generator::new(4);
+    let (mut numbers, mut inside) = (BTreeSet::new(), 0);
+    for round in 0..2_000 {
+        let (line, frame, mut expected) = decoding(&mut generator, round);
+        let mut found = expected.clone();
+        let (symbols, costs) = (&mut found.symbols, &mut found.costs);
+        let (store, margins) = (&mut found.store, &mut found.margins);
+        let answer = same::decode_early(&line, &frame, symbols, costs, store, margins);
+        let pair = |stopped: Stopped| (stopped.status(), stopped.updates());
+        let stopped = numbered(expected.decode_early(&line, &frame)).map(pair);
+        assert_eq!(answer, stopped);
+        assert_eq!(found, expected);
+        numbers.insert(answer.err());
+        let is_inside = |(_, updates)| updates % u16::from(line[3]) != 0;
+        inside += usize::from(answer.is_ok_and(is_inside));
+    }
+    assert!(REFUSED.iter().all(|number| numbers.contains(number)));
+    assert!(inside > 50);
 }
 
 #[test]

@@ -1,7 +1,7 @@
 //! The proved decoder, called through the static library.
 
 use petsivola::lengths::MOST_CHANNELS;
-use petsivola::{Channel, Edition, Lent};
+use petsivola::{Channel, Edition, Lent, Stopped};
 
 use crate::code::Code;
 use crate::decoder::{Decoder, Outcome};
@@ -30,6 +30,19 @@ impl Library {
     /// The N margins of the last decoding.
     pub fn margins(&self) -> &[u16] {
         &self.margins
+    }
+
+    /// Decodes a frame up to the first check update after which the decisions satisfy every check.
+    pub fn decode_early(&mut self, frame: &[u8]) -> Stopped {
+        petsivola::decode_early(
+            &self.line,
+            frame,
+            &mut self.symbols,
+            &mut self.costs,
+            &mut self.store,
+            &mut self.margins,
+        )
+        .expect("an accepted code line, an accepted frame and buffers long enough")
     }
 
     /// The frame of two blows.

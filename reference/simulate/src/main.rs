@@ -78,6 +78,7 @@ fn run(plan: &Plan, out: Option<&Path>) -> io::Result<()> {
                 report::chart_of_sharing(&results.sharing),
             ),
             ("two-blows.svg", report::chart_of_blows(&results.blows)),
+            ("updates-saved.svg", report::chart_of_early(&results.early)),
         ];
         for (name, chart) in charts {
             fs::write(directory.join(name), chart.svg())?;

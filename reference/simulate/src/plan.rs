@@ -1,6 +1,6 @@
 //! What a run simulates: a sweep over g, a curve over Eb/N0 with each rule at its best g, a sweep over the cost
 //! scale, a sweep over g by column weight, long checks with two and with three deviations, what a margin is worth,
-//! one allowance of iterations for eight channels, and two blows for one word.
+//! one allowance of iterations for eight channels, two blows for one word, and stopping inside an iteration.
 
 use std::ops::RangeInclusive;
 
@@ -8,6 +8,7 @@ use petsivola::Edition;
 use reference_decoder::sample::Generator;
 
 use crate::blows::{self, Blows};
+use crate::early::{self, Early};
 use crate::long_checks::{self, LongChecks, Trials};
 use crate::margins::{self, Worth};
 use crate::progress::Progress;
@@ -50,6 +51,8 @@ pub struct Plan {
     pub sharing: Vec<(f64, Stop)>,
     /// The same rule on two blows for each word.
     pub blows: Vec<(f64, Stop)>,
+    /// The same rule with a stop inside an iteration.
+    pub early: Vec<(f64, Stop)>,
     /// What the frames depend on.
     pub seed: u64,
 }
@@ -73,6 +76,8 @@ pub struct Results {
     pub sharing: Vec<Sharing>,
     /// Two blows for each word, at each Eb/N0.
     pub blows: Vec<Blows>,
+    /// A stop inside an iteration, at each Eb/N0.
+    pub early: Vec<Early>,
 }
 
 /// An Eb/N0 with the errors and the frames of its trial at size 1.
@@ -114,6 +119,8 @@ const BLOWS: [Size1; 11] = [
     (2.75, 100, 6_000),
     (3.0, 100, 6_000),
 ];
+/// The frames at each Eb/N0 of the curve, with a stop inside an iteration.
+const EARLY: usize = 2_000;
 /// The sweep and the curve of each code with long checks.
 const LONG_CHECKS: [(Size1, &[Size1]); 2] = [
     (
@@ -163,6 +170,7 @@ impl Plan {
             margins: stops(&MARGINS),
             sharing: stops(&SHARING),
             blows: stops(&BLOWS),
+            early: stops(&CURVE.map(|(decibels, ..)| (decibels, EARLY, EARLY))),
             seed,
         }
     }
@@ -171,10 +179,8 @@ impl Plan {
     /// over g stands behind the curve.
     pub fn run(&self, scene: &Scene, progress: &mut Progress) -> Results {
         let mut seeds = Generator::new(self.seed);
-        let mut seeds_of =
-            |trials: &[(f64, Stop)]| -> Vec<u64> { trials.iter().map(|_| seeds.bits()).collect() };
-        let [of_curve, of_scaling, of_costs] =
-            [&self.curve, &self.scaling, &self.costs].map(|trials| seeds_of(trials));
+        let [of_curve, of_scaling, of_costs] = [&self.curve, &self.scaling, &self.costs]
+            .map(|trials| trials.iter().map(|_| seeds.bits()).collect::<Vec<_>>());
         let mut stage = |name: &str, trials: &[(f64, Stop)], seeds: &[u64], setups: &[Setup]| {
             progress.stage(name);
             let trials = trials.iter().zip(seeds);
@@ -204,6 +210,7 @@ impl Plan {
             margins: proved.stage("symbols by margin", &self.margins, margins::run),
             sharing: proved.stage("eight channels", &self.sharing, sharing::run),
             blows: proved.stage("two blows", &self.blows, blows::run),
+            early: proved.stage("early stops", &self.early, early::run),
         };
         progress.end();
         results

@@ -2,6 +2,7 @@
 
 mod blows;
 mod curves;
+mod early;
 mod long_checks;
 mod margins;
 mod sharing;
@@ -15,6 +16,7 @@ use crate::plan::{best_g, Plan, Results, COSTS_PER_NAT, LIMIT, RULES};
 use crate::trial::{Count, Rule};
 pub use blows::chart as chart_of_blows;
 use curves::Line;
+pub use early::{chart as chart_of_early, conclusion as conclusion_of_early};
 pub use long_checks::chart as chart_of_long_checks;
 pub use margins::{chart as chart_of_margins, wrong_somewhere, wrong_up_to};
 pub use sharing::chart as chart_of_sharing;
@@ -44,6 +46,7 @@ pub fn markdown(plan: &Plan, encoder: &Encoder, results: &Results) -> String {
         margins::section(&results.margins),
         sharing::section(&results.sharing),
         blows::section(&results.blows),
+        early::section(&results.early),
     ];
     parts.concat().trim_end().to_string() + "\n"
 }

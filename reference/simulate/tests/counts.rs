@@ -121,6 +121,7 @@ fn the_document_has_every_trial() {
     assert_eq!(results.margins.len(), plan.margins.len());
     assert_eq!(results.sharing.len(), plan.sharing.len());
     assert_eq!(results.blows.len(), plan.blows.len());
+    assert_eq!(results.early.len(), plan.early.len());
     let text = report::markdown(&plan, &scene.encoder, &results);
     tables_have_their_rows(&plan, &text);
     charts_have_their_lines(&results);
@@ -140,13 +141,17 @@ fn tables_have_their_rows(plan: &Plan, text: &str) {
     for way in ["one blow", "better of two", "combined"] {
         assert_eq!(rows(way), plan.blows.len());
     }
-    let (_, section) = text
-        .split_once("## One allowance for eight channels")
-        .expect("the section");
-    let rows_of_limits = section
-        .lines()
-        .filter(|line| line.matches(" | ").count() == 11);
-    assert_eq!(rows_of_limits.count(), 1 + 3 * LIMITS.len());
+    // The rows of so many cells from a heading on, the first of them the table's head.
+    let rows_of = |heading: &str, cells: usize| {
+        let (_, section) = text.split_once(heading).expect("the section");
+        let section = section.split("\n## ").next().unwrap_or_default();
+        let rows = section.lines().map(|line| line.matches(" | ").count() + 1);
+        rows.filter(|&count| count == cells).count() - 1
+    };
+    let limits = rows_of("## One allowance for eight channels", 12);
+    assert_eq!(limits, 3 * LIMITS.len());
+    let early = [11, 10].map(|cells| rows_of("## Stopping inside an iteration", cells));
+    assert_eq!(early, [plan.early.len(); 2]);
     let rows = text
         .lines()
         .filter(|line| line.matches(" of 1 |").count() == 3);
@@ -161,8 +166,9 @@ fn charts_have_their_lines(results: &Results) {
         report::chart_of_margins(&results.margins),
         report::chart_of_sharing(&results.sharing),
         report::chart_of_blows(&results.blows),
+        report::chart_of_early(&results.early),
     ];
-    for (chart, lines) in charts.iter().zip([3, 4, 6, 6, 3]) {
+    for (chart, lines) in charts.iter().zip([3, 4, 6, 6, 3, 2]) {
         let svg = chart.svg();
         assert!(svg.starts_with("<svg") && svg.ends_with("</svg>\n"));
         assert_eq!(chart.series.len(), lines);

@@ -10,6 +10,21 @@ const MOST_EDGES: usize = 1_024;
 /// Column, two bytes, and weight.
 const EDGE: usize = 3;
 
+/// A check: its columns and their weights.
+pub type Check<'a> = (&'a [u16], &'a [u8]);
+
+/// A check by its number, with its first edge in the tables.
+#[derive(Clone, Copy)]
+pub struct Place {
+    pub check: usize,
+    pub edge: usize,
+}
+
+impl Place {
+    /// The first check.
+    pub const FIRST: Place = Place { check: 0, edge: 0 };
+}
+
 /// The numbers of an accepted code line, and its checks end to end.
 pub struct Code {
     pub rule: Rule,
@@ -90,13 +105,25 @@ impl Code {
         Ok(())
     }
 
-    /// The checks in code order: columns and weights.
-    pub fn checks(&self) -> impl Iterator<Item = (&[u16], &[u8])> {
-        let mut from = 0;
-        self.degrees[..self.m].iter().map(move |&degree| {
-            let part = from..from + usize::from(degree);
-            from = part.end;
-            (&self.columns[part.clone()], &self.weights[part])
+    /// The checks in code order.
+    pub fn checks(&self) -> impl Iterator<Item = Check<'_>> {
+        let checks = self.checks_between(Place::FIRST, self.m);
+        checks.map(|(_, check)| check)
+    }
+
+    /// The checks from a place on and before check `to`, each with its place.
+    pub fn checks_between(
+        &self,
+        from: Place,
+        to: usize,
+    ) -> impl Iterator<Item = (Place, Check<'_>)> {
+        let mut edge = from.edge;
+        let degrees = (from.check..).zip(&self.degrees[from.check..to]);
+        degrees.map(move |(check, &degree)| {
+            let place = Place { check, edge };
+            let part = edge..edge + usize::from(degree);
+            edge = part.end;
+            (place, (&self.columns[part.clone()], &self.weights[part]))
         })
     }
 

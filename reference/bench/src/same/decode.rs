@@ -1,8 +1,10 @@
 //! The layered decoder: P stands in the lent cost buffer, the records in the lent store, the decisions in
 //! the lent symbol buffer; one check's Q and sent costs in local arrays. The margins are made once, from the
 //! last P.
+//!
+//! What a decoder that stops inside an iteration shares is made inline in both: each is then as fast as one alone.
 
-use super::code::Code;
+use super::code::{Check, Code};
 use super::expansion::expand_by;
 use super::products::product;
 use super::record::messages;
@@ -14,11 +16,21 @@ use crate::decision::Decision;
 const MOST_COSTS: usize = MOST_COLUMNS * MOST_ROWS;
 
 /// Room to work in.
-struct Room {
+pub struct Room {
     /// Q of the check at hand.
     arrived: [u8; MOST_COSTS],
     /// What its old record sent, then what it sends, before scaling.
     sent: [u8; MOST_COSTS],
+}
+
+impl Room {
+    /// Cleared room.
+    pub fn new() -> Room {
+        Room {
+            arrived: [0; MOST_COSTS],
+            sent: [0; MOST_COSTS],
+        }
+    }
 }
 
 /// "Decode: code, 12, 13, 2, 3, 4.", then 19. The answer is 0 (found) or 1 (not found), with t.
@@ -31,6 +43,21 @@ pub fn decode(
     store: &mut [u8],
     margins: &mut [u16],
 ) -> Result<(u8, u8), Refusal> {
+    decode_by(code, frame, symbols, costs, store, margins, run)
+}
+
+/// Refuses as above, or puts the frame into the cost buffer, makes a run on the used parts of the buffers and leaves the
+/// margins.
+#[inline(always)]
+pub fn decode_by<T>(
+    code: &[u8],
+    frame: &[u8],
+    symbols: &mut [u8],
+    costs: &mut [u16],
+    store: &mut [u8],
+    margins: &mut [u16],
+    run: impl FnOnce(&Code, &mut [u8], &mut [u16], &mut [u8]) -> T,
+) -> Result<T, Refusal> {
     let code = Code::read(code)?;
     let q = code.rule.q;
     let length = code.n * q;
@@ -60,14 +87,10 @@ pub fn decode(
 
 /// "If the decisions satisfy every check: found, t = 0." Then iteration by iteration.
 fn run(code: &Code, symbols: &mut [u8], costs: &mut [u16], store: &mut [u8]) -> (u8, u8) {
-    let mut room = Room {
-        arrived: [0; MOST_COSTS],
-        sent: [0; MOST_COSTS],
-    };
+    let mut room = Room::new();
     let mut t = 0;
     loop {
-        decide(code.rule.q, costs, symbols);
-        if satisfied(code, symbols) {
+        if settled(code, costs, symbols) {
             return (0, t);
         }
         if t == code.limit {
@@ -78,40 +101,42 @@ fn run(code: &Code, symbols: &mut [u8], costs: &mut [u16], store: &mut [u8]) -> 
     }
 }
 
-/// "the decisions (smallest symbol of cost 0 in P_n)"
-fn decide(q: usize, costs: &[u16], symbols: &mut [u8]) {
-    for (symbol, column) in symbols.iter_mut().zip(costs.chunks_exact(q)) {
+/// "the decisions (smallest symbol of cost 0 in P_n)", and whether they satisfy every check.
+#[inline(always)]
+pub fn settled(code: &Code, costs: &[u16], symbols: &mut [u8]) -> bool {
+    let columns = costs.chunks_exact(code.rule.q);
+    for (symbol, column) in symbols.iter_mut().zip(columns) {
         *symbol = Decision::of(column).symbol;
     }
+    code.checks().all(|check| satisfied(code, check, symbols))
 }
 
-/// Whether the decisions satisfy every check.
-fn satisfied(code: &Code, symbols: &[u8]) -> bool {
-    code.checks().all(|(columns, weights)| {
-        let edges = columns.iter().zip(weights);
-        let term = |(&column, &weight)| {
-            let product = product(code.rule.p, weight, symbols[usize::from(column)]);
-            product.unwrap_or(0)
-        };
-        edges.map(term).fold(0, |sum, term| sum ^ term) == 0
-    })
+/// "It is satisfied when the sum of h_n times x_n is 0."
+#[inline(always)]
+pub fn satisfied(code: &Code, (columns, weights): Check, symbols: &[u8]) -> bool {
+    let edges = columns.iter().zip(weights);
+    let term = |(&column, &weight): (&u16, &u8)| {
+        let product = product(code.rule.p, weight, symbols[usize::from(column)]);
+        product.unwrap_or(0)
+    };
+    edges.map(term).fold(0, |sum, term| sum ^ term) == 0
 }
 
 /// "An iteration adds 1 to t and takes the checks in code order."
 fn iterate(code: &Code, first: bool, costs: &mut [u16], store: &mut [u8], room: &mut Room) {
     let mut records = store;
-    for (columns, weights) in code.checks() {
-        let (record, others) = records.split_at_mut(code.rule.record_length(weights.len()));
-        update(code, columns, weights, first, costs, record, room);
+    for check in code.checks() {
+        let (record, others) = records.split_at_mut(code.rule.record_length(check.0.len()));
+        update(code, check, first, costs, record, room);
         records = others;
     }
 }
 
 /// One update of a check.
-fn update(
+#[inline(always)]
+pub fn update(
     code: &Code,
-    columns: &[u16],
-    weights: &[u8],
+    (columns, weights): Check,
     first: bool,
     costs: &mut [u16],
     record: &mut [u8],
