@@ -3,7 +3,7 @@ use mathlib.Core.List.{List, _++_}
 use Prim.Native.Nat.{ℕ}
 use lib.ListN.{length, drop}
 use Rattle.machine.specs.CodeLine.{Read, good, bad, Code, Numbers}
-use Rattle.machine.specs.Tables.{tablesOf}
+use Rattle.machine.specs.inner.Tables.{tablesOf}
 use Rattle.codeline.specs.declared.Header.{Header}
 use Rattle.codeline.specs.declared.Header.the-variants.{Read as HeaderRead, Refused as HeaderRefused}
 

@@ -15,7 +15,8 @@ use Rattle.machine.specs.CodeLine.{Read, good, bad, Code, wordAt, checks
 use Rattle.machine.specs.Machine.{State, settled, update, iteration, start, Status, found, notFound, Result, result, go, run}
 use Rattle.machine.specs.Decoding.{outcome, roomFault, admittedUnder, admitted, decodingUnder, decoding}
 use Rattle.machine.specs.Early.{momentAfter, testAfter, firstFrom, mostUpdates, updates, statusEarly, earlyUnder, decodingEarly, Whole-iterations, FirstMoment, Never-more, Few-updates}
-use Rattle.machine.proofs.Lines.{passed, then-good, good-one, GoodCode, parse-good}
+use Rattle.machine.specs.inner.Accepted.{GoodCode}
+use Rattle.machine.proofs.Lines.{passed, then-good, good-one, parse-good}
 
 -- a status is one of two, and so is a test
 found-not : found ≡ notFound → ⊥

@@ -13,6 +13,7 @@ use Rattle.trellis.specs.Lists.{pick}
 use Rattle.trellis.specs.Rules.{sizeOf, firstOk}
 use Rattle.trellis.proofs.Rules.{first-power}
 use Rattle.machine.specs.CodeLine.{Read, good, bad, then, Edge, Code, edge, wordAt, readEdge, edges, checkAt, checks, parse, power, size, check, edgeAt, Numbers, numbersOf}
+use Rattle.machine.specs.inner.Accepted.{GoodEdge, GoodCheck, edgeTotal, GoodCode}
 
 -- tests that refuse, in their order
 abbrev pub guard : {A : Type 0} → List (Bool × ℕ) → Read A → Read A
@@ -37,11 +38,6 @@ then-good (bad n) k b h = let z : _≡_ {A = ℕ} 0 1 = cc in absurd (omega arit
 
 pub good-one : {A : Type 0} (a b : A) → _≡_ {A = Read A} (good a) (good b) → a ≡ b
 good-one a b h = cc
-
-pub record GoodEdge (n q : ℕ) (e : Edge) : Type 0 where
-  pub column-small : e .column < n
-  pub weight-some : e .weight ≢ 0
-  pub weight-small : e .weight < q
 
 pub record GoodEdges (n q low c : ℕ) (es : List Edge) : Type 0 where
   pub count : length es ≡ c
@@ -93,12 +89,6 @@ edges-good (suc c) s at n q low es h =
         three zero (suc k) a h = omega (arith, r .from-low k (omega arith))
         three (suc j) (suc k) a h = r .rising j k (omega arith) (omega arith)
 
-pub record GoodCheck (n q : ℕ) (es : List Edge) : Type 0 where
-  pub low : 2 ≤ length es
-  pub high : length es ≤ 32
-  pub each-edge : (k : ℕ) → k < length es → GoodEdge n q (edgeAt es k)
-  pub rising : (j k : ℕ) → j < k → k < length es → edgeAt es j .column < edgeAt es k .column
-
 check-good : (s : List ℕ) (at n q total : ℕ) (es : List Edge) → checkAt s at n q total ≡ good es → GoodCheck n q es × (total + length es ≤ 1024)
 unfolding checkAt
 check-good s at n q total es h =
@@ -115,11 +105,6 @@ check-count s at n q total es h =
     let d : ℕ = getD s at 0 in
     let a = passed ((leb (length s) at, 5) ∷ (ltb d 2, 9) ∷ (ltb 32 d, 9) ∷ (ltb 1024 (total + d), 9) ∷ (ltb (length s - (at + 1)) (3 * d), 5) ∷ []) _ es h in
     edges-good d s (at + 1) n q 0 es (a .1) .count
-
--- how many edges all checks have together
-abbrev pub edgeTotal : List (List Edge) → ℕ
-edgeTotal [] = 0
-edgeTotal (es ∷ l) = length es + edgeTotal l
 
 -- c checks after total edges
 record GoodChecks (n q total c : ℕ) (l : List (List Edge)) : Type 0 where
@@ -153,20 +138,6 @@ checks-good (suc c) s at n q total l f h =
     more : (es : List Edge) (k : List (List Edge)) → l ≡ es ∷ k → GoodCheck n q es → length es ≡ getD s at 0 → GoodChecks n q (total + getD s at 0) c k → GoodChecks n q total (suc c) l
     more es k e g i r =
         rw e (record { count = ap suc (r .count); each-check = at-more es k g (r .each-check); few-edges = omega (arith, r .few-edges) })
-
-pub record GoodCode (C : Code) : Type 0 where
-  pub first : firstOk (C .first) ≡ true
-  pub p-low : 2 ≤ power C
-  pub p-high : power C ≤ 6
-  pub columns-low : 1 ≤ C .columns
-  pub columns-high : C .columns ≤ 256
-  pub scale-low : 1 ≤ C .scale
-  pub scale-high : C .scale ≤ 16
-  pub limit-low : 1 ≤ C .limit
-  pub checks-low : 1 ≤ length (C .checks)
-  pub checks-high : length (C .checks) ≤ 128
-  pub each-check : (m : ℕ) → m < length (C .checks) → GoodCheck (C .columns) (size C) (check C m)
-  pub edges-high : edgeTotal (C .checks) ≤ 1024
 
 pub parse-good : (s : List ℕ) (C : Code) → parse s ≡ good C → GoodCode C
 unfolding parse

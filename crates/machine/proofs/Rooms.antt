@@ -13,7 +13,7 @@ use Rattle.trellis.proofs.Rules.{most-few}
 use Rattle.machine.specs.CodeLine.{Edge, Code, size, rule}
 use Rattle.machine.specs.Machine.{place, used}
 use Rattle.machine.specs.Decoding.{Buffers, Room}
-use Rattle.machine.proofs.Lines.{GoodCode, edgeTotal}
+use Rattle.machine.specs.inner.Accepted.{GoodCode, edgeTotal}
 
 -- a sum over a list, taken from its front
 sum-front : (w : List Edge → ℕ) (es : List Edge) (l : List (List Edge)) (m : ℕ)

@@ -21,7 +21,7 @@ ghost use Rattle.trellis.specs.Lists.{pick};
 ghost use Rattle.window.specs.Window.{read, interrupt, write};
 ghost use Rattle.window.specs.Meaning.{bytesOf, windowOf};
 ghost use Rattle.channels.specs.Channels.{channels};
-ghost use Rattle.channels.specs.Layouts.{Gives};
+ghost use Rattle.channels.specs.Answers.{Gives};
 ghost use Rattle.petsivola.specs.Packed.{Packs, outcomeReply, stoppedReply};
 
 fn of_element(e: Element) -> u32

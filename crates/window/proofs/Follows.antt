@@ -14,7 +14,8 @@ use Rattle.trellis.specs.Rules.{sizeOf, firstOk}
 use Rattle.machine.specs.CodeLine.{Read, good, bad, then, Edge, Code, wordAt, checks, parse, size, frameFault}
 use Rattle.machine.specs.Machine.{none, State, lastOf, start, iteration, settled, Status, found, notFound, Result, result, go, run, records, used, held}
 use Rattle.machine.specs.Decoding.{outcome}
-use Rattle.machine.proofs.Lines.{GoodCode, parse-good, passed, then-good, good-one}
+use Rattle.machine.specs.inner.Accepted.{GoodCode}
+use Rattle.machine.proofs.Lines.{parse-good, passed, then-good, good-one}
 use Rattle.machine.proofs.Updates.{Kept}
 use Rattle.machine.proofs.Ranges.{frame-ranged}
 use Rattle.machine.proofs.Lent.{held-none, held-end, Ready, iteration-t, go-stands}

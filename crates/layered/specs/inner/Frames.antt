@@ -7,11 +7,11 @@ use lib.ListN.{length}
 use Rattle.trellis.specs.Lists.{pick, allTo}
 use Rattle.trellis.specs.Rules.{sizeOf}
 use Rattle.machine.specs.CodeLine.{good, Code, zeroIn}
-use Rattle.machine.specs.Tables.{Tabled}
+use Rattle.machine.specs.inner.Tables.{Tabled}
 use Rattle.machine.specs.Decoding.{Buffers, After, admittedUnder, decodingUnder}
 use Rattle.machine.specs.Early.{earlyUnder}
-use Rattle.machine.proofs.Lines.{GoodCode}
-use Rattle.layered.specs.Passes.{placeAt}
+use Rattle.machine.specs.inner.Accepted.{GoodCode}
+use Rattle.layered.specs.inner.Passes.{placeAt}
 
 -- "12, cost count wrong; 13, a column without a cost of 0"
 unfoldable pub frameFaultOf : ℕ → ℕ → List ℕ → ℕ

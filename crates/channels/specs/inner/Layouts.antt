@@ -12,28 +12,13 @@ use Rattle.machine.specs.CodeLine.{good, Code, size, parse}
 use Rattle.machine.specs.Machine.{used}
 use Rattle.machine.specs.Decoding.{Buffers}
 use Rattle.machine.specs.Moments.{Moment}
-use Rattle.machine.proofs.Lines.{GoodCode}
-use Rattle.machine.proofs.Passing.{Passable}
-use Rattle.layered.specs.Frames.{roomFault}
-use Rattle.layered.specs.Passes.{graph, placeAt, Tables}
+use Rattle.machine.specs.inner.Accepted.{GoodCode}
+use Rattle.machine.specs.inner.InRange.{Passable}
+use Rattle.layered.specs.inner.Frames.{roomFault}
+use Rattle.layered.specs.inner.Passes.{graph, placeAt, Tables}
 use Rattle.channels.specs.declared.service.Layout.{Layout}
 use Rattle.channels.specs.Channels.{Results, ownOf}
-use Rattle.channels.specs.Rounds.{Standing, Serves, lentIn, statusOf, patchAt}
-
--- a list of eight: those of the channels, and 0 for each that there is not
-abbrev pub eight : (Reply → ℕ) → List Reply → List ℕ
-eight f l = map f l ++ replicate (8 - length l) 0
-
--- the struct's fields and the buffers afterwards are those of the results
-pub record Gives (R : Results) (number spent : ℕ) (status iterations : List ℕ) (b : Buffers) : Type 0 where
-  pub number-is : number ≡ R .number
-  pub spent-is : spent ≡ R .spent
-  pub status-is : status ≡ eight (λ a. a .number) (R .answers)
-  pub iterations-is : iterations ≡ eight (λ a. a .value) (R .answers)
-  pub symbols-then : b .symbols ≡ R .buffers .symbols
-  pub costs-then : b .costs ≡ R .buffers .costs
-  pub store-then : b .store ≡ R .buffers .store
-  pub margins-then : b .margins ≡ R .buffers .margins
+use Rattle.channels.specs.inner.Rounds.{Standing, Serves, lentIn, statusOf, patchAt}
 
 -- "21, channel count not 1 to 8, before all; 22, A is 0, after 21."; 0 for neither
 unfoldable pub countFault : ℕ → ℕ → ℕ

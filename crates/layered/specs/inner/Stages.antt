@@ -12,23 +12,12 @@ use Rattle.trellis.specs.Rules.{firstOk, powerOf, sizeOf, ruleFor}
 use Rattle.machine.specs.CodeLine.{good, Code, zeroIn}
 use Rattle.machine.specs.Decoding.{Buffers, admittedUnder}
 use Rattle.machine.specs.Moments.{Stage as Ends, Moment, loadingUnder, resumableUnder, iteratingUnder}
-use Rattle.machine.specs.Tables.{before}
-use Rattle.layered.specs.declared.Stage.{Stage}
-use Rattle.layered.specs.declared.Stage.the-variants.{Running, Found, NotFound, Refused}
-use Rattle.layered.specs.Parity.{SettledRoom}
-use Rattle.layered.specs.Passes.{Graph, tableAt, lengthAt, placeAt, recordAt, PassRoom}
-use Rattle.layered.specs.Turns.{Weighed}
-use Rattle.layered.specs.Frames.{Coded}
-
-abbrev pub ends : ℕ → ℕ → Ends
-ends state number = record { state = state; number = number }
-
--- "States: 0 idle, 1 running, 2 found, 3 not found, 4 refused."
-abbrev pub stageOf : Stage → Ends
-stageOf Running = ends 1 0
-stageOf Found = ends 2 0
-stageOf NotFound = ends 3 0
-stageOf (Refused k) = ends 4 k
+use Rattle.machine.specs.inner.Tables.{before}
+use Rattle.layered.specs.Answers.{ends}
+use Rattle.layered.specs.inner.Parity.{SettledRoom}
+use Rattle.layered.specs.inner.Passes.{Graph, tableAt, lengthAt, placeAt, recordAt, PassRoom}
+use Rattle.layered.specs.inner.Turns.{Weighed}
+use Rattle.layered.specs.inner.Frames.{Coded}
 
 -- "2 if the test holds, else 3 if t is I or more, else 1"
 unfoldable pub stageAfter : Bool → ℕ → ℕ → Ends
