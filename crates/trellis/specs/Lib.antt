@@ -12,5 +12,6 @@ pub mod Ready
 pub mod Display
 pub mod Kept
 pub mod Reply
+pub mod Refusals
 pub mod Bench
 pub mod inner

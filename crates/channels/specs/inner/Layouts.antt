@@ -1,11 +1,12 @@
 -- What the functions ask and leave: the struct that a call answers by, the numbers and lengths that a channel needs, and room for each loop.
 use mathlib.Core.Path.{_≡_}
 use mathlib.Core.Bool.{_||_}
-use mathlib.Core.List.{List, map, _++_}
+use mathlib.Core.List.{List, map, _++_, [], _∷_}
 use Prim.Native.Nat.{ℕ, _+_, _-_, _*_, _≤_, _<_}
 use lib.Dec.{eqb, ltb}
 use lib.ListN.{length, take, replicate}
 use Rattle.trellis.specs.Lists.{pick}
+use Rattle.trellis.specs.Refusals.{unless, refusedBy, faultBy}
 use Rattle.trellis.specs.Rules.{sizeOf}
 use Rattle.trellis.specs.Reply.{Reply}
 use Rattle.machine.specs.CodeLine.{good, Code, size, parse}
@@ -17,12 +18,12 @@ use Rattle.machine.specs.inner.InRange.{Passable}
 use Rattle.layered.specs.inner.Frames.{roomFault}
 use Rattle.layered.specs.inner.Passes.{graph, placeAt, Tables}
 use Rattle.channels.specs.declared.service.Layout.{Layout}
-use Rattle.channels.specs.Channels.{Results, ownOf}
+use Rattle.channels.specs.Channels.{Results, ownOf, countTests}
 use Rattle.channels.specs.inner.Rounds.{Standing, Serves, lentIn, statusOf, patchAt}
 
 -- "21, channel count not 1 to 8, before all; 22, A is 0, after 21."; 0 for neither
 unfoldable pub countFault : ℕ → ℕ → ℕ
-countFault n A = pick (ltb n 1 || ltb 8 n) 21 (pick (eqb A 0) 22 0)
+countFault n A = faultBy (countTests n A)
 
 -- a layout by its numbers
 pub record LaidOut (first scale limit columns : ℕ) (ds : List ℕ) (z : Layout) : Type 0 where
@@ -35,7 +36,7 @@ pub record LaidOut (first scale limit columns : ℕ) (ds : List ℕ) (z : Layout
 
 -- 12, 2, 3, 4, 19 by the lengths; 0 for none
 unfoldable pub faultFor : ℕ → Layout → ℕ → ℕ → ℕ → ℕ → ℕ → ℕ
-faultFor n z f y c s v = pick (eqb f (n * z .costs)) (roomFault (n * z .columns) (n * z .costs) (n * z .store) y c s v) 12
+faultFor n z f y c s v = refusedBy (unless (eqb f (n * z .costs)) 12 ∷ []) (λ k. k) (roomFault (n * z .columns) (n * z .costs) (n * z .store) y c s v)
 
 -- lengths whose multiples fit
 pub record FaultRoom (n : ℕ) (z : Layout) : Type 0 where

@@ -2,11 +2,12 @@
 -- shows that these are loading and iterating.
 use mathlib.Core.Path.{_≡_}
 use mathlib.Core.Bool.{Bool, true, _&&_, _||_}
-use mathlib.Core.List.{List}
+use mathlib.Core.List.{List, [], _∷_}
 use Prim.Native.Nat.{ℕ, _+_, _*_, _≤_, _<_}
 use lib.Dec.{eqb, leb}
 use lib.ListN.{length, getD}
 use Rattle.trellis.specs.Lists.{pick, allTo}
+use Rattle.trellis.specs.Refusals.{unless, faultBy}
 use Rattle.trellis.specs.Record.{recordOk}
 use Rattle.trellis.specs.Rules.{firstOk, powerOf, sizeOf, ruleFor}
 use Rattle.machine.specs.CodeLine.{good, Code, zeroIn}
@@ -47,7 +48,7 @@ recordsIn first ds t s = eqb t 0 || allTo (formedAt first ds s) (length ds)
 
 -- "then 13 .. then, if t is not 0, 16"; 0 for none
 unfoldable pub resumeFault : ℕ → ℕ → List ℕ → ℕ → List ℕ → List ℕ → ℕ
-resumeFault first n ds t c s = pick (costsIn (sizeOf first) n c) (pick (recordsIn first ds t s) 0 16) 13
+resumeFault first n ds t c s = faultBy (unless (costsIn (sizeOf first) n c) 13 ∷ unless (recordsIn first ds t s) 16 ∷ [])
 
 -- check m's weights are those of an accepted check, and its record is inside the store
 pub record FormRoom (first : ℕ) (ds ws s : List ℕ) (m : ℕ) : Type 0 where
