@@ -51,6 +51,9 @@ weightTests f ws =
     ∷ unless (weightsOk (sizeOf f) ws) 11
     ∷ []
 
+abbrev pub weightCases {ℓ} : {A : Type ℓ} → ℕ → List ℕ → (ℕ → A) → A → A
+weightCases f ws bad rest = refusedBy (weightTests f ws) bad rest
+
 -- column n has a cost of 0
 unfoldable pub zeroOk : ℕ → List ℕ → ℕ → Bool
 zeroOk q cs n = ltb (firstZero (costsAt q cs n)) q
