@@ -17,14 +17,14 @@ use Rattle.machine.specs.Machine.{none, State, lastOf, start, iteration, settle
 use Rattle.machine.specs.Lent.{pass}
 use Rattle.machine.specs.Decoding.{Buffers, holding, Room}
 use Rattle.machine.specs.Moments.{Moment, moment, stateAfter, further, gone}
-use Rattle.machine.proofs.Lines.{GoodCode}
-use Rattle.machine.proofs.Updates.{Below}
+use Rattle.machine.specs.inner.Accepted.{GoodCode}
+use Rattle.machine.specs.inner.InRange.{Below}
 use Rattle.machine.proofs.Ranges.{frame-ranged}
 use Rattle.machine.proofs.Lent.{lentOf, held-none, held-end, pass-stands, Ready}
 use Rattle.machine.proofs.Buffers.{holding-again}
 use Rattle.machine.proofs.Resume.{at, Sound, iteration-sound}
 use Rattle.channels.specs.Channels.{after, finished, spentIn, answer, received}
-use Rattle.channels.specs.Rounds.{opened, stepped, statusOf}
+use Rattle.channels.specs.inner.Rounds.{opened, stepped, statusOf}
 use Rattle.channels.proofs.Alone.{after-t, after-suc, received-is}
 
 -- a channel's moment after j iterations, each from the parts that the one before left

@@ -16,14 +16,15 @@ use Rattle.trellis.proofs.Places.{length-count, map-ext}
 use Rattle.machine.specs.CodeLine.{Read, good, bad, parse, Code, size, zeroIn, frameFault}
 use Rattle.machine.specs.Machine.{settled}
 use Rattle.machine.proofs.Lists.{at-upTo, map-after}
-use Rattle.machine.proofs.Lines.{GoodCode, parse-good}
-use Rattle.machine.proofs.Updates.{Below}
+use Rattle.machine.specs.inner.Accepted.{GoodCode}
+use Rattle.machine.proofs.Lines.{parse-good}
+use Rattle.machine.specs.inner.InRange.{Below}
 use Rattle.machine.proofs.Ranges.{below-take, below-drop}
 use Rattle.machine.specs.Decoding.{Buffers}
 use Rattle.channels.specs.Serving.{countOf, sum}
 use Rattle.channels.specs.Channels.{after, finished, spentIn, answer, received, frameOf, ownOf, Results, refusing, counted, answersOf, results, roomFaultFor, under, channels}
 use Rattle.channels.specs.Claims.{nothing, IsServed, answerAt, Channels-whole, Channels-found-first, Channels-fair, Channels-sum, Channels-alone, Channels-refused}
-use Rattle.channels.specs.Rounds.{RoomFor}
+use Rattle.channels.specs.inner.Rounds.{RoomFor}
 use Rattle.channels.proofs.Servings.{length-counts, sum-left, unfinished-before, spent-left}
 use Rattle.channels.proofs.Fairness.{fair}
 use Rattle.channels.proofs.Alone.{after-none, alone}

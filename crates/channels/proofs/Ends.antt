@@ -20,13 +20,14 @@ use Rattle.machine.specs.Machine.{settled, used}
 use Rattle.machine.specs.Decoding.{Buffers}
 use Rattle.machine.specs.Moments.{Stage, Moment, moment}
 use Rattle.machine.proofs.Lists.{at-upTo, map-after}
-use Rattle.machine.proofs.Lines.{GoodCode, parse-good}
-use Rattle.machine.proofs.Updates.{Below}
+use Rattle.machine.specs.inner.Accepted.{GoodCode}
+use Rattle.machine.proofs.Lines.{parse-good}
+use Rattle.machine.specs.inner.InRange.{Below}
 use Rattle.machine.proofs.Ranges.{below-take, below-drop}
 use Rattle.channels.specs.Serving.{countOf, serve, sum}
 use Rattle.channels.specs.Channels.{after, finished, spentIn, answer, received, frameOf, ownOf, counted, results, roomFaultFor, channels}
 use Rattle.channels.specs.Claims.{IsServed}
-use Rattle.channels.specs.Rounds.{statusOf, Standing, standing, statusAt, countAt, loadedTo, roundsAt, Rooms, Asked, replyBy, Ends}
+use Rattle.channels.specs.inner.Rounds.{statusOf, Standing, standing, statusAt, countAt, loadedTo, roundsAt, Rooms, Asked, replyBy, Ends}
 use Rattle.channels.proofs.Servings.{length-counts, sum-left}
 use Rattle.channels.proofs.Rounds.{begin}
 use Rattle.channels.proofs.Parts.{length-part, Exact, exact-room, own-exact, received-exact, received-refused}

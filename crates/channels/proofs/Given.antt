@@ -14,19 +14,20 @@ use Rattle.trellis.specs.Rules.{firstOk, sizeOf}
 use Rattle.trellis.specs.Reply.{Reply}
 use Rattle.trellis.proofs.Places.{length-count}
 use Rattle.machine.specs.CodeLine.{good, Code, size, numbersOf, parse}
-use Rattle.machine.specs.Tables.{Tabled}
+use Rattle.machine.specs.inner.Tables.{Tabled}
 use Rattle.machine.specs.Decoding.{Buffers, lending}
 use Rattle.machine.proofs.Rooms.{used-high, costs-high}
 use Rattle.codeline.specs.declared.Header.{Header}
 use Rattle.codeline.specs.declared.Header.the-variants.{Read as HeaderRead, Refused as HeaderRefused}
 use Rattle.codeline.specs.Answers.{headerNumbers}
 use Rattle.codeline.proofs.Answered.{header-refused}
-use Rattle.layered.specs.Frames.{roomFault, Coded}
+use Rattle.layered.specs.inner.Frames.{roomFault, Coded}
 use Rattle.layered.proofs.Decoded.{coded-tables, degree-slice, few, used-is, read, coded}
 use Rattle.channels.specs.declared.service.Layout.{Layout}
 use Rattle.channels.specs.Channels.{results, refusing, roomFaultFor, under, channels}
-use Rattle.channels.specs.Rounds.{Standing, standing, roundsAt, loadedTo, RoomFor, Asked, Ends, replyBy, statusAt, countAt, Serves}
-use Rattle.channels.specs.Layouts.{Gives, LaidOut, Shaped, countFault, faultFor, FaultRoom, UnderRoom}
+use Rattle.channels.specs.inner.Rounds.{Standing, standing, roundsAt, loadedTo, RoomFor, Asked, Ends, replyBy, statusAt, countAt, Serves}
+use Rattle.channels.specs.Answers.{Gives}
+use Rattle.channels.specs.inner.Layouts.{LaidOut, Shaped, countFault, faultFor, FaultRoom, UnderRoom}
 use Rattle.channels.proofs.Parts.{room-for}
 use Rattle.channels.proofs.Ends.{eight-end}
 use Rattle.channels.proofs.Quiet.{round-left}

@@ -16,20 +16,20 @@ use Rattle.machine.specs.Machine.{symbols, margins, settled, used}
 use Rattle.machine.specs.Lent.{pass}
 use Rattle.machine.specs.Decoding.{Buffers, lending, holding}
 use Rattle.machine.specs.Moments.{Stage, moment, further}
-use Rattle.machine.proofs.Passing.{Passable}
-use Rattle.machine.proofs.Updates.{Below}
+use Rattle.machine.specs.inner.InRange.{Below, Passable}
 use Rattle.machine.proofs.Ranges.{part-patch, below-take, below-drop, frame-ranged}
-use Rattle.layered.specs.Parity.{decisionsOf, marginsOf}
-use Rattle.layered.specs.Passes.{graph, lent, passOver, testOn, Running}
-use Rattle.layered.specs.Frames.{frameFaultOf}
-use Rattle.layered.specs.Stages.{ends, stageAfter, TestRoom}
-use Rattle.layered.specs.Stages.{StepRoom as IterateRoom}
+use Rattle.layered.specs.inner.Parity.{decisionsOf, marginsOf}
+use Rattle.layered.specs.inner.Passes.{graph, lent, passOver, testOn, Running}
+use Rattle.layered.specs.inner.Frames.{frameFaultOf}
+use Rattle.layered.specs.Answers.{ends}
+use Rattle.layered.specs.inner.Stages.{stageAfter, TestRoom}
+use Rattle.layered.specs.inner.Stages.{StepRoom as IterateRoom}
 use Rattle.layered.proofs.Passes.{symbols-are, margins-are, settled-is, tables-pass}
 use Rattle.layered.proofs.Steps.{tested-room}
 use Rattle.channels.specs.declared.service.Layout.{Layout}
 use Rattle.channels.specs.Channels.{frameOf, ownOf}
-use Rattle.channels.specs.Rounds.{lentIn, statusOf, patchAt, loadAt, stepAt}
-use Rattle.channels.specs.Layouts.{Shaped, Puts, OnePart, PartRoom}
+use Rattle.channels.specs.inner.Rounds.{lentIn, statusOf, patchAt, loadAt, stepAt}
+use Rattle.channels.specs.inner.Layouts.{Shaped, Puts, OnePart, PartRoom}
 use Rattle.layered.proofs.Columns.{length-part}
 use Rattle.channels.proofs.Parts.{Exact}
 use Rattle.channels.proofs.Serves.{further-own}

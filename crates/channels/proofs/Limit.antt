@@ -9,11 +9,12 @@ use lib.ListN.{length, getD, set, length-set}
 use lib.Seq.{getD-set-same, getD-set-other}
 use borrow.Author.Tests.{ltb-false, le-ltb}
 use Rattle.trellis.specs.Lists.{pick}
+use Rattle.trellis.specs.Refusals.{when}
 use Rattle.trellis.specs.Rules.{sizeOf, firstOk}
-use Rattle.machine.specs.CodeLine.{Read, good, bad, then, Edge, Code, wordAt, readEdge, edges, checkAt, checks, parse, frameFault}
+use Rattle.machine.specs.CodeLine.{Read, good, bad, then, Edge, Code, wordAt, readEdge, edges, checkAt, checks, headTests, parse, frameFault}
 use Rattle.machine.specs.Machine.{Last, none, made, State, lastOf, recordIn, update, iteration, start, settled, symbols, margins, go, run, records, place, used}
 use Rattle.trellis.proofs.Loops.{blocks-ext}
-use Rattle.machine.proofs.Lines.{guard, AllFalse, passed, then-good, good-one}
+use Rattle.machine.proofs.Lines.{passed, to-pass, then-good, good-one}
 
 abbrev pub withLimit : ℕ → Code → Code
 withLimit j C = record { first = C .first; columns = C .columns; scale = C .scale; limit = j; checks = C .checks }
@@ -46,10 +47,6 @@ module _ (s s′ : List ℕ) (long : length s′ ≡ length s) (same : (i : ℕ)
       rw (check-same at n q total h, same at h)
       (then-ext (checkAt s at n q total) _ _ (λ es. ap (λ r. then r (λ (cs : List (List Edge)). good (es ∷ cs))) (checks-same c (at + 1 + 3 * getD s at 0) n q (total + getD s at 0) (omega arith))))
 
-to-pass : {A : Type 0} (l : List (Bool × ℕ)) (y : Read A) → AllFalse l → guard l y ≡ y
-to-pass [] y h = refl
-to-pass (x ∷ l) y h = ap (λ b. pick b (bad (x .1)) (guard l y)) (h .0) ∙ to-pass l y (h .1)
-
 pub limited-parse : (s : List ℕ) (C : Code) (j : ℕ) → parse s ≡ good C → 1 ≤ j → parse (set s 5 j) ≡ good (withLimit j C)
 unfolding parse
 limited-parse s C j h k =
@@ -58,7 +55,7 @@ limited-parse s C j h k =
     let m : ℕ = getD s 3 0 in
     let g : ℕ = getD s 4 0 in
     let i : ℕ = getD s 5 0 in
-    let a = passed ((ltb (length s) 6, 5) ∷ (not (firstOk f), 6) ∷ (ltb n 1, 7) ∷ (ltb 256 n, 7) ∷ (ltb m 1, 7) ∷ (ltb 128 m, 7) ∷ (ltb g 1, 8) ∷ (ltb 16 g, 8) ∷ (ltb i 1, 8) ∷ []) _ C h in
+    let a = passed (headTests s) _ C h in
     let b = then-good (checks m s 6 n (sizeOf f) 0) _ C (a .1) in
     let e : C ≡ record { first = f; columns = n; scale = g; limit = i; checks = b .0 } = sym (good-one _ C (b .2)) in
     let long : 6 ≤ length s = ltb-false (length s) 6 (a .0 .0) in
@@ -73,7 +70,7 @@ limited-parse s C j h k =
       getD-set-same s 5 j 0 (omega arith),
       checks-same s (set s 5 j) (length-set s 5 j) (λ x l. getD-set-other s 5 x j 0 (λ (z : x ≡ 5). omega arith)) m 6 n (sizeOf f) 0 (omega arith),
     )
-    (to-pass ((ltb (length s) 6, 5) ∷ (not (firstOk f), 6) ∷ (ltb n 1, 7) ∷ (ltb 256 n, 7) ∷ (ltb m 1, 7) ∷ (ltb 128 m, 7) ∷ (ltb g 1, 8) ∷ (ltb 16 g, 8) ∷ (ltb j 1, 8) ∷ []) _
+    (to-pass (when (ltb (length s) 6) 5 ∷ when (not (firstOk f)) 6 ∷ when (ltb n 1) 7 ∷ when (ltb 256 n) 7 ∷ when (ltb m 1) 7 ∷ when (ltb 128 m) 7 ∷ when (ltb g 1) 8 ∷ when (ltb 16 g) 8 ∷ when (ltb j 1) 8 ∷ []) _
     (t .0, (t .1 .0, (t .1 .1 .0, (t .1 .1 .1 .0, (t .1 .1 .1 .1 .0, (t .1 .1 .1 .1 .1 .0, (t .1 .1 .1 .1 .1 .1 .0, (t .1 .1 .1 .1 .1 .1 .1 .0, (le-ltb j 1 k, tt)))))))))
     ∙ ap (λ r. then r (λ (cs : List (List Edge)). good (record { first = f; columns = n; scale = g; limit = j; checks = cs }))) (b .1)
     ∙ ap (λ (c : Code). good (withLimit j c)) (sym e))

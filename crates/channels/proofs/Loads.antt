@@ -16,7 +16,7 @@ use Rattle.machine.specs.Decoding.{Buffers, holding}
 use Rattle.machine.specs.Moments.{Moment, moment}
 use Rattle.machine.proofs.Buffers.{length-symbols, length-margins}
 use Rattle.channels.specs.Channels.{frameOf, ownOf}
-use Rattle.channels.specs.Rounds.{opened, loadAt, statusOf, Standing, statusAt, loadedAt, loadedTo, Rooms}
+use Rattle.channels.specs.inner.Rounds.{opened, loadAt, statusOf, Standing, statusAt, loadedAt, loadedTo, Rooms}
 use Rattle.channels.proofs.Parts.{length-part, Exact, own-exact}
 use Rattle.channels.proofs.Patches.{patch-room, patch-own, patch-other, patch-beyond}
 use Rattle.channels.proofs.Stands.{Untouched}

@@ -12,8 +12,8 @@ use Rattle.machine.specs.Machine.{used}
 use Rattle.machine.specs.Decoding.{Buffers}
 use Rattle.machine.proofs.Ranges.{column-room}
 use Rattle.channels.specs.declared.service.Layout.{Layout}
-use Rattle.channels.specs.Rounds.{Standing, standing, statusAt, countAt, stepAt, loadAt, loadedAt, loadedTo, movedAt, servingAt, roundAt, RoomFor}
-use Rattle.channels.specs.Layouts.{Shaped, Puts, OnePart, AllParts, PartRoom, StepRoom, ServeRoom}
+use Rattle.channels.specs.inner.Rounds.{Standing, standing, statusAt, countAt, stepAt, loadAt, loadedAt, loadedTo, movedAt, servingAt, roundAt, RoomFor}
+use Rattle.channels.specs.inner.Layouts.{Shaped, Puts, OnePart, AllParts, PartRoom, StepRoom, ServeRoom}
 use Rattle.channels.proofs.Serves.{serving-serves, round-serves}
 use Rattle.channels.proofs.Quiet.{less-law}
 

@@ -14,13 +14,14 @@ use borrow.Author.Tests.{ltb-false, eqb-true, eqb-false, ne-eqb}
 use Rattle.trellis.specs.Lists.{pick, part, blocks}
 use Rattle.machine.specs.CodeLine.{Code, size, frameFault}
 use Rattle.machine.specs.Machine.{none, records, used}
-use Rattle.machine.proofs.Lines.{GoodCode}
-use Rattle.machine.proofs.Updates.{Below, Reached, iteration-kept, length-records}
-use Rattle.machine.proofs.Ranges.{Ranged, column-room, frame-ranged, iteration-ranged}
+use Rattle.machine.specs.inner.Accepted.{GoodCode}
+use Rattle.machine.specs.inner.InRange.{Below, Ranged}
+use Rattle.machine.proofs.Updates.{Reached, iteration-kept, length-records}
+use Rattle.machine.proofs.Ranges.{column-room, frame-ranged, iteration-ranged}
 use Rattle.machine.specs.Decoding.{Buffers, holding, Room}
 use Rattle.machine.proofs.Buffers.{length-symbols, length-margins}
 use Rattle.channels.specs.Channels.{after, received, ownOf, together, roomFaultFor}
-use Rattle.channels.specs.Rounds.{RoomFor}
+use Rattle.channels.specs.inner.Rounds.{RoomFor}
 use Rattle.channels.proofs.Alone.{after-t}
 
 -- the machine after j iterations

@@ -15,7 +15,7 @@ use Rattle.machine.specs.Machine.{used}
 use Rattle.machine.specs.Decoding.{Buffers, lending}
 use Rattle.machine.proofs.Ranges.{length-patch, part-patch, part-before, part-after, column-room}
 use Rattle.channels.specs.Channels.{ownOf, together}
-use Rattle.channels.specs.Rounds.{patchAt, RoomFor}
+use Rattle.channels.specs.inner.Rounds.{patchAt, RoomFor}
 use Rattle.channels.proofs.Parts.{Exact}
 
 -- a part of width w at one place, where another is patched

@@ -8,7 +8,7 @@ use lib.Dec.{eqb}
 use borrow.Author.Tests.{eqb-false}
 use Rattle.trellis.specs.Lists.{pick, upto}
 use Rattle.machine.specs.CodeLine.{Code}
-use Rattle.channels.specs.Rounds.{Standing, statusAt, movedAt, servingAt, roundAt, roundsAt}
+use Rattle.channels.specs.inner.Rounds.{Standing, statusAt, movedAt, servingAt, roundAt, roundsAt}
 
 module _ (C : Code) (n : ℕ) where
   serving-left : (c : ℕ) (l : Standing) → (servingAt C c l ≡ l) ⊎ (servingAt C c l .left < l .left)

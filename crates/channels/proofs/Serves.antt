@@ -17,13 +17,13 @@ use Rattle.machine.specs.Machine.{settled}
 use Rattle.machine.specs.Lent.{Lent, pass}
 use Rattle.machine.specs.Decoding.{Buffers}
 use Rattle.machine.specs.Moments.{Moment, further, gone}
-use Rattle.machine.proofs.Lines.{GoodCode}
-use Rattle.machine.proofs.Updates.{Below}
+use Rattle.machine.specs.inner.Accepted.{GoodCode}
+use Rattle.machine.specs.inner.InRange.{Below, Passable}
 use Rattle.machine.proofs.Ranges.{below-take, below-drop, frame-ranged}
-use Rattle.machine.proofs.Passing.{Passable, turns-before, pass-passable}
+use Rattle.machine.proofs.Passing.{turns-before, pass-passable}
 use Rattle.machine.proofs.Buffers.{length-symbols, length-margins}
 use Rattle.channels.specs.Channels.{frameOf, ownOf}
-use Rattle.channels.specs.Rounds.{opened, stepped, stepAt, statusOf, Standing, statusAt, countAt, loadedTo, movedAt, servingAt, roundAt, roundsAt, Rooms, lentIn, Serves}
+use Rattle.channels.specs.inner.Rounds.{opened, stepped, stepAt, statusOf, Standing, statusAt, countAt, loadedTo, movedAt, servingAt, roundAt, roundsAt, Rooms, lentIn, Serves}
 use Rattle.channels.proofs.Parts.{length-part, Exact, own-exact}
 use Rattle.channels.proofs.Call.{fault-13}
 use Rattle.channels.proofs.Patches.{patch-room, patch-own, patch-other}

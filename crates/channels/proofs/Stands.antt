@@ -14,7 +14,7 @@ use Rattle.machine.specs.CodeLine.{Code}
 use Rattle.machine.specs.Moments.{Moment}
 use Rattle.channels.specs.Serving.{Served, countOf, serving, serve}
 use Rattle.channels.specs.Channels.{ownOf}
-use Rattle.channels.specs.Rounds.{stepped, stepAt, patchAt, statusOf, Standing, standing, statusAt, countAt, idleAt, movedAt, servingAt, roundAt, roundsAt, Rooms}
+use Rattle.channels.specs.inner.Rounds.{stepped, stepAt, patchAt, statusOf, Standing, standing, statusAt, countAt, idleAt, movedAt, servingAt, roundAt, roundsAt, Rooms}
 use Rattle.channels.proofs.Rounds.{round, rounds, begin, serve-rounds}
 use Rattle.channels.proofs.Parts.{Exact}
 use Rattle.channels.proofs.Patches.{Beyond, patch-room, patch-own, patch-other, patch-beyond}

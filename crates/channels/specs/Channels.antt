@@ -1,14 +1,15 @@
 -- One check layer, eight channels: the call with its refusals, its results and its buffers.
 use mathlib.Core.Bool.{Bool, false, not, _||_}
-use mathlib.Core.List.{List, [], map, _++_}
+use mathlib.Core.List.{List, [], map, _++_, _∷_}
 use Prim.Native.Nat.{ℕ, _*_}
 use lib.Dec.{eqb, ltb}
 use lib.ListN.{length, drop}
 use Rattle.trellis.specs.Lists.{upTo, pick, upto, part, blocks}
+use Rattle.trellis.specs.Refusals.{Test, when, refusedBy, faultBy}
 use Rattle.trellis.specs.Reply.{Reply, refusal, foundIn, notFoundIn}
 use Rattle.machine.specs.CodeLine.{Read, good, bad, Code, size, parse, frameFault}
 use Rattle.machine.specs.Machine.{State, start, iteration, settled, records, used}
-use Rattle.machine.specs.Decoding.{Buffers, holding}
+use Rattle.machine.specs.Decoding.{Buffers, holding, roomTests}
 use Rattle.channels.specs.Serving.{Served, countOf, serve, sum}
 
 -- "The frames, and each kind of output, stand end to end by channel in one lent buffer per kind.": channel c's frame, and its parts of the
@@ -93,11 +94,8 @@ refusing k b = record { number = k; spent = 0; answers = []; buffers = b }
 -- "2, 3, 4 and 19 .. each length being the count times one channel's"; 0 for none
 unfoldable pub roomFaultFor : Code → ℕ → Buffers → ℕ
 roomFaultFor C n b =
-    pick (ltb (length (b .symbols)) (n * C .columns)) 2
-    (pick (ltb (length (b .costs)) (n * (C .columns * size C))) 3
-    (pick (ltb (length (b .store)) (n * used C)) 4
-    (pick (ltb (length (b .margins)) (n * C .columns)) 19
-    0)))
+    faultBy
+    (roomTests (n * C .columns) (n * (C .columns * size C)) (n * used C) (length (b .symbols)) (length (b .costs)) (length (b .store)) (length (b .margins)))
 
 -- "Then the code's, 12, 2, 3, 4 and 19 refuse the whole call"
 abbrev pub under : Read Code → ℕ → ℕ → List ℕ → Buffers → Results
@@ -108,8 +106,11 @@ under (good C) n A fs b =
     (refusing 12 b)
 
 -- "21, channel count not 1 to 8, before all; 22, A is 0, after 21."
+abbrev pub countTests : ℕ → ℕ → List Test
+countTests n A =
+    when (ltb n 1 || ltb 8 n) 21
+    ∷ when (eqb A 0) 22
+    ∷ []
+
 unfoldable pub channels : ℕ → ℕ → List ℕ → List ℕ → Buffers → Results
-channels n A code fs b =
-    pick (ltb n 1 || ltb 8 n) (refusing 21 b)
-    (pick (eqb A 0) (refusing 22 b)
-    (under (parse code) n A fs b))
+channels n A code fs b = refusedBy (countTests n A) (λ k. refusing k b) (under (parse code) n A fs b)

@@ -9,9 +9,9 @@ ghost use mathlib.Core.List.{List};
 ghost use Prim.Native.Nat.{ℕ};
 ghost use Rattle.machine.specs.CodeLine.{Code};
 ghost use Rattle.machine.specs.Decoding.{lending};
-ghost use Rattle.layered.specs.Stages.{stageOf};
-ghost use Rattle.channels.specs.Rounds.{statusOf, loadAt, stepAt};
-ghost use Rattle.channels.specs.Layouts.{Shaped, OnePart, LoadRoom, StepRoom, Puts};
+ghost use Rattle.layered.specs.Answers.{stageOf};
+ghost use Rattle.channels.specs.inner.Rounds.{statusOf, loadAt, stepAt};
+ghost use Rattle.channels.specs.inner.Layouts.{Shaped, OnePart, LoadRoom, StepRoom, Puts};
 
 // 20 while running: at the end it is the channel's status.
 fn status_of(s: Stage) -> u8

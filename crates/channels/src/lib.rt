@@ -5,7 +5,7 @@ mod whole;
 
 ghost use Rattle.machine.specs.Decoding.{lending};
 ghost use Rattle.channels.specs.Channels.{channels};
-ghost use Rattle.channels.specs.Layouts.{Gives};
+ghost use Rattle.channels.specs.Answers.{Gives};
 
 // The call's number, the iterations spent of the allowance, and each channel's status with its iterations; 0 for a channel that there is not,
 // and all 0 but the number where the whole call is refused.

@@ -5,8 +5,8 @@ ghost use mathlib.Core.List.{List};
 ghost use Prim.Native.Nat.{ℕ};
 ghost use Rattle.machine.specs.CodeLine.{Code};
 ghost use Rattle.machine.specs.Decoding.{lending};
-ghost use Rattle.channels.specs.Rounds.{standing, servingAt, loadedTo, roundAt, roundsAt};
-ghost use Rattle.channels.specs.Layouts.{Shaped, AllParts, LoadsRoom, OneRoom, ServeRoom};
+ghost use Rattle.channels.specs.inner.Rounds.{standing, servingAt, loadedTo, roundAt, roundsAt};
+ghost use Rattle.channels.specs.inner.Layouts.{Shaped, AllParts, LoadsRoom, OneRoom, ServeRoom};
 
 // The numbers of the code line that a channel needs, and the lengths of its parts: N, N times q, and the M record lengths added up.
 pub struct Layout {

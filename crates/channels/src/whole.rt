@@ -14,7 +14,8 @@ ghost use Rattle.trellis.specs.Rules.{firstOk};
 ghost use Rattle.machine.specs.CodeLine.{good, Code, parse};
 ghost use Rattle.machine.specs.Decoding.{Buffers, lending};
 ghost use Rattle.channels.specs.Channels.{refusing, channels};
-ghost use Rattle.channels.specs.Layouts.{Gives, Shaped, LaidOut, countFault, faultFor, FaultRoom, UnderRoom};
+ghost use Rattle.channels.specs.Answers.{Gives};
+ghost use Rattle.channels.specs.inner.Layouts.{Shaped, LaidOut, countFault, faultFor, FaultRoom, UnderRoom};
 
 // A refusal of the whole call.
 fn refused(k: u8) -> Served

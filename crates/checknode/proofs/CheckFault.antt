@@ -15,7 +15,7 @@ use Rattle.trellis.specs.Rules.{ruleFor, sizeOf, firstOk}
 use Rattle.trellis.specs.Ready.{Ready}
 use Rattle.trellis.proofs.Tests.{of-true}
 use Rattle.checknode.specs.Answers.{weightsOk, zeroOk, checkCases, checkFault}
-use Rattle.checknode.specs.Asks.{weightsFault}
+use Rattle.checknode.specs.inner.Asks.{weightsFault}
 use Rattle.checknode.proofs.Refusals.{Weighed, at-least, no-fault, fault-case, rest-case, ready-law}
 
 module _ (first : ℕ) (ws cs : List ℕ) (room : ℕ) where

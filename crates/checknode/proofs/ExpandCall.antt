@@ -9,7 +9,7 @@ use Rattle.trellis.specs.Record.{recordOk, expansion}
 use Rattle.trellis.specs.Rules.{ruleFor, powerOf, sizeOf, mostOf}
 use Rattle.trellis.specs.Reply.{accepted, refusal}
 use Rattle.checknode.specs.Answers.{expandReply, expandLeaves}
-use Rattle.checknode.specs.Asks.{weightsFault, Expandable}
+use Rattle.checknode.specs.inner.Asks.{weightsFault, Expandable}
 use Rattle.checknode.proofs.Refusals.{Weighed, fault-case, case-16, case-2, expand-case}
 use Rattle.checknode.proofs.Expanding.{expandable}
 

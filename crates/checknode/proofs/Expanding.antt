@@ -20,8 +20,8 @@ use Rattle.trellis.proofs.Tests.{of-true, all-at}
 use Rattle.trellis.proofs.Recurrence.{size-64}
 use Rattle.trellis.proofs.FieldLaws.{fields-at, has-inverse}
 use Rattle.trellis.proofs.Loops.{length-tab, getD-tab, tab-ext, map-tab, each-blocks, blocks-ext}
-use Rattle.checknode.specs.Asks.{Times, Expandable, columnBytes}
-use Rattle.checknode.specs.Transposed.{zeroRow, everyAt, listOf, unpacked, byteIn, besideFrom, valueIn, bySymbol, Unpackable, Shifted}
+use Rattle.checknode.specs.inner.Asks.{Times, Expandable, columnBytes}
+use Rattle.checknode.specs.inner.Transposed.{zeroRow, everyAt, listOf, unpacked, byteIn, besideFrom, valueIn, bySymbol, Unpackable, Shifted}
 use Rattle.checknode.proofs.Blocks.{block-at}
 use Rattle.checknode.proofs.Refusals.{Weighed, weight-at}
 

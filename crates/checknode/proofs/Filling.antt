@@ -14,7 +14,7 @@ use lib.Seq.{drop-cons, drop-length}
 use Rattle.trellis.specs.Lists.{tab}
 use Rattle.trellis.specs.Field.{xor, doubled, product}
 use Rattle.trellis.specs.Check.{firstZero}
-use Rattle.engine.specs.Terms.{bitsOf}
+use Rattle.engine.specs.inner.Terms.{bitsOf}
 use Rattle.trellis.proofs.Xor.{xor-assoc, xor-comm, xor-zero, xor-right}
 use Rattle.trellis.proofs.Recurrence.{product-zero, product-step}
 use Rattle.trellis.proofs.Loops.{tab-more, getD-tab}

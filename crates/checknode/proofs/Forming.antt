@@ -12,7 +12,7 @@ use lib.ListN.{length, getD}
 use Rattle.trellis.specs.Lists.{pick, allTo}
 use Rattle.trellis.specs.Record.{recordLength, pairsOk, recordOk}
 use Rattle.trellis.specs.Rules.{ruleFor, sizeOf, mostOf}
-use Rattle.checknode.specs.Asks.{pairNext}
+use Rattle.checknode.specs.inner.Asks.{pairNext}
 
 pair-step : (k : ℕ) (r : List ℕ) (at e d low : ℕ) → getD r at 0 < 256
     → pairsOk (suc k) r at e d low

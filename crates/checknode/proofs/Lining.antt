@@ -12,9 +12,9 @@ use Rattle.trellis.specs.Field.{xor, product}
 use Rattle.trellis.specs.Check.{firstZero}
 use Rattle.trellis.specs.Rules.{powerOf, sizeOf}
 use Rattle.trellis.specs.Ready.{Ready}
-use Rattle.engine.specs.Lines.{placed}
-use Rattle.checknode.specs.Asks.{Times}
-use Rattle.checknode.specs.Lines.{PlaceRoom, LinesRoom, rowOf, restsFrom, restsOf, sentFrom, sentColumn, SendRoom, SendsRoom}
+use Rattle.engine.specs.inner.Lines.{placed}
+use Rattle.checknode.specs.inner.Asks.{Times}
+use Rattle.checknode.specs.inner.Lines.{PlaceRoom, LinesRoom, rowOf, restsFrom, restsOf, sentFrom, sentColumn, SendRoom, SendsRoom}
 use Rattle.trellis.proofs.Loops.{length-tab, getD-tab, tab-more, length-even, block-more}
 use Rattle.checknode.proofs.Filling.{column-term}
 use Rattle.checknode.proofs.Turns.{part-is}

@@ -18,7 +18,7 @@ use Rattle.trellis.specs.Ready.{Ready}
 use Rattle.trellis.proofs.Rules.{first-power}
 use Rattle.trellis.proofs.Tests.{of-true, to-true, all-at, all-of}
 use Rattle.checknode.specs.Answers.{weightOk, weightsOk, weightCases, zeroOk, expandCases}
-use Rattle.checknode.specs.Asks.{weightsFault}
+use Rattle.checknode.specs.inner.Asks.{weightsFault}
 use Rattle.trellis.proofs.Margins.{zero-here, zero-later, zero-none}
 
 pub part-room : (n d w : ℕ) → n < d → n * w + w ≤ d * w

@@ -23,14 +23,14 @@ use Rattle.trellis.proofs.Loops.{length-tab, getD-tab, tab-ext, map-tab, blocks
 use Rattle.trellis.proofs.Rules.{most-some, most-few}
 use Rattle.trellis.proofs.Ready.{length-columns, column-at, ready-low, ready-high, ready-proper}
 use Rattle.trellis.proofs.Records.{sent-at, sent-small, shift-small}
-use Rattle.engine.specs.Terms.{termOf, sumTo}
-use Rattle.engine.specs.Rests.{lineAt}
+use Rattle.engine.specs.inner.Terms.{termOf, sumTo}
+use Rattle.engine.specs.inner.Rests.{lineAt}
 use Rattle.engine.proofs.Lines.{placed-row}
 use Rattle.engine.proofs.Record.{shift-is, record-parts}
 use Rattle.tables.specs.Calls.{side, inRange, sentLeaves, groupsLength, groupsLeave}
 use Rattle.tables.proofs.Meaning.{Asked, sent-means, groups-mean}
-use Rattle.checknode.specs.Asks.{shiftsOf}
-use Rattle.checknode.specs.Lines.{rowOf, restsOf, sideOf, Rests, sentFrom, sentColumn, SendsRoom}
+use Rattle.checknode.specs.inner.Asks.{shiftsOf}
+use Rattle.checknode.specs.inner.Lines.{rowOf, restsOf, sideOf, Rests, sentFrom, sentColumn, SendsRoom}
 use Rattle.checknode.proofs.Blocks.{in-block}
 use Rattle.checknode.proofs.Turns.{ready-times}
 use Rattle.checknode.proofs.Lining.{row-full, rests-full}
@@ -80,7 +80,7 @@ module _ (first : ℕ) (ws cs : List ℕ) (D : Ready first ws cs) where
       let c : Column = column cols n in
       let e = column-at q ws cs n h in
       in-block l (restsOf p ws cs l) (rests-full p ws cs l) (length ws) n a h (omega arith)
-      ∙ ap (λ (c : Column). getD (Rattle.engine.specs.Lines.placed (c .costs) (tab (product p (c .weight)) q) (product p (c .weight) (Rattle.trellis.specs.Check.firstZero (c .costs))) q (tab (λ a. 0) l)) a 0) (sym e)
+      ∙ ap (λ (c : Column). getD (Rattle.engine.specs.inner.Lines.placed (c .costs) (tab (product p (c .weight)) q) (product p (c .weight) (Rattle.trellis.specs.Check.firstZero (c .costs))) q (tab (λ a. 0) l)) a 0) (sym e)
       ∙ placed-row (ruleFor first) cols (ready-proper first ws cs D) n (omega (arith, length-columns q ws cs)) (tab (product p (c .weight)) q) (λ x u. getD-tab (product p (c .weight)) q x u) l (omega arith) a k
 
   pub rests-law : (lines rests : List ℕ) {r : List ℕ} → lines ≡ blocks (restsOf p ws cs l) (length ws) → length lines ≡ length ws * l → length rests ≡ length ws * l → length r ≡ length ws * l

@@ -12,7 +12,7 @@ use Rattle.trellis.specs.Lists.{tab}
 use Rattle.trellis.specs.Field.{product}
 use Rattle.trellis.proofs.Tests.{fst-T, snd-T}
 use Rattle.trellis.proofs.Loops.{tab-more}
-use Rattle.checknode.specs.Table.{build, productTable}
+use Rattle.checknode.specs.inner.Table.{build, productTable}
 
 -- two lists with the same elements, by a test that computes
 abbrev pub same : List ℕ → List ℕ → Bool

@@ -11,7 +11,7 @@ use lib.Seq.{getD-take, getD-drop, take-at, drop-at, drop-drop, append-snoc}
 use Rattle.trellis.specs.Lists.{tab, part}
 use Rattle.trellis.specs.Field.{xor}
 use Rattle.trellis.proofs.Loops.{tab-more, tab-ext, length-tab, getD-tab}
-use Rattle.checknode.specs.Transposed.{everyAt, byteIn, besideIn, besideFrom, valueIn, bySymbol, Unpackable, Listed, Shifted}
+use Rattle.checknode.specs.inner.Transposed.{everyAt, byteIn, besideIn, besideFrom, valueIn, bySymbol, Unpackable, Listed, Shifted}
 
 -- one list
 module _ (r : List ℕ) (at g f : ℕ) where

@@ -11,8 +11,8 @@ use Rattle.trellis.specs.Field.{xor, product}
 use Rattle.trellis.specs.Check.{firstZero}
 use Rattle.trellis.specs.Rules.{powerOf, costsAt}
 use Rattle.trellis.specs.Ready.{Ready}
-use Rattle.engine.specs.Terms.{termOf, sumTo}
-use Rattle.checknode.specs.Asks.{Times}
+use Rattle.engine.specs.inner.Terms.{termOf, sumTo}
+use Rattle.checknode.specs.inner.Asks.{Times}
 use Rattle.trellis.proofs.FieldLaws.{fields-at, has-inverse}
 use Rattle.trellis.proofs.Ready.{ready-low, ready-high}
 use Rattle.trellis.proofs.Loops.{tab-more}

@@ -15,7 +15,7 @@ use Rattle.trellis.specs.Reply.{Reply, accepted, refusal}
 use Rattle.trellis.proofs.Rules.{most-few}
 use Rattle.trellis.proofs.Recurrence.{size-64}
 use Rattle.checknode.specs.Answers.{weightCases, zeroOk, checkReply, expandReply}
-use Rattle.checknode.specs.Asks.{weightsFault}
+use Rattle.checknode.specs.inner.Asks.{weightsFault}
 use Rattle.checknode.proofs.Refusals.{Weighed, no-fault, fault-case, rest-case}
 
 record Short (r : Reply) : Type 0 where

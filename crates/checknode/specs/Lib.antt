@@ -1,9 +1,6 @@
--- What a reader must believe: Answers, the replies of the calls, and Demand and Kept, demand 2 and the kept entries in their words. The
--- rest mirrors loops.
+-- What a reader must believe: Answers, the replies of the calls, and Demand and Kept, demand 2 and the kept entries in their words. Under
+-- inner what mirrors loops.
 pub mod Answers
 pub mod Demand
 pub mod Kept
-pub mod Asks
-pub mod Lines
-pub mod Table
-pub mod Transposed
+pub mod inner

@@ -11,8 +11,8 @@ ghost use lib.ListN.{length, take, getD};
 ghost use Rattle.trellis.specs.Lists.{tab};
 ghost use Rattle.trellis.specs.Record.{expansion};
 ghost use Rattle.trellis.specs.Rules.{ruleOf, ruleFor, powerOf, sizeOf, mostOf};
-ghost use Rattle.checknode.specs.Asks.{TableFor, Expandable};
-ghost use Rattle.checknode.specs.Transposed.{zeroRow, everyAt, unpacked, besideIn, valueIn, bySymbol, Unpackable, Listed, Shifted};
+ghost use Rattle.checknode.specs.inner.Asks.{TableFor, Expandable};
+ghost use Rattle.checknode.specs.inner.Transposed.{zeroRow, everyAt, unpacked, besideIn, valueIn, bySymbol, Unpackable, Listed, Shifted};
 
 // What list i has in row 0: "the byte is 0 if a is 0", and no column is FF.
 fn zero_row(i: usize) -> u8

@@ -8,7 +8,7 @@ ghost use lib.ListN.{length, getD};
 ghost use Rattle.trellis.specs.Lists.{allTo};
 ghost use Rattle.trellis.specs.Record.{recordLength, pairsOk, recordOk};
 ghost use Rattle.trellis.specs.Rules.{ruleFor, firstOk};
-ghost use Rattle.checknode.specs.Asks.{pairNext};
+ghost use Rattle.checknode.specs.inner.Asks.{pairNext};
 
 // The length of a record of degree d.
 pub fn record_bytes(first: u8, d: usize) -> usize

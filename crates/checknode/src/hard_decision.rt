@@ -6,7 +6,7 @@ ghost use lib.Dec.{eqb};
 ghost use lib.ListN.{length};
 ghost use Rattle.trellis.specs.Lists.{pick};
 ghost use Rattle.trellis.specs.Check.{decide as decideOf};
-ghost use Rattle.trellis.specs.Margins.{leastBut, marginAt};
+ghost use Rattle.trellis.specs.inner.Margins.{leastBut, marginAt};
 
 // The cost of symbol x; where x is z, no cost is greater.
 fn but(cost: u8, x: usize, z: usize) -> u8

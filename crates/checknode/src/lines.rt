@@ -11,10 +11,10 @@ ghost use Rattle.trellis.specs.Field.{xor, product};
 ghost use Rattle.trellis.specs.Check.{firstZero};
 ghost use Rattle.trellis.specs.Rules.{powerOf};
 ghost use Rattle.trellis.specs.Ready.{Ready};
-ghost use Rattle.engine.specs.Terms.{termOf, sumTo};
-ghost use Rattle.engine.specs.Lines.{placed};
-ghost use Rattle.checknode.specs.Asks.{Times, TableFor};
-ghost use Rattle.checknode.specs.Lines.{PlaceRoom, restsFrom, restsOf, rowOf, LinesRoom};
+ghost use Rattle.engine.specs.inner.Terms.{termOf, sumTo};
+ghost use Rattle.engine.specs.inner.Lines.{placed};
+ghost use Rattle.checknode.specs.inner.Asks.{Times, TableFor};
+ghost use Rattle.checknode.specs.inner.Lines.{PlaceRoom, restsFrom, restsOf, rowOf, LinesRoom};
 
 // The row of a symbol, from its product.
 fn row_of(product: u8, s: u8) -> usize

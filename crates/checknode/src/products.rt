@@ -9,8 +9,8 @@ ghost use lib.Dec.{eqb};
 ghost use lib.ListN.{length};
 ghost use Rattle.trellis.specs.Lists.{tab};
 ghost use Rattle.trellis.specs.Field.{xor, product};
-ghost use Rattle.engine.specs.Terms.{bitsOf};
-ghost use Rattle.checknode.specs.Asks.{Times, TableFor};
+ghost use Rattle.engine.specs.inner.Terms.{bitsOf};
+ghost use Rattle.checknode.specs.inner.Asks.{Times, TableFor};
 
 // "it is added where the dropped bit was one".
 fn added(a: u8, x: u8) -> u8

@@ -11,8 +11,8 @@ ghost use Rattle.trellis.specs.Check.{allSent};
 ghost use Rattle.trellis.specs.Record.{recordOf, recordLength};
 ghost use Rattle.trellis.specs.Rules.{ruleFor, powerOf, sizeOf, columnsOf};
 ghost use Rattle.trellis.specs.Ready.{Ready};
-ghost use Rattle.checknode.specs.Asks.{TableFor, shiftsOf};
-ghost use Rattle.checknode.specs.Lines.{rowOf, RestsRoom, Rests};
+ghost use Rattle.checknode.specs.inner.Asks.{TableFor, shiftsOf};
+ghost use Rattle.checknode.specs.inner.Lines.{rowOf, RestsRoom, Rests};
 
 // The places of a line: the field's rows, and sixteen at least.
 fn side(w: usize) -> usize

@@ -4,7 +4,7 @@ ghost use mathlib.Core.Path.{_≡_};
 ghost use Prim.Native.Nat.{_-_, _*_, _≤_, _<_};
 ghost use lib.ListN.{length};
 ghost use Rattle.trellis.specs.Lists.{tab, blocks};
-ghost use Rattle.checknode.specs.Lines.{sentFrom, sentColumn, SendRoom, SendsRoom};
+ghost use Rattle.checknode.specs.inner.Lines.{sentFrom, sentColumn, SendRoom, SendsRoom};
 
 // The cost of a rest.
 fn cost_of(rest: u8) -> u8

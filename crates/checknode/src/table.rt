@@ -6,7 +6,7 @@ ghost use Prim.Native.Nat.{_<_};
 ghost use lib.ListN.{length};
 ghost use Rattle.trellis.specs.Lists.{tab};
 ghost use Rattle.trellis.specs.Field.{product};
-ghost use Rattle.checknode.specs.Table.{productTable};
+ghost use Rattle.checknode.specs.inner.Table.{productTable};
 
 // a times b stands at 64 a + b.
 const PRODUCTS: [u8; 4096] = [

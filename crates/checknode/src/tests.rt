@@ -9,7 +9,7 @@ ghost use lib.ListN.{length};
 ghost use Rattle.trellis.specs.Lists.{allTo};
 ghost use Rattle.trellis.specs.Check.{firstZero};
 ghost use Rattle.checknode.specs.Answers.{weightOk, weightsOk, zeroOk, checkFault};
-ghost use Rattle.checknode.specs.Asks.{weightsFault};
+ghost use Rattle.checknode.specs.inner.Asks.{weightsFault};
 
 // A weight is an element other than 0.
 fn weight_ok(q: u8, h: u8) -> bool

@@ -6,11 +6,11 @@ use native.Mathlib.Omega.{arith}
 use lib.ListN.{length, take, drop}
 use lib.Seq.{length-take-le, take-at}
 use Rattle.machine.specs.CodeLine.{Read, good, bad, Code, Numbers, numbersOf, parse}
-use Rattle.machine.specs.Tables.{Tabled}
+use Rattle.machine.specs.inner.Tables.{Tabled}
 use Rattle.codeline.specs.declared.Header.{Header}
 use Rattle.codeline.specs.declared.Header.the-variants.{Read as HeaderRead, Refused as HeaderRefused}
 use Rattle.codeline.specs.Answers.{headerNumbers, degreesOf, columnsOf, weightsOf, leftIn}
-use Rattle.codeline.specs.Reading.{CountFits, checksIn, handed}
+use Rattle.codeline.specs.inner.Reading.{CountFits, checksIn, handed}
 
 -- the line is accepted, and these are the numbers of its code
 pub record Accepted (s : List ℕ) (first n m g limit : ℕ) : Type 0 where

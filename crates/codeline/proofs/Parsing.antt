@@ -12,9 +12,9 @@ use borrow.Author.Tests.{ltb-false, eq-eqb, ne-eqb, le-ltb, lt-leb}
 use Rattle.trellis.specs.Lists.{pick}
 use Rattle.trellis.specs.Rules.{sizeOf, firstOk}
 use Rattle.machine.specs.CodeLine.{Read, good, bad, then, Edge, edge, wordAt, readEdge, Code, checks, parse, Numbers, numbersOf}
-use Rattle.machine.specs.Tables.{flat, edgesInto, checkInto, Tables, tables, checksInto, tablesOf}
+use Rattle.machine.specs.inner.Tables.{flat, edgesInto, checkInto, Tables, tables, checksInto, tablesOf}
 use Rattle.machine.proofs.Tables.{pick-then, checks-into}
-use Rattle.codeline.specs.Reading.{ByteAt, WordAt, Filled, isOutside, fromLimit, headOf}
+use Rattle.codeline.specs.inner.Reading.{ByteAt, WordAt, Filled, isOutside, fromLimit, headOf}
 use Rattle.codeline.specs.declared.reader.Field.{Field}
 
 -- a field read from where the one before it ended

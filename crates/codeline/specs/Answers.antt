@@ -1,15 +1,47 @@
 -- What the public calls answer and leave: the numbers of the code line, or the number of its refusal; and the tables.
+use mathlib.Core.Path.{_≡_}
 use mathlib.Core.List.{List, _++_}
 use Prim.Native.Nat.{ℕ}
 use lib.ListN.{length, drop}
 use Rattle.machine.specs.CodeLine.{Read, good, bad, Code, Numbers}
-use Rattle.machine.specs.Tables.{tablesOf}
+use Rattle.machine.specs.Machine.{used}
+use Rattle.machine.specs.inner.Tables.{tablesOf}
+use Rattle.codeline.specs.declared.Summary.{Summary}
 use Rattle.codeline.specs.declared.Header.{Header}
 use Rattle.codeline.specs.declared.Header.the-variants.{Read as HeaderRead, Refused as HeaderRefused}
 
 abbrev pub headerNumbers : Header → Read Numbers
 headerNumbers (HeaderRead f n m g i) = good (record { first = f; columns = n; checks = m; scale = g; limit = i })
 headerNumbers (HeaderRefused k) = bad k
+
+-- what a code line says to whoever lends the buffers: 0 or the number of its refusal, its numbers, and "as many bytes as the M record lengths add
+-- up to"
+pub record Told : Type 0 where
+  pub number : ℕ
+  pub first : ℕ
+  pub columns : ℕ
+  pub checks : ℕ
+  pub scale : ℕ
+  pub limit : ℕ
+  pub store : ℕ
+
+abbrev pub refusedBy : ℕ → Told
+refusedBy k = record { number = k; first = 0; columns = 0; checks = 0; scale = 0; limit = 0; store = 0 }
+
+abbrev pub summaryOf : Read Code → Told
+summaryOf (bad k) = refusedBy k
+summaryOf (good C) =
+    record { number = 0; first = C .first; columns = C .columns; checks = length (C .checks); scale = C .scale; limit = C .limit; store = used C }
+
+-- the struct's fields are these
+pub record Tells (t : Told) (s : Summary) : Type 0 where
+  pub number-is : s .number ≡ t .number
+  pub first-is : s .first ≡ t .first
+  pub columns-is : s .columns ≡ t .columns
+  pub checks-is : s .checks ≡ t .checks
+  pub scale-is : s .scale ≡ t .scale
+  pub limit-is : s .limit ≡ t .limit
+  pub store-is : s .store ≡ t .store
 
 -- a code's degrees, and all its columns and weights end to end
 abbrev pub degreesOf : Code → List ℕ

@@ -5,8 +5,8 @@ ghost use mathlib.Core.List.{[]};
 ghost use Prim.Native.Nat.{_+_, _*_, _≤_};
 ghost use lib.ListN.{length, take};
 ghost use Rattle.machine.specs.CodeLine.{readEdge};
-ghost use Rattle.machine.specs.Tables.{edgesInto, checkInto, checksInto};
-ghost use Rattle.codeline.specs.Reading.{edgeRead, EdgeEnds, edgesRead, EdgesEnd, checkRead, CheckFits, checksRead, ChecksFit};
+ghost use Rattle.machine.specs.inner.Tables.{edgesInto, checkInto, checksInto};
+ghost use Rattle.codeline.specs.inner.Reading.{edgeRead, EdgeEnds, edgesRead, EdgesEnd, checkRead, CheckFits, checksRead, ChecksFit};
 
 // An edge's column and weight, and the place behind it; or the number of the refusal.
 enum Edge {

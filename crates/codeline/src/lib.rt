@@ -1,5 +1,6 @@
 // The code line: its numbers, and its checks in tables.
 mod checks;
+mod lending;
 mod num;
 mod numbers;
 mod reader;
@@ -7,7 +8,7 @@ mod tables;
 
 ghost use mathlib.Core.Path.{_≡_};
 ghost use Rattle.machine.specs.CodeLine.{parse, numbersOf};
-ghost use Rattle.codeline.specs.Answers.{headerNumbers, degreesOf, columnsOf, weightsOf, leftIn};
+ghost use Rattle.codeline.specs.Answers.{headerNumbers, summaryOf, Tells, degreesOf, columnsOf, weightsOf, leftIn};
 
 // The numbers of a code line, or the number of the refusal.
 pub enum Header {
@@ -30,6 +31,42 @@ pub fn code_line(code: &[u8]) -> Header
     let mut weights = [0u8; 1024];
     let r = tables::read(code, &mut degrees, &mut columns, &mut weights);
     r.header
+}
+
+// What a code line says to whoever lends the buffers: 0 or the number of its refusal, its numbers, and the length of its store in bytes.
+#[repr(C)]
+pub struct Summary {
+    pub number: u8,
+    pub first: u8,
+    pub columns: u16,
+    pub checks: u8,
+    pub scale: u8,
+    pub limit: u8,
+    pub store: u32,
+}
+
+// All 0 but the number where the line is refused.
+pub fn describe(code: &[u8]) -> Summary
+    ensures { λ r. ⌜ Tells (summaryOf (parse (now (code .entry)))) r ⌝ }
+{
+    match code_line(code) {
+        Header::Refused(k) => lending::refused(k),
+        Header::Read {
+            first,
+            columns,
+            checks,
+            scale,
+            limit,
+        } => Summary {
+            number: 0,
+            first,
+            columns,
+            checks,
+            scale,
+            limit,
+            store: lending::store_length(first, checks, code.len()),
+        },
+    }
 }
 
 // The same for whoever goes on with the checks: the degrees, and all columns and weights end to end, in tables that have room for the largest

@@ -3,7 +3,7 @@ use crate::Header;
 use crate::reader;
 ghost use mathlib.Core.Path.{_≡_};
 ghost use Rattle.codeline.specs.Answers.{headerNumbers};
-ghost use Rattle.codeline.specs.Reading.{isOutside, headOf, HeadFits};
+ghost use Rattle.codeline.specs.inner.Reading.{isOutside, headOf, HeadFits};
 ghost use Rattle.codeline.specs.declared.Header.the-variants.{Refused as HeaderRefused};
 
 // What stands before the checks, and the place behind it.

@@ -4,7 +4,7 @@ use crate::num;
 ghost use mathlib.Core.Path.{_≡_};
 ghost use Prim.Native.Nat.{_+_, _-_, _<_};
 ghost use lib.ListN.{length};
-ghost use Rattle.codeline.specs.Reading.{ByteAt, WordAt};
+ghost use Rattle.codeline.specs.inner.Reading.{ByteAt, WordAt};
 
 pub struct Reader<'a> {
     pub src: &'a [u8],

@@ -8,7 +8,7 @@ ghost use mathlib.Core.Path.{_≡_};
 ghost use lib.ListN.{length};
 ghost use Rattle.machine.specs.CodeLine.{Code, good, parse, numbersOf};
 ghost use Rattle.codeline.specs.Answers.{headerNumbers};
-ghost use Rattle.codeline.specs.Reading.{Filled, CountFits, checksIn, handed};
+ghost use Rattle.codeline.specs.inner.Reading.{Filled, CountFits, checksIn, handed};
 
 // The header, and how many edges the checks have together.
 pub struct Counted {

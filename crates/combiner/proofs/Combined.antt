@@ -23,9 +23,9 @@ use Rattle.codeline.specs.declared.Header.{Header}
 use Rattle.codeline.specs.declared.Header.the-variants.{Read as HeaderRead, Refused as HeaderRefused}
 use Rattle.codeline.specs.Answers.{headerNumbers}
 use Rattle.codeline.proofs.Answered.{Accepted, header-refused, header-read}
-use Rattle.layered.specs.Frames.{frameFaultOf}
+use Rattle.layered.specs.inner.Frames.{frameFaultOf}
 use Rattle.layered.proofs.Columns.{smallest-loop, upTo-tab, length-part}
-use Rattle.combiner.specs.Columns.{leastBoth, headed}
+use Rattle.combiner.specs.inner.Columns.{leastBoth, headed}
 
 -- the least of a column's sums
 pub least-is : (a b : List ℕ) (n : ℕ) → 0 < n → ((x : ℕ) → bothCosts a b x ≤ 1000) → leastBoth a b n ≡ smallest (map (bothCosts a b) (upTo n))

@@ -1,2 +1,2 @@
 -- The shape of the loops; the call's own promise is machine's combining.
-pub mod Columns
+pub mod inner

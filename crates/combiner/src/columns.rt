@@ -4,7 +4,7 @@ ghost use mathlib.Core.Path.{_≡_};
 ghost use Prim.Native.Nat.{_+_, _*_, _≤_, _<_};
 ghost use lib.ListN.{length};
 ghost use Rattle.machine.specs.Combining.{combinedColumn, combinedTo};
-ghost use Rattle.combiner.specs.Columns.{leastBoth};
+ghost use Rattle.combiner.specs.inner.Columns.{leastBoth};
 
 // "add the two costs": two costs make more than a byte holds.
 fn both(a: u8, b: u8) -> u16

@@ -9,7 +9,7 @@ ghost use Rattle.trellis.specs.Rules.{firstOk};
 ghost use Rattle.checknode.specs.Answers.{writtenReply};
 ghost use Rattle.machine.specs.CodeLine.{good};
 ghost use Rattle.machine.specs.Combining.{combineFault, combiningUnder};
-ghost use Rattle.combiner.specs.Columns.{headed};
+ghost use Rattle.combiner.specs.inner.Columns.{headed};
 
 // "12 and 13 for the first frame. .. 23, second frame's length wrong or a column of it has no 0, after these; then 2"; 0 for none.
 fn fault(byte: u8, n: usize, first: &[u8], second: &[u8], room: usize) -> u8

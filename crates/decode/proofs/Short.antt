@@ -4,7 +4,7 @@ use mathlib.Core.List.{List}
 use Prim.Native.Nat.{ℕ, _≤_}
 use native.Mathlib.Omega.{arith}
 use lib.ListN.{length, take, length-take}
-use Rattle.machine.specs.Blocks.{Kept, fedOut, closeOut}
+use Rattle.machine.specs.inner.Blocks.{Kept, fedOut, closeOut}
 use Rattle.machine.proofs.Program.{fed-few, close-short}
 
 pub feed-short : (k : Kept) (m : ℕ) (s : List ℕ) (n : ℕ) → n ≡ length (fedOut k (take m s)) → m ≤ 65536 → n ≤ 328192

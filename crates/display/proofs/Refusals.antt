@@ -18,10 +18,10 @@ use Rattle.trellis.specs.Reply.{Reply, accepted, refusal}
 use Rattle.trellis.specs.Display.{displayed, Stored}
 use Rattle.trellis.proofs.Display.{form-front}
 use Rattle.checknode.specs.Answers.{weightsOk, expandReply}
-use Rattle.checknode.specs.Asks.{weightsFault}
+use Rattle.checknode.specs.inner.Asks.{weightsFault}
 use Rattle.checknode.proofs.Refusals.{Weighed, no-fault, fault-case, rest-case, weight-at}
 use Rattle.display.specs.Answers.{displayCases, displayFault, displayReply, displayLeaves}
-use Rattle.display.specs.Showing.{formFault, ShowRoom}
+use Rattle.display.specs.inner.Showing.{formFault, ShowRoom}
 
 module _ (f : ℕ) (ws r : List ℕ) where
   abbrev formed : Bool

@@ -11,7 +11,7 @@ use Rattle.trellis.specs.Display.{displayed}
 use Rattle.trellis.proofs.Loops.{map-tab, tab-ext, tab-whole}
 use Rattle.division.specs.Numbers.{quotientOr}
 use Rattle.division.proofs.Quotients.{quotient-is}
-use Rattle.display.specs.Showing.{ShowRoom}
+use Rattle.display.specs.inner.Showing.{ShowRoom}
 
 abbrev pub dividedAt : ℕ → List ℕ → List ℕ → ℕ → ℕ
 dividedAt p ws r n = quotientOr p (getD ws n 0) (getD r n 0)

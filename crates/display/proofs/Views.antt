@@ -22,7 +22,7 @@ use Rattle.trellis.proofs.Records.{record-shift, sent-at}
 use Rattle.trellis.proofs.Ready.{ready-proper, length-columns, column-at}
 use Rattle.trellis.proofs.Messages.{ready-form}
 use Rattle.checknode.specs.Answers.{expandReply}
-use Rattle.checknode.specs.Asks.{weightsFault}
+use Rattle.checknode.specs.inner.Asks.{weightsFault}
 use Rattle.checknode.proofs.Refusals.{no-fault, fault-case, rest-case, ready-weighed}
 use Rattle.checknode.proofs.TwoCalls.{demand-2-messages}
 use Rattle.display.specs.Answers.{displayFault, displayReply, displayLeaves}

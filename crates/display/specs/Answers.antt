@@ -1,22 +1,24 @@
 -- What a call of display replies and leaves, refused calls included: expansion's refusals in their order, and a buffer of d bytes.
-use mathlib.Core.List.{List, _++_}
+use mathlib.Core.List.{List, [], _∷_, _++_}
 use Prim.Native.Nat.{ℕ}
 use lib.Dec.{ltb}
 use lib.ListN.{length, drop}
-use Rattle.trellis.specs.Lists.{pick}
 use Rattle.trellis.specs.Record.{recordOk}
 use Rattle.trellis.specs.Rules.{powerOf, ruleFor}
 use Rattle.trellis.specs.Display.{displayed}
+use Rattle.trellis.specs.Refusals.{when, unless, refusedBy}
 use Rattle.trellis.specs.Reply.{Reply, accepted, refusal}
-use Rattle.checknode.specs.Answers.{weightCases}
+use Rattle.checknode.specs.Answers.{weightTests}
 
 -- "Both refuse as expansion does", 6, 9, 11, 16; "the display's buffer is d bytes, refusal 2"
 abbrev pub displayCases {ℓ} : {A : Type ℓ} → ℕ → List ℕ → List ℕ → ℕ → (ℕ → A) → A → A
 displayCases f ws r room bad good =
-    weightCases f ws bad
-    (pick (recordOk (ruleFor f) (length ws) r)
-    (pick (ltb room (length ws)) (bad 2) good)
-    (bad 16))
+    refusedBy
+    (weightTests f ws
+    ++ (unless (recordOk (ruleFor f) (length ws) r) 16
+    ∷ when (ltb room (length ws)) 2
+    ∷ []))
+    bad good
 
 -- the number of the refusal where the buffer has `room` bytes, 0 for none
 unfoldable pub displayFault : ℕ → List ℕ → List ℕ → ℕ → ℕ

@@ -3,7 +3,7 @@ use checknode::Written;
 ghost use mathlib.Core.Path.{_≡_};
 ghost use Rattle.trellis.specs.Display.{displayed};
 ghost use Rattle.display.specs.Answers.{displayFault};
-ghost use Rattle.display.specs.Showing.{formFault, ShowRoom};
+ghost use Rattle.display.specs.inner.Showing.{formFault, ShowRoom};
 
 // The number by which an expansion without room refuses: 6, 9, 11 or 16, and 2 exactly where none of them applies.
 fn form_fault(first: u8, weights: &[u8], bytes: &[u8]) -> u8

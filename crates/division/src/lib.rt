@@ -6,7 +6,7 @@ ghost use Prim.Native.Nat.{_^_, _≤_, _<_};
 ghost use lib.Dec.{T};
 ghost use Rattle.trellis.specs.Field.{product};
 ghost use Rattle.checknode.specs.Answers.{productReply};
-ghost use Rattle.division.specs.Table.{allInverted};
+ghost use Rattle.division.specs.inner.Table.{allInverted};
 ghost use Rattle.division.specs.Numbers.{divisorOk, quotientOr, DivisorRoom};
 
 // The inverse of h in the field of q elements stands at q + h; 0 has none, and its place is not read.

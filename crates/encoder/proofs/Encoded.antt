@@ -13,17 +13,18 @@ use Rattle.trellis.specs.Rules.{powerOf, sizeOf}
 use Rattle.trellis.specs.Reply.{Reply, accepted, refusal}
 use Rattle.machine.specs.CodeLine.{good, Code, power, size, check, edgeAt, numbersOf, parse}
 use Rattle.machine.specs.Machine.{paritySum}
-use Rattle.machine.specs.Tables.{before, tablesOf, sumFrom, Tabled}
+use Rattle.machine.specs.inner.Tables.{before, tablesOf, sumFrom, Tabled}
 use Rattle.machine.specs.Encoding.{encodable, lastWeight, ownSymbol, encodeTo, encoded, encodeFault, Wrote, wrote, encodingUnder, encoding}
-use Rattle.machine.proofs.Lines.{GoodCode, parse-good}
+use Rattle.machine.specs.inner.Accepted.{GoodCode}
+use Rattle.machine.proofs.Lines.{parse-good}
 use Rattle.machine.proofs.Places.{count, degree-at, column-flat, weight-flat, sum-flat, all-columns, all-weights}
 use Rattle.machine.proofs.Encoding.{all-ext, lastOwn, encodable-last, more-columns, others-lower, encode-none}
 use Rattle.codeline.specs.declared.Header.{Header}
 use Rattle.codeline.specs.declared.Header.the-variants.{Read as HeaderRead, Refused as HeaderRefused}
 use Rattle.codeline.specs.Answers.{headerNumbers}
 use Rattle.codeline.proofs.Answered.{Accepted, header-refused, header-read}
-use Rattle.encoder.specs.Words.{lastPlace, ownAt, encodeOn, ownTo, formedOn, encodeFaultOf, Leaves}
-use Rattle.encoder.specs.Rooms.{FillRoom, FormRoom, Lined, LineRoom, LeavesLined}
+use Rattle.encoder.specs.inner.Words.{lastPlace, ownAt, encodeOn, ownTo, formedOn, encodeFaultOf, Leaves}
+use Rattle.encoder.specs.inner.Rooms.{FillRoom, FormRoom, Lined, LineRoom, LeavesLined}
 
 -- a front that comes back as long as it was lent
 pub front-kept : (l s : List ℕ) (n : ℕ) → n ≤ length l → length s ≡ length (take n l) → length (s ++ drop n l) ≡ length l

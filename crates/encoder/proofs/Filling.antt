@@ -13,11 +13,11 @@ use Rattle.trellis.specs.Field.{xor, product, quotient}
 use Rattle.trellis.proofs.Xor.{xor-lt}
 use Rattle.trellis.proofs.FieldLaws.{fields-at}
 use Rattle.trellis.proofs.Quotients.{quotient-small, times-small}
-use Rattle.machine.specs.Tables.{before, term, sumFrom}
+use Rattle.machine.specs.inner.Tables.{before, term, sumFrom}
 use Rattle.machine.proofs.Places.{edge-within, end-within}
-use Rattle.encoder.specs.Words.{lastPlace, ownAt, encodeOn}
+use Rattle.encoder.specs.inner.Words.{lastPlace, ownAt, encodeOn}
 use Rattle.division.specs.Numbers.{QuotientRoom}
-use Rattle.encoder.specs.Rooms.{SumRoom, OwnRoom, FillRoom}
+use Rattle.encoder.specs.inner.Rooms.{SumRoom, OwnRoom, FillRoom}
 
 -- a sum of elements is an element
 pub sum-small : (p : ℕ) (cs ws z : List ℕ) (at n : ℕ) → SumRoom p cs ws z at n → sumFrom p cs ws z at n < 2 ^ p

@@ -11,10 +11,10 @@ use lib.Dec.{eqb, ltb}
 use lib.ListN.{length, getD}
 use borrow.Author.Tests.{eq-eqb, ne-eqb, lt-ltb, le-ltb, ltb-true}
 use Rattle.trellis.specs.Lists.{allTo}
-use Rattle.machine.specs.Tables.{before}
+use Rattle.machine.specs.inner.Tables.{before}
 use Rattle.machine.specs.Encoding.{symbolsOk}
 use Rattle.machine.proofs.Lists.{and-false, all-not}
-use Rattle.encoder.specs.Words.{lastPlace, ownTo, formedOn, encodeFaultOf}
+use Rattle.encoder.specs.inner.Words.{lastPlace, ownTo, formedOn, encodeFaultOf}
 
 -- the form
 module _ (n : ℕ) (ds cs : List ℕ) where

@@ -8,8 +8,8 @@ use codeline::Header;
 ghost use mathlib.Core.Path.{_≡_};
 ghost use Rattle.checknode.specs.Answers.{writtenReply};
 ghost use Rattle.machine.specs.Encoding.{encoding};
-ghost use Rattle.encoder.specs.Words.{encodeFaultOf};
-ghost use Rattle.encoder.specs.Rooms.{FormRoom, LineRoom, LeavesLined};
+ghost use Rattle.encoder.specs.inner.Words.{encodeFaultOf};
+ghost use Rattle.encoder.specs.inner.Rooms.{FormRoom, LineRoom, LeavesLined};
 
 // "17, the code line lacks this form, after all code refusals; 18, message length is not N - M or a symbol is not below q, after 17;
 // then 2"; 0 for none.

@@ -1,8 +1,8 @@
 // The form of a code line that encoding needs, refusal 17.
 use crate::num;
 ghost use mathlib.Core.Path.{_≡_};
-ghost use Rattle.encoder.specs.Words.{formedOn};
-ghost use Rattle.encoder.specs.Rooms.{FormRoom};
+ghost use Rattle.encoder.specs.inner.Words.{formedOn};
+ghost use Rattle.encoder.specs.inner.Rooms.{FormRoom};
 
 // "N exceeds M and check m, counted from 0, contains column N - M + m and no higher one": columns rise, so it is the last.
 pub fn formed(n: usize, degrees: &[u8], columns: &[u16]) -> bool

@@ -11,7 +11,7 @@ use Rattle.trellis.specs.Lists.{pick}
 use Rattle.trellis.proofs.Sent.{Joins}
 use Rattle.trellis.proofs.Instances.{sum-joins, max-joins}
 use Rattle.trellis.specs.Rules.{joinOf}
-use Rattle.engine.specs.Rests.{mostTo, meetOf}
+use Rattle.engine.specs.inner.Rests.{mostTo, meetOf}
 
 -- m is the greatest of 255 less the costs with the property; 0 where there is none. A cost of 255 or more is no better than none, so that no
 -- mark for "none" is needed and m is the only such number

@@ -10,8 +10,8 @@ use Rattle.trellis.specs.Lists.{tab}
 use Rattle.trellis.specs.Field.{xor}
 use Rattle.trellis.specs.Check.{Rule, Column, weigh, decision, column, costAt}
 use Rattle.trellis.specs.Rows.{difference, symbolAt}
-use Rattle.engine.specs.Lines.{placed}
-use Rattle.engine.specs.Rests.{lineAt}
+use Rattle.engine.specs.inner.Lines.{placed}
+use Rattle.engine.specs.inner.Rests.{lineAt}
 use Rattle.trellis.proofs.Sent.{Proper}
 use Rattle.trellis.proofs.Kept.{difference-small, symbol-at, symbol-own}
 use Rattle.trellis.proofs.Loops.{length-tab, getD-tab, stores, stores-at}

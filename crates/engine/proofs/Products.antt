@@ -6,7 +6,7 @@ use Prim.Native.Nat.{ℕ, zero, suc, _+_, _-_, _/_, _%_, _^_, _≤_, _<_}
 use native.Mathlib.Omega.{arith}
 use lib.Dec.{eqb}
 use Rattle.trellis.specs.Field.{xor, product, productIn, doubled}
-use Rattle.engine.specs.Terms.{bitsOf}
+use Rattle.engine.specs.inner.Terms.{bitsOf}
 use Rattle.trellis.proofs.Recurrence.{product-in}
 
 -- a, and what doubling it gives, n terms in all

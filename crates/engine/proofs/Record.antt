@@ -11,7 +11,7 @@ use Rattle.trellis.specs.Check.{Rule, Column, weigh, decision, decided, shift, 
 use Rattle.trellis.specs.Record.{shifts, group, recordOf}
 use Rattle.trellis.specs.Rules.{ruleFor, powerOf, sizeOf, columnsOf}
 use Rattle.trellis.specs.Ready.{Ready}
-use Rattle.engine.specs.Terms.{termOf, sumTo}
+use Rattle.engine.specs.inner.Terms.{termOf, sumTo}
 use Rattle.trellis.proofs.Xor.{xor-assoc, xor-comm, xor-cancel}
 use Rattle.trellis.proofs.Loops.{tab-ext, map-tab, blocks-ext, each-blocks}
 use Rattle.trellis.proofs.Sent.{split-decided}

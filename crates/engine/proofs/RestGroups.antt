@@ -16,8 +16,8 @@ use Rattle.trellis.specs.Record.{above, group}
 use Rattle.trellis.proofs.Places.{length-each}
 use Rattle.trellis.proofs.Loops.{blocks-ext, blocks-front, each-blocks}
 use Rattle.trellis.proofs.Sent.{Proper, extra-sent, extra-le, above-few}
-use Rattle.engine.specs.Rests.{mostTo}
-use Rattle.engine.specs.Groups.{pushed, listedColumn, listedRest, listedGroup}
+use Rattle.engine.specs.inner.Rests.{mostTo}
+use Rattle.engine.specs.inner.Groups.{pushed, listedColumn, listedRest, listedGroup}
 
 pub most-ge : (f : ℕ → ℕ) (n j : ℕ) → j < n → f j ≤ mostTo f n
 most-ge f zero j h = absurd (omega arith)

@@ -22,7 +22,7 @@ use Rattle.trellis.proofs.Xor.{xor-zero, xor-comm, xor-right, xor-assoc, xor-se
 use Rattle.trellis.proofs.Total.{Gathers, fits-append, fits-split, total-append}
 use Rattle.trellis.proofs.Sent.{Joins, Sound, Proper, xors, sums, same-symbol, deviates-cases, deviates-small, sent-is}
 use Rattle.trellis.proofs.Ranks.{first-passes}
-use Rattle.engine.specs.Rests.{atMost, rest, lineAt, mostTo, across, grown, between}
+use Rattle.engine.specs.inner.Rests.{atMost, rest, lineAt, mostTo, across, grown, between}
 use Rattle.engine.proofs.BestRests.{BestRest, best-one, best-iff, best-of, best-max, best-to, best-fold, best-meet, best-small, Meets}
 
 -- m is the cost of a choice with at most j deviations and weighted difference a

@@ -1,6 +1,2 @@
--- What the loops of one check compute: each column's line, tables of what is left of 255 over the columns before and after a column, the bytes
--- of a group. The reader's definitions are those of trellis.
-pub mod Terms
-pub mod Lines
-pub mod Rests
-pub mod Groups
+-- Under inner what the loops of one check compute. The reader's definitions are those of trellis.
+pub mod inner

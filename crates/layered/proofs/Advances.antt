@@ -16,18 +16,19 @@ use Rattle.trellis.specs.Rules.{powerOf, sizeOf}
 use Rattle.machine.specs.CodeLine.{Code, size, check, edgeAt, columnOf}
 use Rattle.machine.specs.Machine.{found, notFound}
 use Rattle.machine.specs.Lent.{Lent, turn}
-use Rattle.machine.specs.LentEarly.{halted, turnNext, stopLent}
-use Rattle.machine.specs.Tables.{before}
+use Rattle.machine.specs.inner.LentEarly.{halted, turnNext, stopLent}
+use Rattle.machine.specs.inner.Tables.{before}
 use Rattle.machine.proofs.Changed.{redone, redecided-lent}
-use Rattle.machine.proofs.EarlyPassing.{next-check, check-small, Advancing, advancing-start, advanced, next-formed}
+use Rattle.machine.specs.inner.InRange.{Advancing}
+use Rattle.machine.proofs.EarlyPassing.{next-check, check-small, advancing-start, advanced, next-formed}
 use Rattle.machine.proofs.Places.{same-length, weights-length, column-table}
 use Rattle.layered.specs.declared.Stopped.the-variants.{Found, NotFound}
 use Rattle.layered.specs.declared.parity.CheckAt.{CheckAt}
 use Rattle.layered.specs.declared.place.Place.{Place}
-use Rattle.layered.specs.Parity.{decisionsOf, EdgeOf}
-use Rattle.layered.specs.Passes.{Graph, graph, lent, tableAt, placeAt, turnAt, settledOn, Tables, RunRoom}
-use Rattle.layered.specs.Places.{Stands, Around, Updatable}
-use Rattle.layered.specs.Early.{decidedAgain, RetestRoom, Retested, turnNextOn, stopOn, haltedIn, Unsettled, Going}
+use Rattle.layered.specs.inner.Parity.{decisionsOf, EdgeOf}
+use Rattle.layered.specs.inner.Passes.{Graph, graph, lent, tableAt, placeAt, turnAt, settledOn, Tables, RunRoom}
+use Rattle.layered.specs.inner.Places.{Stands, Around, Updatable}
+use Rattle.layered.specs.inner.Early.{decidedAgain, RetestRoom, Retested, turnNextOn, stopOn, haltedIn, Unsettled, Going}
 use Rattle.layered.proofs.Passes.{upto-ext, tables-turn, tables-count, tables-settled}
 use Rattle.layered.proofs.Places.{stands-own}
 use Rattle.layered.proofs.Runs.{test-asks}

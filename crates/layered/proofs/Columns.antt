@@ -18,7 +18,8 @@ use Rattle.machine.specs.Machine.{scaled, incoming, outgoing}
 use Rattle.machine.proofs.Lists.{map-after}
 use Rattle.machine.proofs.Updates.{length-incoming}
 use Rattle.machine.proofs.Ranges.{below-take, below-drop, length-outgoing, length-patch, column-room}
-use Rattle.layered.specs.Columns.{Below, raised, leastRaised, oneColumn, gathered, GatherRoom, summed, leastSummed, scattered, ScatterRoom}
+use Rattle.machine.specs.inner.InRange.{Below}
+use Rattle.layered.specs.inner.Columns.{raised, leastRaised, oneColumn, gathered, GatherRoom, summed, leastSummed, scattered, ScatterRoom}
 
 pub mul-small : (g w : ℕ) → g ≤ 16 → w < 256 → g * w ≤ 4080
 mul-small g w h k = mul-le-mul h (le-of-suc-le-suc k)

@@ -20,7 +20,7 @@ use Rattle.machine.specs.CodeLine.{Read, good, bad, Code, numbersOf, parse, siz
 use Rattle.machine.specs.Machine.{none as none′, Status, lastOf, symbols, margins, start, run, used}
 use Rattle.machine.specs.Lent.{Lent, Ended, ended, goLent}
 use Rattle.machine.specs.Decoding.{Buffers, After, lending, outcome, holding, storeOf, roomFault as faultOfRoom, admittedUnder, admitted, decodingUnder, decoding, Leaves, Decodes, Room}
-use Rattle.machine.specs.Tables.{Tabled}
+use Rattle.machine.specs.inner.Tables.{Tabled}
 use Rattle.machine.proofs.Lines.{parse-good}
 use Rattle.machine.proofs.Ranges.{frame-ranged}
 use Rattle.machine.proofs.Buffers.{room-of}
@@ -33,10 +33,10 @@ use Rattle.layered.specs.declared.Outcome.{Outcome}
 use Rattle.layered.specs.declared.Outcome.the-variants.{Found, NotFound}
 use Rattle.layered.specs.declared.Answer.the-variants.{Decoded}
 use Rattle.layered.specs.Answers.{answerReply}
-use Rattle.layered.specs.Columns.{Below}
-use Rattle.layered.specs.Parity.{decisionsOf, marginsOf}
-use Rattle.layered.specs.Passes.{graph, lent, placeAt, goOn, endedIn, Tables, RunRoom}
-use Rattle.layered.specs.Frames.{frameFaultOf, roomFault, faultOf, decodingOf, Coded, CodeRoom}
+use Rattle.machine.specs.inner.InRange.{Below}
+use Rattle.layered.specs.inner.Parity.{decisionsOf, marginsOf}
+use Rattle.layered.specs.inner.Passes.{graph, lent, placeAt, goOn, endedIn, Tables, RunRoom}
+use Rattle.layered.specs.inner.Frames.{frameFaultOf, roomFault, faultOf, decodingOf, Coded, CodeRoom}
 use Rattle.layered.proofs.Columns.{length-part}
 use Rattle.machine.proofs.Lists.{all-not}
 use Rattle.layered.proofs.Passes.{place-is, symbols-are, margins-are, tables-go}

@@ -8,10 +8,10 @@ use Rattle.trellis.specs.Reply.{Reply, refusal}
 use Rattle.machine.specs.CodeLine.{good, Code, numbersOf, parse}
 use Rattle.machine.specs.Machine.{Status, held}
 use Rattle.machine.specs.Lent.{Lent}
-use Rattle.machine.specs.LentEarly.{Halted, halted, stopLent}
+use Rattle.machine.specs.inner.LentEarly.{Halted, halted, stopLent}
 use Rattle.machine.specs.Decoding.{Buffers, lending, outcome, holding, Leaves}
 use Rattle.machine.specs.Early.{mostUpdates, updates, stateEarly, statusEarly, earlyUnder, decodingEarly, DecodesEarly}
-use Rattle.machine.specs.Tables.{Tabled}
+use Rattle.machine.specs.inner.Tables.{Tabled}
 use Rattle.machine.proofs.EarlyLent.{early-stands}
 use Rattle.codeline.specs.declared.Header.{Header}
 use Rattle.codeline.specs.declared.Header.the-variants.{Read as HeaderRead, Refused as HeaderRefused}
@@ -20,10 +20,10 @@ use Rattle.layered.specs.declared.Stopped.{Stopped}
 use Rattle.layered.specs.declared.Stopped.the-variants.{Found, NotFound}
 use Rattle.layered.specs.declared.EarlyAnswer.the-variants.{Decoded}
 use Rattle.layered.specs.Answers.{earlyReply}
-use Rattle.layered.specs.Parity.{decisionsOf, marginsOf}
-use Rattle.layered.specs.Passes.{Graph, graph, lent}
-use Rattle.layered.specs.Frames.{faultOf, earlyOf, Coded}
-use Rattle.layered.specs.Early.{stopOn, haltedIn}
+use Rattle.layered.specs.inner.Parity.{decisionsOf, marginsOf}
+use Rattle.layered.specs.inner.Passes.{Graph, graph, lent}
+use Rattle.layered.specs.inner.Frames.{faultOf, earlyOf, Coded}
+use Rattle.layered.specs.inner.Early.{stopOn, haltedIn}
 use Rattle.layered.proofs.Decoded.{coded-tables, degree-count, rooms, holds-leaves, copied-front, copied-rest, refused-calls, coded-calls}
 use Rattle.layered.proofs.Advances.{tables-stop}
 

@@ -16,12 +16,12 @@ use Rattle.trellis.proofs.Recurrence.{size-64}
 use Rattle.trellis.proofs.Rules.{first-power, most-few}
 use Rattle.machine.specs.CodeLine.{Code, power, size, rule, check, columnOf}
 use Rattle.machine.specs.Machine.{found, notFound, symbols, margins, paritySum, settled, place}
-use Rattle.machine.specs.Tables.{tablesOf, before, sumFrom}
+use Rattle.machine.specs.inner.Tables.{tablesOf, before, sumFrom}
 use Rattle.machine.specs.Lent.{Lent, turn, pass, ended, goLent}
 use Rattle.machine.proofs.Places.{count, degree-at, edges-at, sum-flat}
-use Rattle.layered.specs.Parity.{decisionsOf, marginsOf, holdsAt, allHold}
-use Rattle.layered.specs.Turns.{recordNow, costsNow}
-use Rattle.layered.specs.Passes.{Graph, graph, placeAt, turnAt, passOver, settledOn, goOn, Tables}
+use Rattle.layered.specs.inner.Parity.{decisionsOf, marginsOf, holdsAt, allHold}
+use Rattle.layered.specs.inner.Turns.{recordNow, costsNow}
+use Rattle.layered.specs.inner.Passes.{Graph, graph, placeAt, turnAt, passOver, settledOn, goOn, Tables}
 use Rattle.layered.proofs.Columns.{upTo-tab}
 
 -- loops whose turns agree

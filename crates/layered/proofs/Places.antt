@@ -14,17 +14,17 @@ use Rattle.trellis.specs.Rules.{sizeOf, ruleFor}
 use Rattle.trellis.proofs.Recurrence.{size-64}
 use Rattle.machine.specs.CodeLine.{Code, power, size, rule, check, edgeAt}
 use Rattle.machine.specs.Machine.{used}
-use Rattle.machine.specs.Tables.{tablesOf, before}
+use Rattle.machine.specs.inner.Tables.{tablesOf, before}
 use Rattle.machine.specs.Lent.{Lent}
-use Rattle.machine.proofs.Lines.{GoodCode}
-use Rattle.machine.proofs.Ranges.{Ranged, column-room}
+use Rattle.machine.specs.inner.Accepted.{GoodCode}
+use Rattle.machine.specs.inner.InRange.{Ranged, Formed}
+use Rattle.machine.proofs.Ranges.{column-room}
 use Rattle.machine.proofs.Lent.{place-suc, place-mono}
-use Rattle.machine.proofs.Passing.{Formed}
 use Rattle.machine.proofs.Places.{count, degree-at, in-columns, in-weights, same-length, weights-length, column-table, weight-table}
-use Rattle.layered.specs.Turns.{costsNow, recordNow, UpdateRoom}
-use Rattle.layered.specs.Passes.{Graph, graph, lent, tableAt, lengthAt, placeAt, recordAt, turnAt}
+use Rattle.layered.specs.inner.Turns.{costsNow, recordNow, UpdateRoom}
+use Rattle.layered.specs.inner.Passes.{Graph, graph, lent, tableAt, lengthAt, placeAt, recordAt, turnAt}
 use Rattle.layered.specs.declared.place.Place.{Place}
-use Rattle.layered.specs.Places.{Stands, Updatable}
+use Rattle.layered.specs.inner.Places.{Stands, Updatable}
 use Rattle.layered.proofs.Columns.{length-part}
 use Rattle.layered.proofs.Passes.{place-is}
 

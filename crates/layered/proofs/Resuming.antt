@@ -16,11 +16,11 @@ use Rattle.trellis.specs.Rules.{powerOf, sizeOf, ruleFor}
 use Rattle.trellis.specs.Reply.{Reply, accepted, refusal}
 use Rattle.checknode.specs.Answers.{expandReply}
 use Rattle.machine.specs.CodeLine.{zeroIn}
-use Rattle.machine.specs.Tables.{before}
+use Rattle.machine.specs.inner.Tables.{before}
 use Rattle.machine.proofs.Lists.{all-not}
-use Rattle.layered.specs.Passes.{tableAt, lengthAt, placeAt, recordAt}
-use Rattle.layered.specs.Turns.{Weighed}
-use Rattle.layered.specs.Stages.{lowAt, costsIn, formedAt, recordsIn, resumeFault, FormRoom, StoreRoom}
+use Rattle.layered.specs.inner.Passes.{tableAt, lengthAt, placeAt, recordAt}
+use Rattle.layered.specs.inner.Turns.{Weighed}
+use Rattle.layered.specs.inner.Stages.{lowAt, costsIn, formedAt, recordsIn, resumeFault, FormRoom, StoreRoom}
 use Rattle.layered.proofs.Turns.{weights-pass}
 
 -- a turn of the loop over the costs

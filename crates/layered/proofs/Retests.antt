@@ -17,14 +17,14 @@ use Rattle.trellis.specs.Check.{decide}
 use Rattle.trellis.specs.Rules.{powerOf, sizeOf}
 use Rattle.trellis.proofs.Recurrence.{size-64}
 use Rattle.machine.specs.CodeLine.{columnOf}
-use Rattle.machine.specs.Tables.{before}
+use Rattle.machine.specs.inner.Tables.{before}
 use Rattle.machine.proofs.Ranges.{column-room}
 use Rattle.machine.proofs.Places.{end-within}
 use Rattle.layered.specs.declared.parity.CheckAt.{CheckAt}
 use Rattle.layered.specs.declared.place.Place.{Place}
-use Rattle.layered.specs.Parity.{decisionsOf, allHold, ParityRoom, FromTo, FirstNot, SomeNot}
-use Rattle.layered.specs.Passes.{tableAt, testOn}
-use Rattle.layered.specs.Early.{decidedAgain, AgainRoom, RetestRoom, Retested}
+use Rattle.layered.specs.inner.Parity.{decisionsOf, allHold, ParityRoom, FromTo, FirstNot, SomeNot}
+use Rattle.layered.specs.inner.Passes.{tableAt, testOn}
+use Rattle.layered.specs.inner.Early.{decidedAgain, AgainRoom, RetestRoom, Retested}
 use Rattle.layered.proofs.Columns.{length-part}
 use Rattle.layered.proofs.Satisfied.{decided-room, all-hold, one-not}
 

@@ -11,15 +11,16 @@ use Rattle.trellis.specs.Lists.{upto}
 use Rattle.trellis.specs.Rules.{powerOf}
 use Rattle.trellis.proofs.Instances.{first-zero}
 use Rattle.machine.specs.CodeLine.{Code, power, size, check, edgeAt, columnOf}
-use Rattle.machine.specs.Tables.{tablesOf}
+use Rattle.machine.specs.inner.Tables.{tablesOf}
 use Rattle.machine.specs.Lent.{Lent, turn, pass}
-use Rattle.machine.proofs.Lines.{GoodCode, GoodEdge}
-use Rattle.machine.proofs.Ranges.{Ranged, column-room}
+use Rattle.machine.specs.inner.Accepted.{GoodCode, GoodEdge}
+use Rattle.machine.specs.inner.InRange.{Ranged}
+use Rattle.machine.proofs.Ranges.{column-room}
 use Rattle.machine.proofs.Passing.{turns-before, turn-needs, pass-passable}
 use Rattle.machine.proofs.Places.{count, degree-at, column-flat, weight-flat, all-columns, all-weights}
-use Rattle.layered.specs.Parity.{SettledRoom}
-use Rattle.layered.specs.Passes.{graph, lent, turnAt, passOver, Tables, Running, RunRoom}
-use Rattle.layered.specs.Places.{Updatable}
+use Rattle.layered.specs.inner.Parity.{SettledRoom}
+use Rattle.layered.specs.inner.Passes.{graph, lent, turnAt, passOver, Tables, Running, RunRoom}
+use Rattle.layered.specs.inner.Places.{Updatable}
 use Rattle.layered.proofs.Columns.{length-part}
 use Rattle.layered.proofs.Passes.{tables-turns, tables-count, tables-pass}
 

@@ -14,11 +14,11 @@ use Rattle.trellis.specs.Lists.{tab, part, allTo}
 use Rattle.trellis.specs.Check.{firstZero}
 use Rattle.trellis.proofs.Loops.{tab-more, tab-whole, length-tab, getD-tab}
 use Rattle.machine.specs.CodeLine.{columnOf}
-use Rattle.machine.specs.Tables.{before, sumFrom}
+use Rattle.machine.specs.inner.Tables.{before, sumFrom}
 use Rattle.machine.proofs.Lists.{all-not}
 use Rattle.machine.proofs.Places.{edge-within}
 use Rattle.layered.specs.declared.parity.CheckAt.{CheckAt}
-use Rattle.layered.specs.Parity.{decisionsOf, holdsAt, allHold, EdgeRoom, ParityRoom, FirstNot, SettledRoom}
+use Rattle.layered.specs.inner.Parity.{decisionsOf, holdsAt, allHold, EdgeRoom, ParityRoom, FirstNot, SettledRoom}
 
 -- a loop over the columns of q costs, which leaves g of each: its turn and its end
 pub each-turn : (g : List ℕ → ℕ) (q : ℕ) (P d now : List ℕ) (c z : ℕ) → c < length d → now ≡ tab (λ k. g (columnOf q P k)) c ++ drop c d

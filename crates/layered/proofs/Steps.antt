@@ -15,7 +15,7 @@ use Rattle.machine.specs.Machine.{settled, used}
 use Rattle.machine.specs.Lent.{pass}
 use Rattle.machine.specs.Decoding.{Buffers, lending, holding, admittedUnder, admitted, Room}
 use Rattle.machine.specs.Moments.{Stage as Ends, moment, Moves, loadingUnder, loading, costsOk, storeOk, resumableUnder, resumable, iteratingUnder, iterating, further}
-use Rattle.machine.specs.Tables.{Tabled, tablesOf}
+use Rattle.machine.specs.inner.Tables.{Tabled, tablesOf}
 use Rattle.machine.proofs.Lent.{place-suc, place-mono}
 use Rattle.machine.proofs.Places.{count, degree-at, in-weights, weights-length, weight-table}
 use Rattle.machine.proofs.Tested.{tested}
@@ -23,11 +23,12 @@ use Rattle.codeline.specs.declared.Header.{Header}
 use Rattle.codeline.specs.declared.Header.the-variants.{Read as HeaderRead, Refused as HeaderRefused}
 use Rattle.codeline.specs.Answers.{headerNumbers}
 use Rattle.codeline.proofs.Answered.{header-refused}
-use Rattle.layered.specs.Columns.{Below}
-use Rattle.layered.specs.Parity.{decisionsOf, marginsOf}
-use Rattle.layered.specs.Passes.{Graph, graph, lent, passOver, testOn, Running}
-use Rattle.layered.specs.Frames.{faultOf, Coded}
-use Rattle.layered.specs.Stages.{ends, stageAfter, loadingOf, iteratingOf, costsIn, formedAt, recordsIn, resumeFault, FormRoom, StoreRoom, ResumeRoom, TestRoom, StepRoom, Loaded, LoadRoom}
+use Rattle.machine.specs.inner.InRange.{Below}
+use Rattle.layered.specs.inner.Parity.{decisionsOf, marginsOf}
+use Rattle.layered.specs.inner.Passes.{Graph, graph, lent, passOver, testOn, Running}
+use Rattle.layered.specs.inner.Frames.{faultOf, Coded}
+use Rattle.layered.specs.Answers.{ends}
+use Rattle.layered.specs.inner.Stages.{stageAfter, loadingOf, iteratingOf, costsIn, formedAt, recordsIn, resumeFault, FormRoom, StoreRoom, ResumeRoom, TestRoom, StepRoom, Loaded, LoadRoom}
 use Rattle.layered.proofs.Passes.{place-is, settled-is, tables-pass, all-ext}
 use Rattle.layered.proofs.Runs.{pass-running, running-columns, test-room}
 use Rattle.layered.proofs.Decoded.{by-fault, coded-tables, holds-then, degree-count, fault-is, rooms, frame-length, start-room, copied-front, read, coded}

@@ -28,14 +28,14 @@ use Rattle.checknode.specs.Answers.{weightOk, weightsOk, zeroOk, messagesCases,
 use Rattle.machine.specs.CodeLine.{edgeAt, columnOf}
 use Rattle.machine.specs.Machine.{scaled, incoming, outgoing, arriving, spread}
 use Rattle.machine.specs.Lent.{weightsOf, heard}
-use Rattle.machine.specs.Tables.{edgesOf}
+use Rattle.machine.specs.inner.Tables.{edgesOf}
 use Rattle.machine.proofs.Lists.{at-upTo, map-after}
 use Rattle.machine.proofs.Updates.{length-incoming, zero-incoming}
 use Rattle.machine.proofs.Ranges.{column-room}
 use Rattle.machine.proofs.Lent.{arriving-ext, spread-ext}
 use Rattle.machine.proofs.Edges.{length-edges, column-edge, weight-edge, weights-edges}
-use Rattle.layered.specs.Columns.{oneColumn, gathered as gatheredCosts, GatherRoom, scattered, ScatterRoom}
-use Rattle.layered.specs.Turns.{oldCosts, columnsNow, recordNow, costsNow, Weighed, RecallRoom, SendRoom, UpdateRoom}
+use Rattle.layered.specs.inner.Columns.{oneColumn, gathered as gatheredCosts, GatherRoom, scattered, ScatterRoom}
+use Rattle.layered.specs.inner.Turns.{oldCosts, columnsNow, recordNow, costsNow, Weighed, RecallRoom, SendRoom, UpdateRoom}
 use Rattle.layered.proofs.Columns.{scaled-at, length-part, length-gathered}
 
 -- a check's columns as a list over its edges

@@ -1,8 +1,12 @@
 -- The answers' meanings: document 01's number and values for each case.
+use Prim.Native.Nat.{ℕ}
 use Rattle.trellis.specs.Reply.{Reply, refusal, foundIn, notFoundIn}
+use Rattle.machine.specs.Moments.{Stage as Ends}
 use Rattle.layered.specs.declared.Outcome.the-variants.{Found, NotFound}
 use Rattle.layered.specs.declared.Answer.{Answer}
 use Rattle.layered.specs.declared.Answer.the-variants.{Decoded, Refused}
+use Rattle.layered.specs.declared.Stage.{Stage}
+use Rattle.layered.specs.declared.Stage.the-variants.{Running, Found as StageFound, NotFound as StageNotFound, Refused as StageRefused}
 use Rattle.layered.specs.declared.Stopped.the-variants.{Found as FoundEarly, NotFound as NotFoundEarly}
 use Rattle.layered.specs.declared.EarlyAnswer.{EarlyAnswer}
 use Rattle.layered.specs.declared.EarlyAnswer.the-variants.{Decoded as DecodedEarly, Refused as RefusedEarly}
@@ -17,3 +21,14 @@ abbrev pub earlyReply : EarlyAnswer → Reply
 earlyReply (DecodedEarly (FoundEarly u)) = foundIn u
 earlyReply (DecodedEarly (NotFoundEarly u)) = notFoundIn u
 earlyReply (RefusedEarly k) = refusal k
+
+-- where a load or an iteration ends
+abbrev pub ends : ℕ → ℕ → Ends
+ends state number = record { state = state; number = number }
+
+-- "States: 0 idle, 1 running, 2 found, 3 not found, 4 refused."
+abbrev pub stageOf : Stage → Ends
+stageOf Running = ends 1 0
+stageOf StageFound = ends 2 0
+stageOf StageNotFound = ends 3 0
+stageOf (StageRefused k) = ends 4 k

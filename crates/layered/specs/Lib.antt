@@ -1,10 +1,3 @@
--- Answers has the replies of the public calls; the rest are what the loops leave and ask, in the shape of the code.
+-- What a reader must believe: Answers, the replies of the public calls. Under inner what the loops leave and ask.
 pub mod Answers
-pub mod Columns
-pub mod Parity
-pub mod Turns
-pub mod Passes
-pub mod Places
-pub mod Early
-pub mod Frames
-pub mod Stages
+pub mod inner

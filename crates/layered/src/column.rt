@@ -5,7 +5,8 @@ ghost use mathlib.Core.List.{map};
 ghost use Prim.Native.Nat.{_+_, _-_, _≤_, _<_};
 ghost use lib.ListN.{length};
 ghost use Rattle.machine.specs.Machine.{scaled, incoming, outgoing};
-ghost use Rattle.layered.specs.Columns.{Below, leastRaised, gathered, GatherRoom, leastSummed, scattered, ScatterRoom};
+ghost use Rattle.machine.specs.inner.InRange.{Below};
+ghost use Rattle.layered.specs.inner.Columns.{leastRaised, gathered, GatherRoom, leastSummed, scattered, ScatterRoom};
 
 // A cost less a scaled cost, 255 higher, so that it is not below 0.
 fn raise(c: u16, s: u8, g: u16) -> u16

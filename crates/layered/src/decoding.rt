@@ -10,7 +10,7 @@ ghost use Prim.Native.Nat.{_≤_};
 ghost use Rattle.machine.specs.CodeLine.{Code, parse, numbersOf, columnsRead};
 ghost use Rattle.machine.specs.Decoding.{lending, Leaves, Decodes};
 ghost use Rattle.layered.specs.Answers.{answerReply};
-ghost use Rattle.layered.specs.Frames.{decodingOf, Coded, CodeRoom};
+ghost use Rattle.layered.specs.inner.Frames.{decodingOf, Coded, CodeRoom};
 
 // "Decode: code, 12, 13, 2, 3, 4.", 19. Nothing is written before the last refusal has been tested.
 fn under_code(

@@ -13,9 +13,9 @@ ghost use lib.ListN.{length, set};
 ghost use Rattle.trellis.specs.Check.{decide as decideOf};
 ghost use Rattle.trellis.specs.Rules.{sizeOf};
 ghost use Rattle.machine.specs.CodeLine.{columnOf};
-ghost use Rattle.layered.specs.Parity.{decisionsOf, marginsOf, ParityRoom, FromTo, SomeNot};
-ghost use Rattle.layered.specs.Passes.{graph, lent, testOn, RunRoom};
-ghost use Rattle.layered.specs.Early.{decidedAgain, AgainRoom, RetestRoom, Retested, stopOn, haltedIn, GoRoom};
+ghost use Rattle.layered.specs.inner.Parity.{decisionsOf, marginsOf, ParityRoom, FromTo, SomeNot};
+ghost use Rattle.layered.specs.inner.Passes.{graph, lent, testOn, RunRoom};
+ghost use Rattle.layered.specs.inner.Early.{decidedAgain, AgainRoom, RetestRoom, Retested, stopOn, haltedIn, GoRoom};
 
 // Decides column c again; 1 where its symbol is another one now, else 0.
 fn decide_at(costs: &[u16], q: usize, c: usize, symbols: &mut [u8]) -> usize

@@ -7,8 +7,8 @@ ghost use lib.ListN.{length};
 ghost use Rattle.trellis.specs.Lists.{allTo};
 ghost use Rattle.trellis.specs.Rules.{firstOk};
 ghost use Rattle.machine.specs.CodeLine.{zeroIn};
-ghost use Rattle.layered.specs.Passes.{placeAt};
-ghost use Rattle.layered.specs.Frames.{frameFaultOf, roomFault, faultOf};
+ghost use Rattle.layered.specs.inner.Passes.{placeAt};
+ghost use Rattle.layered.specs.inner.Frames.{frameFaultOf, roomFault, faultOf};
 
 // Whether each of n columns of q costs has a cost of 0.
 fn zeros_in(frame: &[u8], q: usize, n: usize) -> bool

@@ -8,8 +8,8 @@ ghost use mathlib.Core.Bool.{true};
 ghost use Prim.Native.Nat.{_≤_};
 ghost use lib.ListN.{length};
 ghost use Rattle.trellis.specs.Rules.{sizeOf};
-ghost use Rattle.layered.specs.Parity.{decisionsOf, marginsOf};
-ghost use Rattle.layered.specs.Passes.{graph, lent, passOver, goOn, endedIn, PassRoom, RunRoom};
+ghost use Rattle.layered.specs.inner.Parity.{decisionsOf, marginsOf};
+ghost use Rattle.layered.specs.inner.Passes.{graph, lent, passOver, goOn, endedIn, PassRoom, RunRoom};
 
 // "An iteration .. takes the checks in code order."
 pub fn pass(

@@ -18,8 +18,7 @@ ghost use Rattle.machine.specs.CodeLine.{parse, numbersOf, columnsRead};
 ghost use Rattle.machine.specs.Decoding.{lending, Decodes};
 ghost use Rattle.machine.specs.Early.{DecodesEarly};
 ghost use Rattle.machine.specs.Moments.{Moves, loading, iterating};
-ghost use Rattle.layered.specs.Answers.{answerReply, earlyReply};
-ghost use Rattle.layered.specs.Stages.{stageOf};
+ghost use Rattle.layered.specs.Answers.{answerReply, earlyReply, stageOf};
 
 // How a run of the machine ended, with its iterations.
 pub enum Outcome {

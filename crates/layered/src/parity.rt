@@ -8,10 +8,10 @@ ghost use lib.Dec.{eqb};
 ghost use lib.ListN.{length};
 ghost use Rattle.trellis.specs.Lists.{pick};
 ghost use Rattle.trellis.specs.Check.{decide as decideOf};
-ghost use Rattle.trellis.specs.Margins.{leastBut, marginAt};
+ghost use Rattle.trellis.specs.inner.Margins.{leastBut, marginAt};
 ghost use Rattle.trellis.specs.Field.{product};
-ghost use Rattle.machine.specs.Tables.{term};
-ghost use Rattle.layered.specs.Parity.{decisionsOf, marginsOf, EdgeRoom, ParityRoom, FromTo, FirstNot, allHold, SettledRoom};
+ghost use Rattle.machine.specs.inner.Tables.{term};
+ghost use Rattle.layered.specs.inner.Parity.{decisionsOf, marginsOf, EdgeRoom, ParityRoom, FromTo, FirstNot, allHold, SettledRoom};
 
 // The cost of symbol x; where x is z, no cost is greater.
 fn but(cost: u16, x: usize, z: usize) -> u16

@@ -5,8 +5,8 @@ ghost use mathlib.Core.Path.{_≡_};
 ghost use Prim.Native.Nat.{_+_};
 ghost use lib.Dec.{eqb};
 ghost use Rattle.trellis.specs.Lists.{pick};
-ghost use Rattle.layered.specs.Passes.{graph, lent, turnAt};
-ghost use Rattle.layered.specs.Places.{Stands, Around, PlaceRoom};
+ghost use Rattle.layered.specs.inner.Passes.{graph, lent, turnAt};
+ghost use Rattle.layered.specs.inner.Places.{Stands, Around, PlaceRoom};
 
 // The check's number, its first edge in the tables, its record's first byte in the store.
 pub struct Place {

@@ -9,8 +9,8 @@ ghost use Rattle.trellis.specs.Lists.{allTo};
 ghost use Rattle.trellis.specs.Record.{recordOk};
 ghost use Rattle.trellis.specs.Rules.{ruleFor};
 ghost use Rattle.machine.specs.CodeLine.{zeroIn};
-ghost use Rattle.layered.specs.Turns.{Weighed};
-ghost use Rattle.layered.specs.Stages.{lowAt, costsIn, formedAt, recordsIn, resumeFault, StoreRoom, ResumeRoom};
+ghost use Rattle.layered.specs.inner.Turns.{Weighed};
+ghost use Rattle.layered.specs.inner.Stages.{lowAt, costsIn, formedAt, recordsIn, resumeFault, StoreRoom, ResumeRoom};
 
 // Whether none of the first w costs is above 510.
 fn low_costs(costs: &[u16], w: usize) -> bool

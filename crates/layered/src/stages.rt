@@ -12,10 +12,11 @@ ghost use Rattle.trellis.specs.Rules.{sizeOf};
 ghost use Rattle.machine.specs.CodeLine.{Code};
 ghost use Rattle.machine.specs.Decoding.{lending};
 ghost use Rattle.machine.specs.Moments.{Moves, loading, iterating};
-ghost use Rattle.layered.specs.Parity.{decisionsOf, marginsOf};
-ghost use Rattle.layered.specs.Passes.{graph, lent, passOver, testOn};
-ghost use Rattle.layered.specs.Frames.{Coded, CodeRoom};
-ghost use Rattle.layered.specs.Stages.{stageOf, stageAfter, loadingOf, iteratingOf, TestRoom, StepRoom, Loaded, LoadRoom};
+ghost use Rattle.layered.specs.inner.Parity.{decisionsOf, marginsOf};
+ghost use Rattle.layered.specs.inner.Passes.{graph, lent, passOver, testOn};
+ghost use Rattle.layered.specs.inner.Frames.{Coded, CodeRoom};
+ghost use Rattle.layered.specs.Answers.{stageOf};
+ghost use Rattle.layered.specs.inner.Stages.{stageAfter, loadingOf, iteratingOf, TestRoom, StepRoom, Loaded, LoadRoom};
 
 // "2 if the test holds, else 3 if t is I or more, else 1".
 pub fn stage_after(found: bool, t: u16, limit: u8) -> Stage

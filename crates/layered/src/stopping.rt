@@ -9,7 +9,7 @@ ghost use Rattle.machine.specs.CodeLine.{Code};
 ghost use Rattle.machine.specs.Decoding.{lending, Leaves};
 ghost use Rattle.machine.specs.Early.{DecodesEarly};
 ghost use Rattle.layered.specs.Answers.{earlyReply};
-ghost use Rattle.layered.specs.Frames.{earlyOf, Coded, CodeRoom};
+ghost use Rattle.layered.specs.inner.Frames.{earlyOf, Coded, CodeRoom};
 
 // "It refuses as decoding does." Nothing is written before the last refusal has been tested.
 fn under_code(

@@ -6,7 +6,7 @@ ghost use Rattle.trellis.specs.Lists.{tab};
 ghost use Rattle.trellis.specs.Check.{allSent};
 ghost use Rattle.trellis.specs.Record.{recordOf};
 ghost use Rattle.trellis.specs.Rules.{ruleFor, sizeOf, columnsOf};
-ghost use Rattle.layered.specs.Turns.{oldCosts, RecallRoom, SendRoom, UpdateRoom, recordNow, costsNow};
+ghost use Rattle.layered.specs.inner.Turns.{oldCosts, RecallRoom, SendRoom, UpdateRoom, recordNow, costsNow};
 
 fn clear(out: &mut [u8])
     ensures { λ _. ⌜ now (out .exit) ≡ tab (λ x. 0) (length (now (out .entry))) ⌝ }

@@ -17,9 +17,10 @@ use Rattle.machine.specs.CodeLine.{Edge, Code, size, rule, check, edgeAt
 use Rattle.machine.specs.Machine.{made, State, lastOf, decisionAt, symbols, margins, message, arriving, outgoing, spread, update, used}
 use Rattle.machine.specs.Lent.{Lent, turn}
 use Rattle.machine.proofs.Lists.{at-upTo}
-use Rattle.machine.proofs.Lines.{GoodCheck, GoodCode}
+use Rattle.machine.specs.inner.Accepted.{GoodCheck, GoodCode}
 use Rattle.machine.proofs.Updates.{size-some}
-use Rattle.machine.proofs.Ranges.{Ranged, length-outgoing, length-patch, part-before, part-after, column-room}
+use Rattle.machine.specs.inner.InRange.{Ranged}
+use Rattle.machine.proofs.Ranges.{length-outgoing, length-patch, part-before, part-after, column-room}
 use Rattle.machine.proofs.Passing.{turn-costs}
 
 -- a list of values put in at the places cols 0, .., cols (d - 1)

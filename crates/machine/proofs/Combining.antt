@@ -24,7 +24,8 @@ use Rattle.machine.specs.Decoding.{Accepts}
 use Rattle.machine.specs.Encoding.{Wrote, wrote, Codeword, Undisturbed}
 use Rattle.machine.specs.Combining.{bothCosts, combinedColumn, combinedTo, combined, combineFault, combiningUnder, combining, Left, Accepted-again, Either-order, Nothing-added, costIn, bothIn, decidedIn, LeastTogether, Decided-together, Shared, Shared-zero, OfOneWord, Found-together}
 use Rattle.machine.proofs.Lists.{at-upTo}
-use Rattle.machine.proofs.Updates.{Below, less-zero, size-some}
+use Rattle.machine.specs.inner.InRange.{Below}
+use Rattle.machine.proofs.Updates.{less-zero, size-some}
 use Rattle.machine.proofs.Ranges.{below-append, below-take, below-drop, part-front, column-room, frame-ranged}
 use Rattle.machine.proofs.EncodedFound.{found-at-once}
 

@@ -19,7 +19,8 @@ use Rattle.machine.specs.Machine.{Last, none, made, State, lastOf, colum
 use Rattle.machine.specs.Decoding.{Buffers, storeOf, roomFault, admitted, decodingUnder, decoding, Decodes, Accepts, Room, lastUpdate, outcome, LeastSent, Kept, Agree, Demand-3}
 use Rattle.trellis.proofs.Records.{records-equal}
 use Rattle.trellis.proofs.Loops.{blocks-same, blocks-ext}
-use Rattle.machine.proofs.Lines.{GoodCode, parse-good}
+use Rattle.machine.specs.inner.Accepted.{GoodCode}
+use Rattle.machine.proofs.Lines.{parse-good}
 use Rattle.machine.proofs.Buffers.{accepted-call}
 use Rattle.machine.proofs.Literal.{sent-least}
 use Rattle.machine.proofs.Updates.{IsMade, run-reached, last-made, last-proper, last-record, last-length, length-records}

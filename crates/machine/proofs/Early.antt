@@ -1,21 +1,22 @@
 -- Stopping inside an iteration: the moment is the first one, M updates are an iteration, and there are never more than in the ordinary call.
 use mathlib.Core.Path.{_≡_, refl, sym, ap, ap₂, _∙_}
-use mathlib.Core.Bool.{Bool, true, false, not}
-use mathlib.Core.List.{List, [], _∷_}
+use mathlib.Core.Bool.{Bool, true, false}
+use mathlib.Core.List.{List}
 use Prim.Native.Nat.{ℕ, zero, suc, _+_, _*_, _%_, _≤_, _<_}
 use native.Mathlib.Nat.{suc-mul, mul-comm, mul-le-mul}
 use native.Mathlib.Decide.{ℕ-discrete, decLt}
 use native.Mathlib.Omega.{arith}
 use lib.Arith.{digits-mod}
-use lib.Dec.{eqb, ltb}
+use lib.Dec.{eqb}
 use lib.ListN.{length, getD}
 use Rattle.trellis.specs.Lists.{pick, upto}
-use Rattle.trellis.specs.Rules.{sizeOf, firstOk}
-use Rattle.machine.specs.CodeLine.{Read, good, bad, Code, wordAt, checks, parse, frameFault}
+use Rattle.trellis.specs.Rules.{sizeOf}
+use Rattle.machine.specs.CodeLine.{Read, good, bad, Code, wordAt, checks, headTests, parse, frameFault}
 use Rattle.machine.specs.Machine.{State, settled, update, iteration, start, Status, found, notFound, Result, result, go, run}
 use Rattle.machine.specs.Decoding.{outcome, roomFault, admittedUnder, admitted, decodingUnder, decoding}
 use Rattle.machine.specs.Early.{momentAfter, testAfter, firstFrom, mostUpdates, updates, statusEarly, earlyUnder, decodingEarly, Whole-iterations, FirstMoment, Never-more, Few-updates}
-use Rattle.machine.proofs.Lines.{passed, then-good, good-one, GoodCode, parse-good}
+use Rattle.machine.specs.inner.Accepted.{GoodCode}
+use Rattle.machine.proofs.Lines.{passed, then-good, good-one, parse-good}
 
 -- a status is one of two, and so is a test
 found-not : found ≡ notFound → ⊥
@@ -211,13 +212,8 @@ never-more code f b C e r r′ o o′ D D′ =
 pub limit-read : (s : List ℕ) (C : Code) → parse s ≡ good C → C .limit ≡ getD s 5 0
 unfolding parse
 limit-read s C h =
-    let f : ℕ = getD s 0 0 in
-    let n : ℕ = wordAt s 1 in
-    let m : ℕ = getD s 3 0 in
-    let g : ℕ = getD s 4 0 in
-    let i : ℕ = getD s 5 0 in
-    let a = passed ((ltb (length s) 6, 5) ∷ (not (firstOk f), 6) ∷ (ltb n 1, 7) ∷ (ltb 256 n, 7) ∷ (ltb m 1, 7) ∷ (ltb 128 m, 7) ∷ (ltb g 1, 8) ∷ (ltb 16 g, 8) ∷ (ltb i 1, 8) ∷ []) _ C h in
-    let b = then-good (checks m s 6 n (sizeOf f) 0) _ C (a .1) in
+    let a = passed (headTests s) _ C h in
+    let b = then-good (checks (getD s 3 0) s 6 (wordAt s 1) (sizeOf (getD s 0 0)) 0) _ C (a .1) in
     sym (ap (λ D. D .limit) (good-one _ C (b .2)))
 
 pub most-small : (C : Code) → GoodCode C → C .limit ≤ 255 → mostUpdates C ≤ 32640

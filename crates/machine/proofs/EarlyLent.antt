@@ -13,11 +13,11 @@ use Rattle.trellis.specs.Lists.{pick}
 use Rattle.machine.specs.CodeLine.{Code, frameFault}
 use Rattle.machine.specs.Machine.{none, lastOf, start, found, notFound, used, held}
 use Rattle.machine.specs.Lent.{Lent}
-use Rattle.machine.specs.LentEarly.{Halted, halted, turnNext, stopLent}
+use Rattle.machine.specs.inner.LentEarly.{Halted, halted, turnNext, stopLent}
 use Rattle.machine.specs.Early.{momentAfter, testAfter, firstFrom, mostUpdates, updates, stateEarly, statusEarly}
-use Rattle.machine.proofs.Lines.{GoodCode}
-use Rattle.machine.proofs.Updates.{Below}
-use Rattle.machine.proofs.Ranges.{Ranged, update-ranged, frame-ranged}
+use Rattle.machine.specs.inner.Accepted.{GoodCode}
+use Rattle.machine.specs.inner.InRange.{Below, Ranged}
+use Rattle.machine.proofs.Ranges.{update-ranged, frame-ranged}
 use Rattle.machine.proofs.Lent.{lentOf, When, length-held, held-none, turn-stands}
 use Rattle.machine.proofs.Early.{moment-suc, moment-start}
 use Rattle.machine.proofs.EarlyStores.{turn-small, moment-kept, none-yet, made-then}

@@ -15,10 +15,10 @@ use Rattle.trellis.specs.Lists.{pick}
 use Rattle.machine.specs.CodeLine.{Code}
 use Rattle.machine.specs.Machine.{used}
 use Rattle.machine.specs.Lent.{Lent}
-use Rattle.machine.specs.LentEarly.{turnNext}
-use Rattle.machine.proofs.Lines.{GoodCode}
-use Rattle.machine.proofs.Ranges.{Ranged}
-use Rattle.machine.proofs.Passing.{Formed, turn-ranged, turn-length, turn-formed, turn-others}
+use Rattle.machine.specs.inner.LentEarly.{turnNext}
+use Rattle.machine.specs.inner.Accepted.{GoodCode}
+use Rattle.machine.specs.inner.InRange.{Advancing, Ranged, Formed}
+use Rattle.machine.proofs.Passing.{turn-ranged, turn-length, turn-formed, turn-others}
 
 -- the check after check u mod M: the next, or the first again
 pub next-check : (u M : ℕ) → 0 < M → suc u % M ≡ pick (eqb (u % M + 1) M) 0 (u % M + 1)
@@ -42,17 +42,11 @@ module _ (C : Code) (G : GoodCode C) where
   pub check-small : (u : ℕ) → u % M < M
   check-small u = mod-lt u (G .checks-low)
 
-  -- after u updates: costs in range, room in the store, and each check that was updated has a record of accepted form
-  pub record Advancing (u : ℕ) (l : Lent) : Type 0 where
-    pub ranged : Ranged C (l .costs)
-    pub room : used C ≤ length (l .store)
-    pub done : (m : ℕ) → m < M → m < u → Formed C G l m
-
-  pub advancing-start : (l : Lent) → Ranged C (l .costs) → used C ≤ length (l .store) → Advancing 0 l
+  pub advancing-start : (l : Lent) → Ranged C (l .costs) → used C ≤ length (l .store) → Advancing C G 0 l
   advancing-start l R r = record { ranged = R; room = r; done = λ m h i. absurd (not-suc-le-zero i) }
 
   -- one update more
-  pub advanced : (u : ℕ) (l : Lent) → Advancing u l → Advancing (suc u) (turnNext C u l)
+  pub advanced : (u : ℕ) (l : Lent) → Advancing C G u l → Advancing C G (suc u) (turnNext C u l)
   advanced u l A =
       let k = check-small u in
       record {
@@ -67,5 +61,5 @@ module _ (C : Code) (G : GoodCode C) where
       }
 
   -- after the first M updates the next check has its record
-  pub next-formed : (u : ℕ) (l : Lent) → Advancing u l → ltb u M ≡ false → Formed C G l (u % M)
+  pub next-formed : (u : ℕ) (l : Lent) → Advancing C G u l → ltb u M ≡ false → Formed C G l (u % M)
   next-formed u l A e = A .done (u % M) (check-small u) (omega (arith, check-small u, ltb-false u M e))

@@ -18,7 +18,8 @@ use Rattle.machine.specs.CodeLine.{Read, good, bad, Code, size, rule, ch
 use Rattle.machine.specs.Machine.{Last, none, made, State, lastOf, columnsIn, Status, found, notFound, run, used, pieceOf, held}
 use Rattle.machine.specs.Decoding.{Buffers, outcome, admitted, decodingUnder, decoding, Accepts, Room, LeastSent}
 use Rattle.machine.specs.Early.{momentAfter, updates, stateEarly, statusEarly, placeOf, earlyUnder, decodingEarly, DecodesEarly, RefusesAlike, Refuses-alike, Updated, lastEarly, KeptEarly, AgreeAt, Early-stores}
-use Rattle.machine.proofs.Lines.{GoodCode, parse-good}
+use Rattle.machine.specs.inner.Accepted.{GoodCode}
+use Rattle.machine.proofs.Lines.{parse-good}
 use Rattle.machine.proofs.Literal.{sent-least}
 use Rattle.machine.proofs.Updates.{Made, made-proper, IsMade, Kept, update-kept, last-same, last-other, columns-made}
 use Rattle.machine.proofs.Lent.{length-held, held-part}

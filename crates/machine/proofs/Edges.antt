@@ -8,7 +8,7 @@ use lib.Seq.{ext-getD}
 use Rattle.trellis.specs.Lists.{upTo, each}
 use Rattle.trellis.proofs.Places.{length-count}
 use Rattle.machine.specs.CodeLine.{Edge, edgeAt}
-use Rattle.machine.specs.Tables.{edgesOf, tablesOf, before}
+use Rattle.machine.specs.inner.Tables.{edgesOf, tablesOf, before}
 use Rattle.machine.specs.Lent.{weightsOf}
 use Rattle.machine.proofs.Lists.{at-upTo}
 use Rattle.machine.proofs.Tables.{before-cons}

@@ -22,7 +22,7 @@ use Rattle.trellis.proofs.Places.{map-ext}
 use Rattle.trellis.proofs.Records.{expand-record}
 use Rattle.trellis.proofs.Form.{record-length}
 use Rattle.trellis.proofs.Loops.{length-blocks, blocks-ext}
-use Rattle.machine.proofs.Lines.{GoodCheck, GoodCode}
+use Rattle.machine.specs.inner.Accepted.{GoodCheck, GoodCode}
 use Rattle.machine.proofs.Updates.{Made, made-proper, arriving-made, Fine, IsMade, Kept, MadeTo, updates-kept, last-same, last-other, iteration-kept}
 
 -- blocks: one of them, and one of them replaced

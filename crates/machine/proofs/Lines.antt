@@ -1,5 +1,5 @@
 -- What a code line that is read has: the ranges of its numbers.
-use mathlib.Core.Path.{_≡_, refl, sym, ap}
+use mathlib.Core.Path.{_≡_, refl, sym, ap, _∙_}
 use mathlib.Core.Bool.{Bool, true, false, not}
 use mathlib.Core.Logic.{_≢_}
 use mathlib.Core.List.{List, [], _∷_}
@@ -10,26 +10,37 @@ use lib.Dec.{eqb, ltb, leb}
 use lib.ListN.{length, getD}
 use borrow.Author.Tests.{ltb-false, leb-false, eqb-false, not-false}
 use Rattle.trellis.specs.Lists.{pick}
+use Rattle.trellis.specs.Refusals.{Test, when, unless, refusedBy}
 use Rattle.trellis.specs.Rules.{sizeOf, firstOk}
 use Rattle.trellis.proofs.Rules.{first-power}
-use Rattle.machine.specs.CodeLine.{Read, good, bad, then, Edge, Code, edge, wordAt, readEdge, edges, checkAt, checks, parse, power, size, check, edgeAt, Numbers, numbersOf}
+use Rattle.machine.specs.CodeLine.{Read, good, bad, then, Edge, Code, edge, wordAt, readEdge, edges, checkAt, checks, parse, power, size, check, edgeAt, Numbers, numbersOf, edgeTests, checkTests, headTests}
+use Rattle.machine.specs.inner.Accepted.{GoodEdge, GoodCheck, edgeTotal, GoodCode}
 
--- tests that refuse, in their order
-abbrev pub guard : {A : Type 0} → List (Bool × ℕ) → Read A → Read A
-guard [] y = y
-guard (x ∷ l) y = pick (x .0) (bad (x .1)) (guard l y)
+-- none of the tests of a table applies
+abbrev pub Passed : List Test → Type 0
+Passed [] = Unit {0}
+Passed (when b k ∷ l) = (b ≡ false) × Passed l
+Passed (unless b k ∷ l) = (b ≡ true) × Passed l
 
-abbrev pub AllFalse : List (Bool × ℕ) → Type 0
-AllFalse [] = Unit {0}
-AllFalse (x ∷ l) = (x .0 ≡ false) × AllFalse l
-
-pub passed : {A : Type 0} (l : List (Bool × ℕ)) (y : Read A) (a : A) → guard l y ≡ good a → AllFalse l × (y ≡ good a)
+-- what is read passed them all
+pub passed : {A : Type 0} (l : List Test) (y : Read A) (a : A) → refusedBy l bad y ≡ good a → Passed l × (y ≡ good a)
 passed [] y a h = (tt, h)
-passed (x ∷ l) y a h = go (x .0) refl (passed l y a) h
+passed (when b k ∷ l) y a h = go b refl (passed l y a) h
   where
-    go : (b : Bool) → x .0 ≡ b → (guard l y ≡ good a → AllFalse l × (y ≡ good a)) → pick b (bad (x .1)) (guard l y) ≡ good a → AllFalse (x ∷ l) × (y ≡ good a)
-    go true e f k = let z : _≡_ {A = ℕ} 0 1 = cc in absurd (omega arith)
-    go false e f k = ((e, f k .0), f k .1)
+    go : (c : Bool) → b ≡ c → (refusedBy l bad y ≡ good a → Passed l × (y ≡ good a)) → pick c (bad k) (refusedBy l bad y) ≡ good a → Passed (when b k ∷ l) × (y ≡ good a)
+    go true e f h = let z : _≡_ {A = ℕ} 0 1 = cc in absurd (omega arith)
+    go false e f h = ((e, f h .0), f h .1)
+passed (unless b k ∷ l) y a h = go b refl (passed l y a) h
+  where
+    go : (c : Bool) → b ≡ c → (refusedBy l bad y ≡ good a → Passed l × (y ≡ good a)) → pick c (refusedBy l bad y) (bad k) ≡ good a → Passed (unless b k ∷ l) × (y ≡ good a)
+    go true e f h = ((e, f h .0), f h .1)
+    go false e f h = let z : _≡_ {A = ℕ} 0 1 = cc in absurd (omega arith)
+
+-- and the other way round
+pub to-pass : {A : Type 0} (l : List Test) (y : Read A) → Passed l → refusedBy l bad y ≡ y
+to-pass [] y h = refl
+to-pass (when b k ∷ l) y h = ap (λ c. pick c (bad k) (refusedBy l bad y)) (h .0) ∙ to-pass l y (h .1)
+to-pass (unless b k ∷ l) y h = ap (λ c. pick c (refusedBy l bad y) (bad k)) (h .0) ∙ to-pass l y (h .1)
 
 pub then-good : {A B : Type 0} (r : Read A) (k : A → Read B) (b : B) → then r k ≡ good b → (a : A) × (r ≡ good a) × (k a ≡ good b)
 then-good (good a) k b h = (a, refl, h)
@@ -37,11 +48,6 @@ then-good (bad n) k b h = let z : _≡_ {A = ℕ} 0 1 = cc in absurd (omega arit
 
 pub good-one : {A : Type 0} (a b : A) → _≡_ {A = Read A} (good a) (good b) → a ≡ b
 good-one a b h = cc
-
-pub record GoodEdge (n q : ℕ) (e : Edge) : Type 0 where
-  pub column-small : e .column < n
-  pub weight-some : e .weight ≢ 0
-  pub weight-small : e .weight < q
 
 pub record GoodEdges (n q low c : ℕ) (es : List Edge) : Type 0 where
   pub count : length es ≡ c
@@ -54,7 +60,7 @@ unfolding readEdge
 edge-good s at n q low e h =
     let w : ℕ = wordAt s at in
     let v : ℕ = getD s (at + 2) 0 in
-    let a = passed ((leb n w, 10) ∷ (ltb w low, 10) ∷ (eqb v 0, 11) ∷ (leb q v, 11) ∷ []) _ e h in
+    let a = passed (edgeTests s at n q low) _ e h in
     let i : e ≡ edge w v = sym (good-one _ e (a .1)) in
     rw i (record { column-small = leb-false _ _ (a .0 .0); weight-some = eqb-false _ _ (a .0 .1 .1 .0); weight-small = leb-false _ _ (a .0 .1 .1 .1 .0) }, ltb-false _ _ (a .0 .1 .0))
 
@@ -93,17 +99,11 @@ edges-good (suc c) s at n q low es h =
         three zero (suc k) a h = omega (arith, r .from-low k (omega arith))
         three (suc j) (suc k) a h = r .rising j k (omega arith) (omega arith)
 
-pub record GoodCheck (n q : ℕ) (es : List Edge) : Type 0 where
-  pub low : 2 ≤ length es
-  pub high : length es ≤ 32
-  pub each-edge : (k : ℕ) → k < length es → GoodEdge n q (edgeAt es k)
-  pub rising : (j k : ℕ) → j < k → k < length es → edgeAt es j .column < edgeAt es k .column
-
 check-good : (s : List ℕ) (at n q total : ℕ) (es : List Edge) → checkAt s at n q total ≡ good es → GoodCheck n q es × (total + length es ≤ 1024)
 unfolding checkAt
 check-good s at n q total es h =
     let d : ℕ = getD s at 0 in
-    let a = passed ((leb (length s) at, 5) ∷ (ltb d 2, 9) ∷ (ltb 32 d, 9) ∷ (ltb 1024 (total + d), 9) ∷ (ltb (length s - (at + 1)) (3 * d), 5) ∷ []) _ es h in
+    let a = passed (checkTests s at total) _ es h in
     let r = edges-good d s (at + 1) n q 0 es (a .1) in (
       record { low = omega (arith, ltb-false d 2 (a .0 .1 .0), r .count); high = omega (arith, ltb-false 32 d (a .0 .1 .1 .0), r .count); each-edge = r .each-edge; rising = r .rising },
       omega (arith, ltb-false 1024 (total + d) (a .0 .1 .1 .1 .0), r .count),
@@ -113,13 +113,8 @@ pub check-count : (s : List ℕ) (at n q total : ℕ) (es : List Edge) → check
 unfolding checkAt
 check-count s at n q total es h =
     let d : ℕ = getD s at 0 in
-    let a = passed ((leb (length s) at, 5) ∷ (ltb d 2, 9) ∷ (ltb 32 d, 9) ∷ (ltb 1024 (total + d), 9) ∷ (ltb (length s - (at + 1)) (3 * d), 5) ∷ []) _ es h in
+    let a = passed (checkTests s at total) _ es h in
     edges-good d s (at + 1) n q 0 es (a .1) .count
-
--- how many edges all checks have together
-abbrev pub edgeTotal : List (List Edge) → ℕ
-edgeTotal [] = 0
-edgeTotal (es ∷ l) = length es + edgeTotal l
 
 -- c checks after total edges
 record GoodChecks (n q total c : ℕ) (l : List (List Edge)) : Type 0 where
@@ -154,20 +149,6 @@ checks-good (suc c) s at n q total l f h =
     more es k e g i r =
         rw e (record { count = ap suc (r .count); each-check = at-more es k g (r .each-check); few-edges = omega (arith, r .few-edges) })
 
-pub record GoodCode (C : Code) : Type 0 where
-  pub first : firstOk (C .first) ≡ true
-  pub p-low : 2 ≤ power C
-  pub p-high : power C ≤ 6
-  pub columns-low : 1 ≤ C .columns
-  pub columns-high : C .columns ≤ 256
-  pub scale-low : 1 ≤ C .scale
-  pub scale-high : C .scale ≤ 16
-  pub limit-low : 1 ≤ C .limit
-  pub checks-low : 1 ≤ length (C .checks)
-  pub checks-high : length (C .checks) ≤ 128
-  pub each-check : (m : ℕ) → m < length (C .checks) → GoodCheck (C .columns) (size C) (check C m)
-  pub edges-high : edgeTotal (C .checks) ≤ 1024
-
 pub parse-good : (s : List ℕ) (C : Code) → parse s ≡ good C → GoodCode C
 unfolding parse
 parse-good s C h =
@@ -176,7 +157,7 @@ parse-good s C h =
     let m : ℕ = getD s 3 0 in
     let g : ℕ = getD s 4 0 in
     let i : ℕ = getD s 5 0 in
-    let a = passed ((ltb (length s) 6, 5) ∷ (not (firstOk f), 6) ∷ (ltb n 1, 7) ∷ (ltb 256 n, 7) ∷ (ltb m 1, 7) ∷ (ltb 128 m, 7) ∷ (ltb g 1, 8) ∷ (ltb 16 g, 8) ∷ (ltb i 1, 8) ∷ []) _ C h in
+    let a = passed (headTests s) _ C h in
     let b = then-good (checks m s 6 n (sizeOf f) 0) _ C (a .1) in
     let r = checks-good m s 6 n (sizeOf f) 0 (b .0) (omega arith) (b .1) in
     let e : C ≡ record { first = f; columns = n; scale = g; limit = i; checks = b .0 } = sym (good-one _ C (b .2)) in

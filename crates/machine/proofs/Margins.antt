@@ -16,8 +16,10 @@ use Rattle.machine.specs.Machine.{run, symbols, margins}
 use Rattle.machine.specs.Decoding.{Buffers}
 use Rattle.machine.specs.Margins.{symbolIn, marginIn, costIn, Margin, Margins}
 use Rattle.machine.proofs.Lists.{at-upTo}
-use Rattle.machine.proofs.Lines.{GoodCode, parse-good}
-use Rattle.machine.proofs.Ranges.{Ranged, column-room, run-ranged}
+use Rattle.machine.specs.inner.Accepted.{GoodCode}
+use Rattle.machine.proofs.Lines.{parse-good}
+use Rattle.machine.specs.inner.InRange.{Ranged}
+use Rattle.machine.proofs.Ranges.{column-room, run-ranged}
 use Rattle.machine.proofs.Buffers.{accepted-call}
 
 -- a part of a list of small numbers

@@ -11,8 +11,10 @@ use Rattle.machine.specs.CodeLine.{Edge, Code, size, check, edgeAt, colu
 use Rattle.machine.specs.Machine.{Last, none, made, State, lastOf, columnsIn, message, incoming, arriving, update, iteration, start, result, found, notFound, go, run, settled}
 use Rattle.machine.specs.Decoding.{Accepts}
 use Rattle.machine.proofs.Lists.{at-upTo, pick-elim}
-use Rattle.machine.proofs.Lines.{GoodCheck, GoodCode, parse-good}
-use Rattle.machine.proofs.Updates.{Below, Fine, Kept, size-some, last-same, updates-kept, iteration-kept}
+use Rattle.machine.specs.inner.Accepted.{GoodCheck, GoodCode}
+use Rattle.machine.proofs.Lines.{parse-good}
+use Rattle.machine.specs.inner.InRange.{Below}
+use Rattle.machine.proofs.Updates.{Fine, Kept, size-some, last-same, updates-kept, iteration-kept}
 use Rattle.machine.proofs.Ranges.{below-upTo, message-small, incoming-is}
 
 -- the state after k iterations from the start

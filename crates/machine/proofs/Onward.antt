@@ -12,7 +12,8 @@ use Rattle.machine.specs.CodeLine.{good, Code, parse, frameFault}
 use Rattle.machine.specs.Machine.{none, State, lastOf, start, iteration, settled, Status, found, notFound, Result, result, go, run, held}
 use Rattle.machine.specs.Decoding.{Buffers, Room, Accepts, holding, admitted, storeOf, decodingUnder, decoding}
 use Rattle.machine.specs.Moments.{Moment, moment, loadingUnder, loading, stateAfter, stateFor, iterating, onward, Load-then-steps}
-use Rattle.machine.proofs.Lines.{GoodCode, parse-good}
+use Rattle.machine.specs.inner.Accepted.{GoodCode}
+use Rattle.machine.proofs.Lines.{parse-good}
 use Rattle.machine.proofs.Ranges.{frame-ranged}
 use Rattle.machine.proofs.Lent.{held-none, held-end, Ready, iteration-t, go-stands}
 use Rattle.machine.proofs.Buffers.{admits, accepted-call}

@@ -17,9 +17,10 @@ use Rattle.trellis.proofs.Form.{record-length, record-ok}
 use Rattle.machine.specs.CodeLine.{Edge, Code, size, rule, check}
 use Rattle.machine.specs.Machine.{made, message, arriving, spread, place, used}
 use Rattle.machine.specs.Lent.{Lent, weightsOf, heard, gathered, turn, pass}
-use Rattle.machine.proofs.Lines.{GoodCheck, GoodCode}
+use Rattle.machine.specs.inner.Accepted.{GoodCheck, GoodCode}
+use Rattle.machine.specs.inner.InRange.{pieceIn, Formed, Passable, Ranged}
 use Rattle.machine.proofs.Updates.{Made, made-proper, arriving-made}
-use Rattle.machine.proofs.Ranges.{Ranged, part-front, length-patch, part-patch, spread-ranged}
+use Rattle.machine.proofs.Ranges.{part-front, length-patch, part-patch, spread-ranged}
 use Rattle.machine.proofs.Lent.{len, place-suc, place-mono, spread-ext, heard-made}
 
 -- a part that does not meet the patched one is as it was
@@ -50,24 +51,12 @@ module _ (l s : List ℕ) (a n : ℕ) (fits : a + n ≤ length l) (full : length
       three = ap (λ k. drop k l) e ∙ sym (drop-drop (n + (c - (a + n))) a l) ∙ sym (drop-drop (c - (a + n)) n (drop a l))
 
 module _ (C : Code) (G : GoodCode C) where
-  abbrev pub pieceIn : Lent → ℕ → List ℕ
-  pieceIn l m = part (l .store) (place C m) (len C m)
-
-  abbrev pub Formed : Lent → ℕ → Type 0
-  Formed l m = recordOk (rule C) (length (check C m)) (pieceIn l m) ≡ true
-
-  -- costs in range, room in the store, and records of accepted form but in the first iteration
-  pub record Passable (start : Bool) (l : Lent) : Type 0 where
-    pub ranged : Ranged C (l .costs)
-    pub room : used C ≤ length (l .store)
-    pub formed : start ≡ false → (m : ℕ) → m < length (C .checks) → Formed l m
-
   module _ (start : Bool) (l : Lent) (R : Ranged C (l .costs)) (room : used C ≤ length (l .store)) (m : ℕ) (h : m < length (C .checks)) where
     es : List Edge
     es = check C m
 
     pub cs : List Column
-    cs = gathered (rule C) (C .scale) start (check C m) (pieceIn l m) (l .costs)
+    cs = gathered (rule C) (C .scale) start (check C m) (pieceIn C G l m) (l .costs)
 
     H : GoodCheck (C .columns) (size C) (check C m)
     H = G .each-check m h
@@ -98,13 +87,13 @@ module _ (C : Code) (G : GoodCode C) where
     turn-length = rw turn-store (length-patch (l .store) (recordOf (rule C) cs) (place C m) (len C m) in-store long)
 
     -- its record is of accepted form
-    pub turn-formed : Formed (turn C start m l) m
+    pub turn-formed : Formed C G (turn C start m l) m
     turn-formed =
         rw (turn-store, part-patch (l .store) (recordOf (rule C) cs) (place C m) (len C m) in-store long, ← M .count)
         (record-ok (rule C) cs (made-proper C G (check C m) H cs M))
 
     -- the others are as they were
-    pub turn-others : (j : ℕ) → j < length (C .checks) → j ≢ m → pieceIn (turn C start m l) j ≡ pieceIn l j
+    pub turn-others : (j : ℕ) → j < length (C .checks) → j ≢ m → pieceIn C G (turn C start m l) j ≡ pieceIn C G l j
     turn-others j k n =
         rw turn-store
         (elim (decLt j m) [
@@ -116,8 +105,8 @@ module _ (C : Code) (G : GoodCode C) where
   pub record Before (start : Bool) (l : Lent) (k : ℕ) : Type 0 where
     pub ranged : Ranged C (upto (turn C start) k l .costs)
     pub room : length (upto (turn C start) k l .store) ≡ length (l .store)
-    pub done : (m : ℕ) → m < k → Formed (upto (turn C start) k l) m
-    pub waiting : (m : ℕ) → k ≤ m → m < length (C .checks) → pieceIn (upto (turn C start) k l) m ≡ pieceIn l m
+    pub done : (m : ℕ) → m < k → Formed C G (upto (turn C start) k l) m
+    pub waiting : (m : ℕ) → k ≤ m → m < length (C .checks) → pieceIn C G (upto (turn C start) k l) m ≡ pieceIn C G l m
 
   pub turns-before : (start : Bool) (l : Lent) → Ranged C (l .costs) → used C ≤ length (l .store) → (k : ℕ) → k ≤ length (C .checks) → Before start l k
   turns-before start l R room zero h = record { ranged = R; room = refl; done = λ m i. absurd (not-suc-le-zero i); waiting = λ m i j. refl }
@@ -136,10 +125,10 @@ module _ (C : Code) (G : GoodCode C) where
       }
 
   -- so each turn finds the record it needs, and after a pass the next one may follow
-  pub turn-needs : (start : Bool) (l : Lent) → Passable start l → (k : ℕ) → k < length (C .checks) → start ≡ false → Formed (upto (turn C start) k l) k
+  pub turn-needs : (start : Bool) (l : Lent) → Passable C G start l → (k : ℕ) → k < length (C .checks) → start ≡ false → Formed C G (upto (turn C start) k l) k
   turn-needs start l P k h e = rw (turns-before start l (P .ranged) (P .room) k (omega arith) .waiting k (omega arith) h) (P .formed e k h)
 
-  pub pass-passable : (start : Bool) (l : Lent) → Ranged C (l .costs) → used C ≤ length (l .store) → Passable false (pass C start l)
+  pub pass-passable : (start : Bool) (l : Lent) → Ranged C (l .costs) → used C ≤ length (l .store) → Passable C G false (pass C start l)
   unfolding pass
   pass-passable start l R room =
       let B = turns-before start l R room (length (C .checks)) (omega arith) in

@@ -12,7 +12,7 @@ use Rattle.trellis.specs.Lists.{each, part}
 use Rattle.trellis.specs.Field.{xor, product}
 use Rattle.machine.specs.CodeLine.{Edge, Code, check, edgeAt, power}
 use Rattle.machine.specs.Machine.{paritySum}
-use Rattle.machine.specs.Tables.{tablesOf, edgesOf, before, term, sumFrom}
+use Rattle.machine.specs.inner.Tables.{tablesOf, edgesOf, before, term, sumFrom}
 use Rattle.machine.proofs.Ranges.{part-front}
 use Rattle.machine.proofs.Tables.{check-slice}
 use Rattle.machine.proofs.Edges.{column-edge, weight-edge, length-table}

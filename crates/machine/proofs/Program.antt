@@ -25,7 +25,7 @@ use Rattle.machine.specs.Decoding.{outcome}
 use Rattle.machine.proofs.Lines.{parse-good}
 use Rattle.machine.proofs.Ranges.{frame-fits}
 use Rattle.machine.specs.Program.{lastLine, linesAfter, refusedLine, readCode, afterCode, linesOutput, outputOf}
-use Rattle.machine.specs.Blocks.{Kept, first, later, ended, fresh, longer, kept, codeKept, codeOut, finished, finishedOut, fed, fedOut, closeOut, fedAll, fedAllOut, joined}
+use Rattle.machine.specs.inner.Blocks.{Kept, first, later, ended, fresh, longer, kept, codeKept, codeOut, finished, finishedOut, fed, fedOut, closeOut, fedAll, fedAllOut, joined}
 
 take-more : (n : ℕ) (l m : List ℕ) → take n (take n l ++ m) ≡ take n (l ++ m)
 take-more zero l m = refl

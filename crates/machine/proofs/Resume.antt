@@ -18,9 +18,10 @@ use Rattle.trellis.proofs.Instances.{first-zero}
 use Rattle.machine.specs.CodeLine.{good, bad, Edge, Code, size, rule, check, columnOf, zeroIn, parse, frameFault}
 use Rattle.machine.specs.Machine.{Last, none, made, State, lastOf, iteration, settled, place, held, pieceOf}
 use Rattle.machine.specs.Lent.{Lent, pass}
-use Rattle.machine.proofs.Lines.{GoodCode}
+use Rattle.machine.specs.inner.Accepted.{GoodCode}
 use Rattle.machine.proofs.Updates.{Fine, IsMade, made-proper}
-use Rattle.machine.proofs.Ranges.{Ranged, part-front, column-room, iteration-ranged}
+use Rattle.machine.specs.inner.InRange.{Ranged}
+use Rattle.machine.proofs.Ranges.{part-front, column-room, iteration-ranged}
 use Rattle.machine.proofs.Lent.{len, lentOf, When, length-held, held-part, pass-stands, Ready, iteration-ready}
 use Rattle.machine.specs.Decoding.{Buffers, holding, admitted, Room}
 use Rattle.machine.proofs.Buffers.{holding-again, holding-room, admits}

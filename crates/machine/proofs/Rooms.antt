@@ -13,10 +13,10 @@ use Rattle.trellis.proofs.Rules.{most-few}
 use Rattle.machine.specs.CodeLine.{Edge, Code, size, rule}
 use Rattle.machine.specs.Machine.{place, used}
 use Rattle.machine.specs.Decoding.{Buffers, Room}
-use Rattle.machine.proofs.Lines.{GoodCode, edgeTotal}
+use Rattle.machine.specs.inner.Accepted.{GoodCode, edgeTotal}
 
 -- a sum over a list, taken from its front
-sum-front : (w : List Edge → ℕ) (es : List Edge) (l : List (List Edge)) (m : ℕ)
+pub sum-front : (w : List Edge → ℕ) (es : List Edge) (l : List (List Edge)) (m : ℕ)
     → upto (λ k a. a + w (getD (es ∷ l) k [])) (suc m) 0 ≡ w es + upto (λ k a. a + w (getD l k [])) m 0
 sum-front w es l zero = omega arith
 sum-front w es l (suc m) = ap (λ a. a + w (getD l m [])) (sum-front w es l m) ∙ omega arith
@@ -31,7 +31,7 @@ module _ (C : Code) (G : GoodCode C) where
   size-high : size C ≤ 64
   size-high = pow-mono (G .p-high)
 
-  groups-high : groupLength (rule C) * (size C - 1) ≤ 441
+  pub groups-high : groupLength (rule C) * (size C - 1) ≤ 441
   groups-high =
       let k : groupLength (rule C) ≤ 7 = omega (arith, most-few (C .first)) in
       let n : size C - 1 ≤ 63 = omega (arith, size-high) in

@@ -10,7 +10,7 @@ use lib.ListN.{length, getD, length-map}
 use lib.Seq.{take-at, drop-append-add}
 use Rattle.trellis.specs.Lists.{each, pick, part}
 use Rattle.machine.specs.CodeLine.{Read, good, bad, then, Edge, readEdge, edges, checkAt, checks}
-use Rattle.machine.specs.Tables.{Flat, flat, edgesInto, checkInto, Tables, tables, checksInto, tablesOf, edgesOf, before}
+use Rattle.machine.specs.inner.Tables.{Flat, flat, edgesInto, checkInto, Tables, tables, checksInto, tablesOf, edgesOf, before}
 use Rattle.machine.proofs.Lines.{check-count}
 
 abbrev cols : List Edge → List ℕ

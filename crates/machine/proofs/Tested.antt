@@ -14,10 +14,10 @@ use Rattle.trellis.proofs.Tests.{fst-T, snd-T, all-at, of-true, to-true}
 use Rattle.machine.specs.CodeLine.{Code, size, rule, check, columnOf, zeroIn}
 use Rattle.machine.specs.Machine.{place, used}
 use Rattle.machine.specs.Lent.{Lent}
-use Rattle.machine.proofs.Lines.{GoodCode}
-use Rattle.machine.proofs.Ranges.{Ranged, part-front, column-room, zeros-in}
+use Rattle.machine.specs.inner.Accepted.{GoodCode}
+use Rattle.machine.specs.inner.InRange.{Ranged, Formed, Passable}
+use Rattle.machine.proofs.Ranges.{part-front, column-room, zeros-in}
 use Rattle.machine.specs.Moments.{costsOk, storeOk}
-use Rattle.machine.proofs.Passing.{Formed, Passable}
 
 pub costs-of : (C : Code) (c : List ℕ) → C .columns * size C ≤ length c → costsOk C c ≡ true → Ranged C (take (C .columns * size C) c)
 unfolding costsOk

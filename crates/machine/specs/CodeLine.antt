@@ -7,6 +7,7 @@ use lib.ListN.{length, getD}
 use Rattle.trellis.specs.Lists.{pick, allTo, part}
 use Rattle.trellis.specs.Check.{Rule, firstZero}
 use Rattle.trellis.specs.Rules.{powerOf, sizeOf, firstOk, ruleFor}
+use Rattle.trellis.specs.Refusals.{Test, when, unless, refusedBy, faultBy}
 
 -- what was read, or the number of the refusal
 pub data Read (A : Type 0) : Type 0 where
@@ -38,13 +39,16 @@ wordAt s at = getD s at 0 * 256 + getD s (at + 1) 0
 
 -- "for each edge the column (two bytes, high first, below N, rising within the check) and weight": 10 for a column not below n or not
 -- rising (below low), 11 for a weight that is 0 or not below q (SPEC 4.2, 8.3)
+abbrev pub edgeTests : List ℕ → ℕ → ℕ → ℕ → ℕ → List Test
+edgeTests s at n q low =
+    when (leb n (wordAt s at)) 10
+    ∷ when (ltb (wordAt s at) low) 10
+    ∷ when (eqb (getD s (at + 2) 0) 0) 11
+    ∷ when (leb q (getD s (at + 2) 0)) 11
+    ∷ []
+
 unfoldable pub readEdge : List ℕ → ℕ → ℕ → ℕ → ℕ → Read Edge
-readEdge s at n q low =
-    pick (leb n (wordAt s at)) (bad 10)
-    (pick (ltb (wordAt s at) low) (bad 10)
-    (pick (eqb (getD s (at + 2) 0) 0) (bad 11)
-    (pick (leb q (getD s (at + 2) 0)) (bad 11)
-    (good (edge (wordAt s at) (getD s (at + 2) 0))))))
+readEdge s at n q low = refusedBy (edgeTests s at n q low) bad (good (edge (wordAt s at) (getD s (at + 2) 0)))
 
 -- c edges from a place, edge by edge
 unfoldable pub edges : ℕ → List ℕ → ℕ → ℕ → ℕ → ℕ → Read (List Edge)
@@ -55,14 +59,17 @@ edges (suc c) s at n q low =
     good (e ∷ es)))
 
 -- one check, after total edges: "5 for the degree byte, 9, 5 for its edges, then 10 and 11 edge by edge" (SPEC 8.3)
+abbrev pub checkTests : List ℕ → ℕ → ℕ → List Test
+checkTests s at total =
+    when (leb (length s) at) 5
+    ∷ when (ltb (getD s at 0) 2) 9
+    ∷ when (ltb 32 (getD s at 0)) 9
+    ∷ when (ltb 1024 (total + getD s at 0)) 9
+    ∷ when (ltb (length s - (at + 1)) (3 * getD s at 0)) 5
+    ∷ []
+
 unfoldable pub checkAt : List ℕ → ℕ → ℕ → ℕ → ℕ → Read (List Edge)
-checkAt s at n q total =
-    pick (leb (length s) at) (bad 5)
-    (pick (ltb (getD s at 0) 2) (bad 9)
-    (pick (ltb 32 (getD s at 0)) (bad 9)
-    (pick (ltb 1024 (total + getD s at 0)) (bad 9)
-    (pick (ltb (length s - (at + 1)) (3 * getD s at 0)) (bad 5)
-    (edges (getD s at 0) s (at + 1) n q 0)))))
+checkAt s at n q total = refusedBy (checkTests s at total) bad (edges (getD s at 0) s (at + 1) n q 0)
 
 -- c checks, "last 5 for bytes left over" (SPEC 8.3)
 unfoldable pub checks : ℕ → List ℕ → ℕ → ℕ → ℕ → ℕ → Read (List (List Edge))
@@ -74,19 +81,24 @@ checks (suc c) s at n q total =
 
 -- the whole line: "p", with k in the first byte; "N as two bytes, high first (1 to 256); M (1 to 128); scale g (1 to 16); iteration limit I (1 to 255). Then M checks";
 -- "5 if under six bytes, 6, 7, 8" (SPEC 4.1, 8.3)
+abbrev pub headTests : List ℕ → List Test
+headTests s =
+    when (ltb (length s) 6) 5
+    ∷ when (not (firstOk (getD s 0 0))) 6
+    ∷ when (ltb (wordAt s 1) 1) 7
+    ∷ when (ltb 256 (wordAt s 1)) 7
+    ∷ when (ltb (getD s 3 0) 1) 7
+    ∷ when (ltb 128 (getD s 3 0)) 7
+    ∷ when (ltb (getD s 4 0) 1) 8
+    ∷ when (ltb 16 (getD s 4 0)) 8
+    ∷ when (ltb (getD s 5 0) 1) 8
+    ∷ []
+
 unfoldable pub parse : List ℕ → Read Code
 parse s =
-    pick (ltb (length s) 6) (bad 5)
-    (pick (not (firstOk (getD s 0 0))) (bad 6)
-    (pick (ltb (wordAt s 1) 1) (bad 7)
-    (pick (ltb 256 (wordAt s 1)) (bad 7)
-    (pick (ltb (getD s 3 0) 1) (bad 7)
-    (pick (ltb 128 (getD s 3 0)) (bad 7)
-    (pick (ltb (getD s 4 0) 1) (bad 8)
-    (pick (ltb 16 (getD s 4 0)) (bad 8)
-    (pick (ltb (getD s 5 0) 1) (bad 8)
+    refusedBy (headTests s) bad
     (then (checks (getD s 3 0) s 6 (wordAt s 1) (sizeOf (getD s 0 0)) 0) (λ (cs : List (List Edge)).
-    good (record { first = getD s 0 0; columns = wordAt s 1; scale = getD s 4 0; limit = getD s 5 0; checks = cs })))))))))))
+    good (record { first = getD s 0 0; columns = wordAt s 1; scale = getD s 4 0; limit = getD s 5 0; checks = cs })))
 
 -- p, q, and the rule of a code
 abbrev pub power : Code → ℕ
@@ -113,12 +125,16 @@ columnOf q l c = part l (c * q) q
 abbrev pub zeroIn : ℕ → List ℕ → ℕ → Bool
 zeroIn q l c = ltb (firstZero (columnOf q l c)) q
 
--- a frame's refusal under a code: "12, cost count wrong; 13, a column without a cost of 0"; 0 for none (SPEC 8.4)
+-- a frame of n columns: "12, cost count wrong; 13, a column without a cost of 0" (SPEC 8.4)
+abbrev pub frameTests : ℕ → ℕ → List ℕ → List Test
+frameTests q n f =
+    unless (eqb (length f) (n * q)) 12
+    ∷ unless (allTo (zeroIn q f) n) 13
+    ∷ []
+
+-- its refusal under a code, 0 for none
 unfoldable pub frameFault : Code → List ℕ → ℕ
-frameFault C f =
-    pick (eqb (length f) (C .columns * size C))
-    (pick (allTo (zeroIn (size C) f) (C .columns)) 0 13)
-    12
+frameFault C f = faultBy (frameTests (size C) (C .columns) f)
 
 -- the numbers of a code line before its checks: the first byte, N, M, g, I (SPEC 4.1)
 pub record Numbers : Type 0 where

@@ -2,12 +2,13 @@
 use mathlib.Core.Path.{_≡_}
 use mathlib.Core.Logic.{_↔_}
 use mathlib.Core.Bool.{false}
-use mathlib.Core.List.{List, _++_}
+use mathlib.Core.List.{List, [], _∷_, _++_}
 use Prim.Native.Nat.{ℕ, _*_, _≤_, _<_}
 use lib.Dec.{eqb, ltb}
 use lib.ListN.{length, take, drop}
 use Rattle.trellis.specs.Lists.{pick, others, put}
 use Rattle.trellis.specs.Check.{Rule, Column, Fits, deviations, weightedSum, costOf, shift, sent}
+use Rattle.trellis.specs.Refusals.{Test, when, faultBy}
 use Rattle.trellis.specs.Reply.{Reply, refusal, foundIn, notFoundIn}
 use Rattle.machine.specs.CodeLine.{Read, good, bad, Code, size, rule, check, parse, frameFault}
 use Rattle.machine.specs.Machine.{made, State, Status, found, notFound, run, symbols, margins, records, used, lastOf, columnsIn}
@@ -47,14 +48,19 @@ holding C P store b =
 abbrev pub storeOf : Code → State → List ℕ → List ℕ
 storeOf C end s = pick (eqb (end .t) 0) s (records C end ++ drop (used C) s)
 
--- 2, 3, 4, in this order; "19, margin buffer shorter than N, after 4"; 0 for none (SPEC 8.4)
+-- 2, 3, 4, in this order; "19, margin buffer shorter than N, after 4": n symbols, w costs, u bytes and n margins are needed (SPEC 8.4)
+abbrev pub roomTests : ℕ → ℕ → ℕ → ℕ → ℕ → ℕ → ℕ → List Test
+roomTests n w u symbols costs store margins =
+    when (ltb symbols n) 2
+    ∷ when (ltb costs w) 3
+    ∷ when (ltb store u) 4
+    ∷ when (ltb margins n) 19
+    ∷ []
+
+-- of a code's buffers, 0 for none
 unfoldable pub roomFault : Code → Buffers → ℕ
 roomFault C b =
-    pick (ltb (length (b .symbols)) (C .columns)) 2
-    (pick (ltb (length (b .costs)) (C .columns * size C)) 3
-    (pick (ltb (length (b .store)) (used C)) 4
-    (pick (ltb (length (b .margins)) (C .columns)) 19
-    0)))
+    faultBy (roomTests (C .columns) (C .columns * size C) (used C) (length (b .symbols)) (length (b .costs)) (length (b .store)) (length (b .margins)))
 
 -- "Decode: code, 12, 13, 2, 3, 4.", 19: the code, or the number by which decoding refuses (SPEC 8.4)
 abbrev pub admittedUnder : Read Code → List ℕ → Buffers → Read Code

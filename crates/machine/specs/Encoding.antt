@@ -9,6 +9,7 @@ use lib.Dec.{eqb, ltb, leb}
 use lib.ListN.{length, getD, take, drop}
 use Rattle.trellis.specs.Lists.{pick, allTo}
 use Rattle.trellis.specs.Field.{quotient}
+use Rattle.trellis.specs.Refusals.{when, unless, faultBy}
 use Rattle.trellis.specs.Reply.{Reply, accepted, refusal, foundIn}
 use Rattle.machine.specs.CodeLine.{Read, good, bad, Edge, Code, power, size, check, edgeAt, columnOf, parse}
 use Rattle.machine.specs.Machine.{margins, paritySum, satisfied}
@@ -60,13 +61,12 @@ symbolsOk q w = allTo (λ i. ltb (getD w i 0) q) (length w)
 -- then 2"; 0 for none (SPEC 8.9)
 unfoldable pub encodeFault : Code → List ℕ → ℕ → ℕ
 encodeFault C u room =
-    pick (encodable C)
-    (pick (eqb (length u) (messageLength C))
-    (pick (symbolsOk (size C) u)
-    (pick (ltb room (C .columns)) 2 0)
-    18)
-    18)
-    17
+    faultBy
+    (unless (encodable C) 17
+    ∷ unless (eqb (length u) (messageLength C)) 18
+    ∷ unless (symbolsOk (size C) u) 18
+    ∷ when (ltb room (C .columns)) 2
+    ∷ [])
 
 pub record Wrote : Type 0 where
   pub reply : Reply

@@ -1,10 +1,11 @@
 -- One line of text as bytes, and the line that the program prints. SPEC 7.5.
 use mathlib.Core.Bool.{Bool, _&&_, _||_}
-use mathlib.Core.List.{List, _++_}
+use mathlib.Core.List.{List, [], _∷_, _++_}
 use Prim.Native.Nat.{ℕ, _+_, _-_, _*_, _/_, _%_}
 use lib.Dec.{eqb, ltb, leb}
 use lib.ListN.{length, getD, drop}
 use Rattle.trellis.specs.Lists.{pick, allTo, tab}
+use Rattle.trellis.specs.Refusals.{when, unless, refusedBy}
 use Rattle.trellis.specs.Reply.{Reply, accepted, refusal}
 
 -- "hexadecimal digits 0-9 and A-F" (SPEC 7.5)
@@ -28,10 +29,12 @@ lineOk t = eqb (length t % 2) 0 && allTo (λ i. isDigit (getD t i 0)) (length t)
 -- "Line: 15, 14, 2.": the refusals of a line of text with room for n bytes, or what else (SPEC 8.8)
 abbrev pub lineCases {ℓ} : {A : Type ℓ} → List ℕ → ℕ → (ℕ → A) → A → A
 lineCases t n bad good =
-    pick (ltb 32768 (length t)) (bad 15)
-    (pick (lineOk t)
-    (pick (ltb n (length t / 2)) (bad 2) good)
-    (bad 14))
+    refusedBy
+    (when (ltb 32768 (length t)) 15
+    ∷ unless (lineOk t) 14
+    ∷ when (ltb n (length t / 2)) 2
+    ∷ [])
+    bad good
 
 unfoldable pub lineReply : List ℕ → List ℕ → Reply
 lineReply t out = lineCases t (length out) (λ k. refusal k) (accepted (length t / 2))

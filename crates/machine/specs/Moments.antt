@@ -1,11 +1,12 @@
 -- Document 02's two steps over the lent buffers: a load with the first test, and one iteration that goes on from the lent costs and records.
 use mathlib.Core.Path.{_≡_}
 use mathlib.Core.Bool.{Bool, _&&_, _||_}
-use mathlib.Core.List.{List}
+use mathlib.Core.List.{List, [], _∷_}
 use Prim.Native.Nat.{ℕ, zero, suc, _+_, _*_, _≤_}
 use lib.Dec.{eqb, leb}
 use lib.ListN.{length, getD, take}
 use Rattle.trellis.specs.Lists.{pick, allTo, part}
+use Rattle.trellis.specs.Refusals.{unless, refusedBy}
 use Rattle.trellis.specs.Record.{recordLength, recordOk}
 use Rattle.machine.specs.CodeLine.{Read, good, bad, Code, size, rule, check, zeroIn}
 use Rattle.machine.specs.Machine.{Status, found, notFound, run, settled, place}
@@ -55,9 +56,11 @@ storeOk C s = allTo (λ m. recordOk (rule C) (length (check C m)) (part s (place
 abbrev pub resumableUnder : Read Code → ℕ → Buffers → Read Code
 resumableUnder (bad k) t b = bad k
 resumableUnder (good C) t b =
-    pick (costsOk C (b .costs))
-    (pick (eqb t 0 || storeOk C (b .store)) (good C) (bad 16))
-    (bad 13)
+    refusedBy
+    (unless (costsOk C (b .costs)) 13
+    ∷ unless (eqb t 0 || storeOk C (b .store)) 16
+    ∷ [])
+    bad (good C)
 
 unfoldable pub resumable : List ℕ → List ℕ → ℕ → Buffers → Read Code
 resumable code f t b = resumableUnder (admitted code f b) t b

@@ -2,6 +2,7 @@
 use channels::Served;
 use checknode::Element;
 use checknode::Written;
+use codeline::Summary;
 use layered::Answer;
 use layered::EarlyAnswer;
 use layered::Outcome;
@@ -11,7 +12,9 @@ ghost use mathlib.Core.Path.{_≡_};
 ghost use Prim.Native.Nat.{_≤_};
 ghost use Rattle.checknode.specs.Answers.{elementReply, productReply, writtenReply, checkReply, checkLeaves, expandReply, expandLeaves};
 ghost use Rattle.display.specs.Answers.{displayReply, displayLeaves};
+ghost use Rattle.machine.specs.CodeLine.{parse};
 ghost use Rattle.machine.specs.Line.{lineReply, lineLeaves};
+ghost use Rattle.codeline.specs.Answers.{summaryOf, Tells};
 ghost use Rattle.machine.specs.Decoding.{lending, decoding};
 ghost use Rattle.machine.specs.Early.{decodingEarly};
 ghost use Rattle.machine.specs.Encoding.{encoding};
@@ -21,7 +24,7 @@ ghost use Rattle.trellis.specs.Lists.{pick};
 ghost use Rattle.window.specs.Window.{read, interrupt, write};
 ghost use Rattle.window.specs.Meaning.{bytesOf, windowOf};
 ghost use Rattle.channels.specs.Channels.{channels};
-ghost use Rattle.channels.specs.Layouts.{Gives};
+ghost use Rattle.channels.specs.Answers.{Gives};
 ghost use Rattle.petsivola.specs.Packed.{Packs, outcomeReply, stoppedReply};
 
 fn of_element(e: Element) -> u32
@@ -124,6 +127,13 @@ pub extern "C" fn petsivola_line(text: &[u8], out: &mut [u8]) -> u32
     ensures { λ _. ⌜ now (out .exit) ≡ lineLeaves (now (text .entry)) (now (out .entry)) ⌝ }
 {
     of_written(text::line(text, out))
+}
+
+#[no_mangle]
+pub extern "C" fn petsivola_code_line(code: &[u8]) -> Summary
+    ensures { λ r. ⌜ Tells (summaryOf (parse (now (code .entry)))) r ⌝ }
+{
+    codeline::describe(code)
 }
 
 #[no_mangle]

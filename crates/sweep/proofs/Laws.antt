@@ -19,7 +19,7 @@ use Rattle.trellis.specs.Sweep.{leastTo}
 use Rattle.trellis.proofs.Xor.{xor-lt}
 use Rattle.trellis.proofs.Loops.{tab-more, tab-whole, length-tab, getD-tab}
 use Rattle.trellis.proofs.Rules.{most-few}
-use Rattle.checknode.specs.Asks.{Times}
+use Rattle.checknode.specs.inner.Asks.{Times}
 use Rattle.sweep.specs.Kept.{cellCount}
 use Rattle.sweep.specs.inner.Cells.{Sums, Steps, layerAt, countAt, stepCells, moveCost, stepBy}
 

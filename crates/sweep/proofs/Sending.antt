@@ -21,7 +21,7 @@ use Rattle.trellis.proofs.Sent.{Proper}
 use Rattle.trellis.proofs.Records.{shift-small}
 use Rattle.trellis.proofs.Ready.{length-columns, ready-proper}
 use Rattle.trellis.proofs.Sweep.{swept-sent, before-keeps, after-keeps}
-use Rattle.checknode.specs.Asks.{shiftsOf}
+use Rattle.checknode.specs.inner.Asks.{shiftsOf}
 use Rattle.checknode.proofs.Blocks.{block-at, in-block}
 use Rattle.checknode.proofs.Refusals.{part-room}
 use Rattle.checknode.proofs.Resting.{column-bytes, shift-at, shifts-length, parts}

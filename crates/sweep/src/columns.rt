@@ -10,7 +10,7 @@ ghost use Rattle.trellis.specs.Field.{product};
 ghost use Rattle.trellis.specs.Check.{firstZero};
 ghost use Rattle.trellis.specs.Rules.{powerOf, sizeOf};
 ghost use Rattle.trellis.specs.Ready.{Ready};
-ghost use Rattle.checknode.specs.Asks.{Times};
+ghost use Rattle.checknode.specs.inner.Asks.{Times};
 ghost use Rattle.sweep.specs.Kept.{cellCount};
 ghost use Rattle.sweep.specs.inner.Cells.{moveCost, Sized, stepFor, stepAt, orderOf, tableOf};
 

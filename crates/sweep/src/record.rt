@@ -11,8 +11,8 @@ ghost use Rattle.trellis.specs.Field.{xor};
 ghost use Rattle.trellis.specs.Record.{recordOf, recordLength};
 ghost use Rattle.trellis.specs.Rules.{powerOf, sizeOf, ruleFor, columnsOf};
 ghost use Rattle.trellis.specs.Ready.{Ready};
-ghost use Rattle.engine.specs.Terms.{termOf, sumTo};
-ghost use Rattle.checknode.specs.Asks.{shiftsOf};
+ghost use Rattle.engine.specs.inner.Terms.{termOf, sumTo};
+ghost use Rattle.checknode.specs.inner.Asks.{shiftsOf};
 ghost use Rattle.sweep.specs.Kept.{cellCount, Kept};
 ghost use Rattle.sweep.specs.inner.Cells.{termsOf, Swept};
 

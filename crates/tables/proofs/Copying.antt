@@ -14,7 +14,7 @@ use Rattle.trellis.specs.Lists.{tab, pick}
 use Rattle.trellis.specs.Field.{xor}
 use Rattle.trellis.proofs.Xor.{xor-assoc, xor-comm, xor-lt, xor-right}
 use Rattle.trellis.proofs.Loops.{length-tab, getD-tab, tab-ext}
-use Rattle.engine.specs.Rests.{mostTo, meetOf, across}
+use Rattle.engine.specs.inner.Rests.{mostTo, meetOf, across}
 use Rattle.engine.proofs.RestGroups.{most-ext}
 use Rattle.tables.specs.inner.Lanes.{Flips, Doubled, Copied, cut, taken, rowAt, joinAt}
 use Rattle.tables.specs.inner.Tables.{Table, risenAt}

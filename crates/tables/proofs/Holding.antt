@@ -16,7 +16,7 @@ use Rattle.trellis.specs.Check.{Rule, Column, column, sentAt}
 use Rattle.trellis.proofs.Xor.{xor-lt}
 use Rattle.trellis.proofs.Loops.{length-tab, getD-tab}
 use Rattle.trellis.proofs.Sent.{Proper}
-use Rattle.engine.specs.Rests.{mostTo, meetOf, across, grown, between, rest, lineAt}
+use Rattle.engine.specs.inner.Rests.{mostTo, meetOf, across, grown, between, rest, lineAt}
 use Rattle.engine.proofs.BestRests.{Meets}
 use Rattle.engine.proofs.RestGroups.{most-ext}
 use Rattle.engine.proofs.RestTables.{before-more, after-more, before-first, after-last, sent-between, sent-first, sent-last}

@@ -9,7 +9,7 @@ use lib.ListN.{length, getD}
 use Rattle.trellis.specs.Lists.{tab, pick}
 use Rattle.trellis.specs.Field.{xor}
 use Rattle.trellis.proofs.Loops.{length-tab, getD-tab, tab-ext}
-use Rattle.engine.specs.Rests.{mostTo, meetOf, across}
+use Rattle.engine.specs.inner.Rests.{mostTo, meetOf, across}
 use Rattle.tables.specs.declared.num.Four.{Four}
 use Rattle.tables.specs.inner.Lanes.{cut, taken, twoOf, Wide, fourAt, fourOf, rowAt, joinAt}
 use Rattle.tables.specs.inner.Tables.{Shaped}

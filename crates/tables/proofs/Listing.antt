@@ -11,8 +11,8 @@ use lib.ListN.{length, drop, take, getD, set, replicate, length-append, length-t
 use lib.Seq.{getD-take, getD-drop, drop-at, drop-cons, drop-length, set-at}
 use Rattle.trellis.specs.Lists.{pick, tab, blocks, part, patch}
 use Rattle.trellis.proofs.Loops.{length-tab, getD-tab, blocks-ext}
-use Rattle.engine.specs.Rests.{mostTo}
-use Rattle.engine.specs.Groups.{pushed, listedColumn, listedRest, listedPair, listedGroup}
+use Rattle.engine.specs.inner.Rests.{mostTo}
+use Rattle.engine.specs.inner.Groups.{pushed, listedColumn, listedRest, listedPair, listedGroup}
 use Rattle.tables.specs.inner.Lanes.{lanes, lowAt}
 use Rattle.tables.specs.inner.Pairs.{pairAt, Pushes, restAt, Best, Listed, pairBytes, bytesAt, groupOf, groupRows}
 use Rattle.tables.proofs.Turns.{lanes-length, lanes-at}

@@ -18,8 +18,8 @@ use Rattle.trellis.specs.Record.{group}
 use Rattle.trellis.proofs.Loops.{each-blocks, blocks-ext}
 use Rattle.trellis.proofs.Sent.{Proper, sent-one, symbol}
 use Rattle.trellis.specs.Rules.{joinOf}
-use Rattle.engine.specs.Rests.{meetOf, lineAt}
-use Rattle.engine.specs.Groups.{listedGroup}
+use Rattle.engine.specs.inner.Rests.{meetOf, lineAt}
+use Rattle.engine.specs.inner.Groups.{listedGroup}
 use Rattle.engine.proofs.BestRests.{Meets, by-meets}
 use Rattle.engine.proofs.RestGroups.{group-is}
 use Rattle.tables.specs.inner.Tables.{sentRow, sentRows}

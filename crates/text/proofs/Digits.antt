@@ -11,7 +11,7 @@ use lib.ListN.{length, getD}
 use borrow.Author.Tests.{le-leb, lt-leb, leb-true}
 use Rattle.trellis.specs.Lists.{pick, allTo}
 use Rattle.machine.specs.Line.{isDigit, digit}
-use Rattle.text.specs.Digits.{digitAnswer, allDigits, digitsFault}
+use Rattle.text.specs.inner.Digits.{digitAnswer, allDigits, digitsFault}
 use Rattle.text.specs.declared.hex.Digit.the-variants.{Is, Refused}
 
 pub at-digit : (b : ℕ) → 48 ≤ b → b ≤ 57 → Is (b - 48) ≡ digitAnswer b

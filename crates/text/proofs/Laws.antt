@@ -18,9 +18,9 @@ use Rattle.machine.specs.Line.{byteAt, lineBytes, lineOk, lineReply, lineLeaves
 use Rattle.machine.specs.CodeLine.{Read, good, bad, Code, parse, Numbers, numbersOf}
 use Rattle.machine.specs.Printing.{frameSaid, frameLine}
 use Rattle.machine.specs.Program.{readCode, refusedLine}
-use Rattle.machine.specs.Blocks.{Kept, first, later, ended, longer, kept, codeKept, codeOut, finished, finishedOut, fed, fedOut, closeOut}
+use Rattle.machine.specs.inner.Blocks.{Kept, first, later, ended, longer, kept, codeKept, codeOut, finished, finishedOut, fed, fedOut, closeOut}
 use Rattle.machine.proofs.Program.{fed-more, turn-short}
-use Rattle.text.specs.Held.{Held, keptOf, putAt, byteHeld, codeBytes, isGood, accepts, codeHeld, finishedHeld, stepHeld, fedHeld, quiet, closeHeld}
+use Rattle.text.specs.inner.Held.{Held, keptOf, putAt, byteHeld, codeBytes, isGood, accepts, codeHeld, finishedHeld, stepHeld, fedHeld, quiet, closeHeld}
 
 -- a line that is kept longer
 line-longer : (l : List ℕ) (n b : ℕ) → length l ≡ 32769 → n < 32769 → longer (take n l) b ≡ take (n + 1) (set l n b)

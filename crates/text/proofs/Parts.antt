@@ -11,9 +11,9 @@ use lib.ListN.{length, take, drop, set, getD, length-append, length-take, length
 use lib.Seq.{drop-cons, drop-length, drop-drop, drop-set-lt, take-add, take-suc, take-suc-set, append-snoc, take-all, take-length, getD-drop}
 use borrow.Author.Tests.{eqb-true, eq-eqb, ne-eqb, lt-ltb, le-ltb}
 use Rattle.trellis.specs.Lists.{pick}
-use Rattle.machine.specs.Blocks.{Kept, kept, finished, finishedOut, fed, fedOut}
+use Rattle.machine.specs.inner.Blocks.{Kept, kept, finished, finishedOut, fed, fedOut}
 use Rattle.machine.proofs.Program.{fed-more, fed-few, ended-silent}
-use Rattle.text.specs.Held.{Held, keptOf, putAt, byteHeld, stepHeld, fedHeld, finishedHeld, toNewline, roomFor, partHeld}
+use Rattle.text.specs.inner.Held.{Held, keptOf, putAt, byteHeld, stepHeld, fedHeld, finishedHeld, toNewline, roomFor, partHeld}
 use Rattle.text.proofs.Laws.{put-none, put-mid, put-more, fedHeld-more, fed-stands, add-none, put-nothing, part-same}
 
 -- the search for a 0A

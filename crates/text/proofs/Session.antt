@@ -6,9 +6,9 @@ use native.Mathlib.Omega.{arith}
 use lib.ListN.{length, take, drop}
 use lib.Seq.{take-at}
 use Rattle.machine.specs.Program.{outputOf}
-use Rattle.machine.specs.Blocks.{fedOut, closeOut, fedAll, fedAllOut, joined}
+use Rattle.machine.specs.inner.Blocks.{fedOut, closeOut, fedAll, fedAllOut, joined}
 use Rattle.machine.proofs.Program.{blocks-output, fed-few}
-use Rattle.text.specs.Held.{Held, held, keptOf, putAt, fedHeld}
+use Rattle.text.specs.inner.Held.{Held, held, keptOf, putAt, fedHeld}
 use Rattle.text.specs.Calls.{Call, Closes, Calls, after, blocksOf, printedBy, begin}
 use Rattle.text.proofs.Laws.{fed-stands, fed-line}
 

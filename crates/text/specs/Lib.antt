@@ -1,5 +1,4 @@
--- Calls says what a session of feed and close is; Held is what a state and its buffers stand for. Digits and Lines mirror the code.
-pub mod Digits
-pub mod Lines
-pub mod Held
+-- What a reader must believe: Calls, what a session of feed and close is. Under inner what a state and its buffers stand for, and what mirrors the
+-- code.
 pub mod Calls
+pub mod inner

@@ -7,8 +7,8 @@ ghost use mathlib.Core.Bool.{false};
 ghost use mathlib.Core.List.{[], _∷_, _++_};
 ghost use Prim.Native.Nat.{_+_, _*_, _≤_};
 ghost use lib.ListN.{length, take, drop};
-ghost use Rattle.machine.specs.Blocks.{fedOut, closeOut};
-ghost use Rattle.text.specs.Held.{held, keptOf, putAt, toNewline, Keeps, fedHeld, quiet, closeHeld};
+ghost use Rattle.machine.specs.inner.Blocks.{fedOut, closeOut};
+ghost use Rattle.text.specs.inner.Held.{held, keptOf, putAt, toNewline, Keeps, fedHeld, quiet, closeHeld};
 
 // "Lines end in byte 0A": the place of the first one from `at` on, or the end.
 fn newline(bytes: &[u8], at: usize) -> usize

@@ -5,7 +5,7 @@ ghost use mathlib.Core.List.{_++_};
 ghost use Prim.Native.Nat.{_/_, _<_, _≤_};
 ghost use lib.ListN.{length, drop};
 ghost use Rattle.machine.specs.Line.{isDigit, digit, lineBytes};
-ghost use Rattle.text.specs.Digits.{digitAnswer, digitsFault, allDigits};
+ghost use Rattle.text.specs.inner.Digits.{digitAnswer, digitsFault, allDigits};
 
 // A digit's value, or the number of the refusal.
 enum Digit {

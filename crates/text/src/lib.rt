@@ -12,8 +12,8 @@ ghost use lib.ListN.{length, take, drop};
 ghost use Rattle.checknode.specs.Answers.{writtenReply};
 ghost use Rattle.machine.specs.Line.{lineReply, lineLeaves};
 ghost use Rattle.machine.specs.Printing.{frameLine};
-ghost use Rattle.machine.specs.Blocks.{fedOut, closeOut};
-ghost use Rattle.text.specs.Held.{held, keptOf, putAt, fedHeld, closeHeld};
+ghost use Rattle.machine.specs.inner.Blocks.{fedOut, closeOut};
+ghost use Rattle.text.specs.inner.Held.{held, keptOf, putAt, fedHeld, closeHeld};
 
 // The bytes of a line of text. "Line: 15, 14, 2."; nothing is written before the last of these is tested.
 pub fn line(text: &[u8], out: &mut [u8]) -> Written

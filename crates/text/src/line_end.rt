@@ -10,9 +10,9 @@ ghost use Prim.Native.Nat.{_+_, _≤_};
 ghost use lib.ListN.{length, take, drop};
 ghost use Rattle.machine.specs.Printing.{frameLine};
 ghost use Rattle.machine.specs.Program.{readCode};
-ghost use Rattle.machine.specs.Blocks.{codeOut, finishedOut};
+ghost use Rattle.machine.specs.inner.Blocks.{codeOut, finishedOut};
 ghost use Rattle.trellis.specs.Lists.{pick};
-ghost use Rattle.text.specs.Held.{held, keptOf, putAt, codeBytes, accepts, finishedHeld};
+ghost use Rattle.text.specs.inner.Held.{held, keptOf, putAt, codeBytes, accepts, finishedHeld};
 
 // Puts the first n bytes of a row into the output.
 fn put(row: &[u8], n: usize, out: &mut [u8], full: usize) -> usize

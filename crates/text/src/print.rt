@@ -9,7 +9,7 @@ ghost use lib.ListN.{length};
 ghost use Rattle.machine.specs.CodeLine.{parse};
 ghost use Rattle.machine.specs.Printing.{digitOf, digitsOf, said, printed, ofFrame, frameLine};
 ghost use Rattle.layered.specs.Answers.{answerReply};
-ghost use Rattle.text.specs.Lines.{asLine, over};
+ghost use Rattle.text.specs.inner.Lines.{asLine, over};
 
 // "hexadecimal digits 0-9 and A-F".
 fn digit(n: u8) -> u8

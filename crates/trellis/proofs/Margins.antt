@@ -12,7 +12,7 @@ use lib.Dec.{eqb, ltb}
 use borrow.Author.Tests.{eq-eqb, ne-eqb, lt-ltb, le-ltb}
 use Rattle.trellis.specs.Lists.{others, smallest, pick, upto}
 use Rattle.trellis.specs.Check.{firstZero, marginOf}
-use Rattle.trellis.specs.Margins.{leastBut, marginAt}
+use Rattle.trellis.specs.inner.Margins.{leastBut, marginAt}
 use Rattle.trellis.proofs.Lists.{smallest-le, smallest-in}
 
 -- the members other than the one at place n

@@ -1,5 +1,5 @@
 -- What a reader must believe, in document 01's order: the field, one check, the record, the replies. "SPEC" in a comment is a paragraph of
--- docs/SPECIFICATION.md.
+-- docs/SPECIFICATION.md. Under inner what mirrors a loop.
 pub mod Lists
 pub mod Field
 pub mod Check
@@ -12,5 +12,6 @@ pub mod Ready
 pub mod Display
 pub mod Kept
 pub mod Reply
-pub mod Margins
+pub mod Refusals
 pub mod Bench
+pub mod inner

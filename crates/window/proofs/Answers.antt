@@ -11,16 +11,17 @@ use lib.Dec.{eqb, ltb, leb}
 use lib.ListN.{length, getD}
 use borrow.Author.Tests.{eqb-true, ne-eqb, leb-false}
 use Rattle.trellis.specs.Lists.{pick, allTo}
+use Rattle.trellis.specs.Refusals.{Test, when, unless, refusedBy}
 use Rattle.trellis.specs.Rules.{sizeOf, firstOk}
-use Rattle.machine.specs.CodeLine.{Read, good, bad, then, Edge, Code, edge, wordAt, readEdge, edges, checkAt, checks, parse, size, zeroIn, frameFault}
+use Rattle.machine.specs.CodeLine.{Read, good, bad, then, Edge, Code, edge, wordAt, edgeTests, readEdge, edges, checkTests, checkAt, checks, headTests, parse, size, zeroIn, frameFault}
 use Rattle.machine.specs.Machine.{settled, used}
 use Rattle.machine.specs.Lent.{Lent}
-use Rattle.machine.proofs.Lines.{guard, then-good}
+use Rattle.machine.proofs.Lines.{then-good}
 use Rattle.machine.specs.Decoding.{Buffers, holding, roomFault, admittedUnder, admitted}
 use Rattle.machine.specs.Moments.{loadingUnder, loading, costsOk, storeOk, resumableUnder, resumable, further, stateAfter, iteratingUnder, iterating}
 use Rattle.window.specs.Window.{Registers, idle, read, Window, bitFor, setting, entering, taking, load, iterate, masked, cleared, second, command, write}
 use Rattle.window.specs.Writes.{Bytes, Lending, lentTo, step, since, Shows, acts, Changes, Every-list}
-use Rattle.window.proofs.Follows.{limit-is}
+use Rattle.machine.proofs.Early.{limit-read}
 
 -- the number of a refusal is one of the list's
 abbrev Known : {A : Type 0} → Read A → Type 0
@@ -35,21 +36,21 @@ known-pick : {A : Type 0} (b : Bool) (x y : Read A) → Known x → Known y → 
 known-pick true x y h k = h
 known-pick false x y h k = k
 
--- a list of tests with their numbers
-abbrev AllKnown : List (Bool × ℕ) → Type 0
+-- a table of tests with their numbers
+abbrev AllKnown : List Test → Type 0
 AllKnown [] = Unit {0}
-AllKnown (x ∷ l) = ((2 ≤ x .1) × (x .1 ≤ 19)) × AllKnown l
+AllKnown (when b k ∷ l) = ((2 ≤ k) × (k ≤ 19)) × AllKnown l
+AllKnown (unless b k ∷ l) = ((2 ≤ k) × (k ≤ 19)) × AllKnown l
 
-known-guard : {A : Type 0} (l : List (Bool × ℕ)) (y : Read A) → AllKnown l → Known y → Known (guard l y)
-known-guard [] y h k = k
-known-guard (x ∷ l) y h k = known-pick (x .0) (bad (x .1)) (guard l y) (h .0) (known-guard l y (h .1) k)
+known-by : {A : Type 0} (l : List Test) (y : Read A) → AllKnown l → Known y → Known (refusedBy l bad y)
+known-by [] y h k = k
+known-by (when b n ∷ l) y h k = known-pick b (bad n) (refusedBy l bad y) (h .0) (known-by l y (h .1) k)
+known-by (unless b n ∷ l) y h k = known-pick b (refusedBy l bad y) (bad n) (known-by l y (h .1) k) (h .0)
 
 known-edge : (s : List ℕ) (at n q low : ℕ) → Known (readEdge s at n q low)
 unfolding readEdge
 known-edge s at n q low =
-    let w : ℕ = wordAt s at in
-    let v : ℕ = getD s (at + 2) 0 in
-    known-guard ((leb n w, 10) ∷ (ltb w low, 10) ∷ (eqb v 0, 11) ∷ (leb q v, 11) ∷ []) (good (edge w v))
+    known-by (edgeTests s at n q low) (good (edge (wordAt s at) (getD s (at + 2) 0)))
     ((omega arith, omega arith), ((omega arith, omega arith), ((omega arith, omega arith), ((omega arith, omega arith), tt)))) tt
 
 known-edges : (c : ℕ) (s : List ℕ) (at n q low : ℕ) → Known (edges c s at n q low)
@@ -61,10 +62,9 @@ known-edges (suc c) s at n q low =
 known-check : (s : List ℕ) (at n q total : ℕ) → Known (checkAt s at n q total)
 unfolding checkAt
 known-check s at n q total =
-    let d : ℕ = getD s at 0 in
-    known-guard ((leb (length s) at, 5) ∷ (ltb d 2, 9) ∷ (ltb 32 d, 9) ∷ (ltb 1024 (total + d), 9) ∷ (ltb (length s - (at + 1)) (3 * d), 5) ∷ []) (edges d s (at + 1) n q 0)
+    known-by (checkTests s at total) (edges (getD s at 0) s (at + 1) n q 0)
     ((omega arith, omega arith), ((omega arith, omega arith), ((omega arith, omega arith), ((omega arith, omega arith), ((omega arith, omega arith), tt)))))
-    (known-edges d s (at + 1) n q 0)
+    (known-edges (getD s at 0) s (at + 1) n q 0)
 
 known-checks : (c : ℕ) (s : List ℕ) (at n q total : ℕ) → Known (checks c s at n q total)
 unfolding checks
@@ -81,7 +81,7 @@ known-parse s =
     let m : ℕ = getD s 3 0 in
     let g : ℕ = getD s 4 0 in
     let i : ℕ = getD s 5 0 in
-    known-guard ((ltb (length s) 6, 5) ∷ (not (firstOk (getD s 0 0)), 6) ∷ (ltb n 1, 7) ∷ (ltb 256 n, 7) ∷ (ltb m 1, 7) ∷ (ltb 128 m, 7) ∷ (ltb g 1, 8) ∷ (ltb 16 g, 8) ∷ (ltb i 1, 8) ∷ [])
+    known-by (headTests s)
     (then (checks m s 6 n q 0) (λ (cs : List (List Edge)). good (record { first = getD s 0 0; columns = n; scale = g; limit = i; checks = cs })))
     ((omega arith, omega arith), ((omega arith, omega arith), ((omega arith, omega arith), ((omega arith, omega arith), ((omega arith, omega arith), ((omega arith, omega arith), ((omega arith, omega arith), ((omega arith, omega arith), ((omega arith, omega arith), tt)))))))))
     (known-then (checks m s 6 n q 0) _ (known-checks m s 6 n q 0) (λ cs. tt))
@@ -273,7 +273,7 @@ module _ (code f : List ℕ) (bytes : Bytes code) where
       go : (r : Read Code) → resumable code f (w .registers .iterations) (w .buffers) ≡ r → Known r → Fits (taking (iteratingUnder r (w .registers .iterations) (w .buffers)) (w .registers) .registers)
       go (bad k) e h = entering-fits 4 k 0 (w .registers) F (fit-refused k (h .0) (h .1))
       go (good C) e h =
-          let l : C .limit ≤ 255 = omega (arith, limit-is code C (resumable-line code f (w .registers .iterations) (w .buffers) C e), bytes 5) in
+          let l : C .limit ≤ 255 = omega (arith, limit-read code C (resumable-line code f (w .registers .iterations) (w .buffers) C e), bytes 5) in
           let d : w .registers .iterations < 255 = F .fit .running-low s in
           let t : ℕ = w .registers .iterations + 1 in
           entering-fits (stateAfter C t (further C (w .registers .iterations) (w .buffers) .costs)) 0 t (w .registers) F

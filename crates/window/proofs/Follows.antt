@@ -10,11 +10,12 @@ use lib.ListN.{length, getD, drop, length-replicate, getD-replicate}
 use borrow.Author.Tests.{eqb-true, ne-eqb, eq-eqb, leb-true, leb-false}
 use Rattle.trellis.specs.Lists.{pick}
 use Rattle.trellis.specs.Reply.{Reply}
-use Rattle.trellis.specs.Rules.{sizeOf, firstOk}
-use Rattle.machine.specs.CodeLine.{Read, good, bad, then, Edge, Code, wordAt, checks, parse, size, frameFault}
+use Rattle.machine.specs.CodeLine.{Read, good, bad, Code, parse, size, frameFault}
 use Rattle.machine.specs.Machine.{none, State, lastOf, start, iteration, settled, Status, found, notFound, Result, result, go, run, records, used, held}
 use Rattle.machine.specs.Decoding.{outcome}
-use Rattle.machine.proofs.Lines.{GoodCode, parse-good, passed, then-good, good-one}
+use Rattle.machine.specs.inner.Accepted.{GoodCode}
+use Rattle.machine.proofs.Lines.{parse-good}
+use Rattle.machine.proofs.Early.{limit-read}
 use Rattle.machine.proofs.Updates.{Kept}
 use Rattle.machine.proofs.Ranges.{frame-ranged}
 use Rattle.machine.proofs.Lent.{held-none, held-end, Ready, iteration-t, go-stands}
@@ -33,19 +34,6 @@ iterate-at : (C : Code) (G : GoodCode C) (b₀ : Buffers) (room : Room C b₀) (
     ≡ record { registers = entering (stateAfter C (s .t + 1) (iteration C s .costs)) 0 (s .t + 1) r; buffers = at C G b₀ room (iteration C s) }
 iterate-at C G b₀ room code f line fits s S r e =
     ap (λ t. taking (iterating code f t (at C G b₀ room s)) r) e ∙ ap (λ m. taking m r) (iterating-at C G b₀ room code f line fits s S)
-
--- byte 5 of the line is I
-pub limit-is : (s : List ℕ) (C : Code) → parse s ≡ good C → C .limit ≡ getD s 5 0
-unfolding parse
-limit-is s C h =
-    let q : ℕ = sizeOf (getD s 0 0) in
-    let n : ℕ = wordAt s 1 in
-    let m : ℕ = getD s 3 0 in
-    let g : ℕ = getD s 4 0 in
-    let i : ℕ = getD s 5 0 in
-    let a = passed ((ltb (length s) 6, 5) ∷ (not (firstOk (getD s 0 0)), 6) ∷ (ltb n 1, 7) ∷ (ltb 256 n, 7) ∷ (ltb m 1, 7) ∷ (ltb 128 m, 7) ∷ (ltb g 1, 8) ∷ (ltb 16 g, 8) ∷ (ltb i 1, 8) ∷ []) _ C h in
-    let b = then-good (checks m s 6 n q 0) _ C (a .1) in
-    ap (λ (c : Code). c .limit) (sym (good-one _ C (b .2)))
 
 -- all but mask and pending are as they were
 record Alike (w w′ : Window) : Type 0 where
@@ -247,7 +235,7 @@ pub load-and-iterate : Load-and-iterate
 load-and-iterate code f C w l bc bf line free no-loads enough =
     let G = parse-good code C line in
     let A = admits-of code f (w .buffers) C line free in
-    let small : C .limit ≤ 255 = omega (arith, limit-is code C line, bc 5) in
+    let small : C .limit ≤ 255 = omega (arith, limit-read code C line, bc 5) in
     let e = loaded C G (w .buffers) (A .room) code f line (A .fits) small (w .registers) (admits code f (w .buffers) C (record { line = line; fits = A .fits }) (A .room)) in
     let E = load-ends C G (w .buffers) (A .room) code f line (A .fits) small bf (w .registers) l (write code f 0 1 w) e no-loads enough in
     let d = decoding-good code f (w .buffers) C A in

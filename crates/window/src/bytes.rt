@@ -4,7 +4,7 @@ use layered::Stage;
 ghost use mathlib.Core.Path.{_≡_};
 ghost use lib.Dec.{eqb};
 ghost use Rattle.trellis.specs.Lists.{pick};
-ghost use Rattle.layered.specs.Stages.{stageOf};
+ghost use Rattle.layered.specs.Answers.{stageOf};
 ghost use Rattle.window.specs.Window.{bitFor, entering};
 ghost use Rattle.window.specs.Meaning.{bytesOf};
 

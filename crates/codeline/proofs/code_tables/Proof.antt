@@ -2,7 +2,7 @@
 use native.Mathlib.Omega.{arith}
 use borrow.Author.Needs.{needs}
 use Rattle.codeline.specs.Answers.{degreesOf, columnsOf, weightsOf}
-use Rattle.codeline.specs.Reading.{checksIn}
+use Rattle.codeline.specs.inner.Reading.{checksIn}
 use Rattle.codeline.proofs.Answered.{left-is, checks-small, edges-small, taken-degrees}
 use Rattle.codeline.proofs.code_tables.Statement.{statement}
 use Rattle.codeline.proofs.code_tables.Tie as tie

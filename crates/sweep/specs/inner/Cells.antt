@@ -11,7 +11,7 @@ use Rattle.trellis.specs.Field.{xor, product}
 use Rattle.trellis.specs.Check.{Rule, Column, firstZero}
 use Rattle.trellis.specs.Rules.{joinOf, ruleFor, powerOf, sizeOf, mostOf, greatestOf, columnsOf, costsAt}
 use Rattle.trellis.specs.Sweep.{mark, swept, leastTo}
-use Rattle.engine.specs.Terms.{termOf}
+use Rattle.engine.specs.inner.Terms.{termOf}
 
 -- all cells of a function of count and sum
 abbrev pub cellsOf : ℕ → ℕ → (ℕ → ℕ → ℕ) → List ℕ

@@ -9,7 +9,7 @@ use lib.Dec.{ltb}
 use lib.ListN.{getD}
 use Rattle.trellis.specs.Lists.{pick, tab}
 use Rattle.trellis.specs.Field.{xor}
-use Rattle.engine.specs.Rests.{mostTo}
+use Rattle.engine.specs.inner.Rests.{mostTo}
 use Rattle.tables.specs.declared.num.Four.{Four}
 
 -- what is left of the rest v where x is taken: the lesser, or the difference, which stops at 0

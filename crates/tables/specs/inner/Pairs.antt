@@ -6,8 +6,8 @@ use Prim.Native.Nat.{ℕ, suc, _+_, _-_, _*_, _<_}
 use lib.Dec.{ltb}
 use lib.ListN.{length, getD}
 use Rattle.trellis.specs.Lists.{blocks}
-use Rattle.engine.specs.Rests.{mostTo}
-use Rattle.engine.specs.Groups.{pushed, listedColumn, listedRest, listedGroup}
+use Rattle.engine.specs.inner.Rests.{mostTo}
+use Rattle.engine.specs.inner.Groups.{pushed, listedColumn, listedRest, listedGroup}
 
 -- place i of row j + 1
 abbrev pub pairAt : List ℕ → ℕ → ℕ → ℕ

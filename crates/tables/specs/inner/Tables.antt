@@ -7,7 +7,7 @@ use Prim.Native.Nat.{ℕ, zero, suc, _+_, _-_, _*_, _%_, _^_, _≤_, _<_, max}
 use lib.Dec.{eqb}
 use lib.ListN.{length, getD}
 use Rattle.trellis.specs.Lists.{pick, tab, blocks, part, patch}
-use Rattle.engine.specs.Rests.{meetOf, across}
+use Rattle.engine.specs.inner.Rests.{meetOf, across}
 use Rattle.tables.specs.declared.num.Shape.{Shape}
 
 -- tables are l rows long: 16, 32 or 64

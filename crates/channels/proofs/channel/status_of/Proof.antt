@@ -1,7 +1,7 @@
 -- Each stage has its status.
 use mathlib.Core.Path.{refl}
 use borrow.Author.Needs.{needs}
-use Rattle.channels.specs.Rounds.{statusOf}
+use Rattle.channels.specs.inner.Rounds.{statusOf}
 use Rattle.channels.proofs.channel.status_of.Statement.{statement}
 use Rattle.channels.proofs.channel.status_of.Tie as tie
 

@@ -9,8 +9,8 @@ use Rattle.trellis.specs.Lists.{upto}
 use Rattle.machine.specs.CodeLine.{Code, size}
 use Rattle.machine.specs.Decoding.{lending}
 use Rattle.machine.proofs.Ranges.{column-room}
-use Rattle.channels.specs.Rounds.{standing, loadedAt}
-use Rattle.channels.specs.Layouts.{Shaped, AllParts}
+use Rattle.channels.specs.inner.Rounds.{standing, loadedAt}
+use Rattle.channels.specs.inner.Layouts.{Shaped, AllParts}
 use Rattle.channels.proofs.Moves.{one-part, load-moves, loads-more, loads-done}
 use Rattle.channels.proofs.service.load_all.Statement.{statement}
 use Rattle.channels.proofs.service.load_all.Tie as tie

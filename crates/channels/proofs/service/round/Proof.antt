@@ -7,8 +7,8 @@ use lib.ListN.{length}
 use Rattle.trellis.specs.Lists.{upto}
 use Rattle.machine.specs.CodeLine.{Code}
 use Rattle.machine.specs.Decoding.{lending}
-use Rattle.channels.specs.Rounds.{standing, servingAt}
-use Rattle.channels.specs.Layouts.{Shaped, ServeRoom}
+use Rattle.channels.specs.inner.Rounds.{standing, servingAt}
+use Rattle.channels.specs.inner.Layouts.{Shaped, ServeRoom}
 use Rattle.channels.proofs.Moves.{serve-next, round-more, round-done}
 use Rattle.channels.proofs.service.round.Statement.{statement}
 use Rattle.channels.proofs.service.round.Tie as tie

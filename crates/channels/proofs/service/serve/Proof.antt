@@ -4,8 +4,8 @@ use native.Mathlib.Omega.{arith}
 use lib.ListN.{length}
 use Rattle.machine.specs.CodeLine.{Code}
 use Rattle.machine.specs.Decoding.{lending}
-use Rattle.channels.specs.Rounds.{standing, roundsAt}
-use Rattle.channels.specs.Layouts.{Shaped, ServeRoom}
+use Rattle.channels.specs.inner.Rounds.{standing, roundsAt}
+use Rattle.channels.specs.inner.Layouts.{Shaped, ServeRoom}
 use Rattle.channels.proofs.Quiet.{end-law, more-law}
 use Rattle.channels.proofs.Moves.{round-next, round-less}
 use Rattle.channels.proofs.service.serve.Statement.{statement}

@@ -3,7 +3,7 @@ use native.Mathlib.Omega.{arith}
 use borrow.Author.Needs.{needs}
 use Rattle.machine.specs.CodeLine.{Code}
 use Rattle.machine.specs.Decoding.{lending}
-use Rattle.channels.specs.Rounds.{standing}
+use Rattle.channels.specs.inner.Rounds.{standing}
 use Rattle.channels.proofs.Moves.{serve-skips, serve-spent, serve-moves, step-room, count-low}
 use Rattle.channels.proofs.service.serve_at.Statement.{statement}
 use Rattle.channels.proofs.service.serve_at.Tie as tie

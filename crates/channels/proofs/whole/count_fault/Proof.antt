@@ -1,6 +1,6 @@
 -- The count first, then the allowance.
 use borrow.Author.Tests.{eq-eqb, ne-eqb, lt-ltb, le-ltb}
-use Rattle.channels.specs.Layouts.{countFault}
+use Rattle.channels.specs.inner.Layouts.{countFault}
 use Rattle.channels.proofs.whole.count_fault.Statement.{statement}
 use Rattle.channels.proofs.whole.count_fault.Tie as tie
 

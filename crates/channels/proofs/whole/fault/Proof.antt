@@ -4,7 +4,7 @@ use native.Mathlib.Omega.{arith}
 use Prim.Native.Nat.{_*_, _≤_}
 use borrow.Author.Needs.{needs}
 use borrow.Author.Tests.{eq-eqb, ne-eqb}
-use Rattle.channels.specs.Layouts.{faultFor}
+use Rattle.channels.specs.inner.Layouts.{faultFor}
 use Rattle.channels.proofs.whole.fault.Statement.{statement}
 use Rattle.channels.proofs.whole.fault.Tie as tie
 

@@ -5,7 +5,7 @@ use borrow.Author.Needs.{needs}
 use lib.ListN.{take, replicate}
 use lib.Seq.{length-take-le}
 use Rattle.machine.specs.CodeLine.{Code}
-use Rattle.channels.specs.Rounds.{roundsAt}
+use Rattle.channels.specs.inner.Rounds.{roundsAt}
 use Rattle.channels.proofs.Given.{fault-room, whole-refused, long-is, room-is, begins, spent-small, gives, rounds-left}
 use Rattle.channels.proofs.whole.under_code.Statement.{statement}
 use Rattle.channels.proofs.whole.under_code.Tie as tie

@@ -7,7 +7,7 @@ use borrow.Author.Needs.{needs}
 use lib.ListN.{length, drop, length-set}
 use Rattle.trellis.specs.Lists.{tab}
 use Rattle.trellis.proofs.Loops.{tab-whole}
-use Rattle.checknode.specs.Transposed.{bySymbol}
+use Rattle.checknode.specs.inner.Transposed.{bySymbol}
 use Rattle.checknode.proofs.Transposing.{symbol-room, symbol-turn}
 use Rattle.checknode.proofs.expansion.by_symbol.Statement.{statement}
 use Rattle.checknode.proofs.expansion.by_symbol.Tie as tie

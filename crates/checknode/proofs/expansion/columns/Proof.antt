@@ -8,7 +8,7 @@ use borrow.Author.Needs.{needs}
 use lib.ListN.{length, drop, length-take, length-drop}
 use Rattle.trellis.specs.Lists.{blocks}
 use Rattle.trellis.proofs.Loops.{block-more, block-end}
-use Rattle.checknode.specs.Asks.{columnBytes}
+use Rattle.checknode.specs.inner.Asks.{columnBytes}
 use Rattle.checknode.proofs.Expanding.{column-fits, column-room, times-at, shifted-at, bytes-full, column-is, expansion-is}
 use Rattle.checknode.proofs.expansion.columns.Statement.{statement}
 use Rattle.checknode.proofs.expansion.columns.Tie as tie

@@ -6,7 +6,7 @@ use native.Mathlib.Omega.{arith}
 use borrow.Author.Needs.{needs}
 use lib.ListN.{length, drop, set, length-set}
 use Rattle.trellis.specs.Lists.{tab}
-use Rattle.checknode.specs.Transposed.{everyAt}
+use Rattle.checknode.specs.inner.Transposed.{everyAt}
 use Rattle.checknode.proofs.Filling.{products-end}
 use Rattle.checknode.proofs.Transposing.{every-start, every-turn}
 use Rattle.checknode.proofs.expansion.every.Statement.{statement}

@@ -6,7 +6,7 @@ use native.Mathlib.Omega.{arith}
 use borrow.Author.Needs.{needs}
 use lib.ListN.{length, take, drop, length-append, length-take, length-drop}
 use lib.Seq.{take-at}
-use Rattle.checknode.specs.Transposed.{unpacked}
+use Rattle.checknode.specs.inner.Transposed.{unpacked}
 use Rattle.checknode.proofs.Transposing.{lists-room, listed}
 use Rattle.checknode.proofs.Expanding.{unpackable}
 use Rattle.checknode.proofs.expansion.in_room.Statement.{statement}

@@ -7,7 +7,7 @@ use borrow.Author.Needs.{needs}
 use lib.ListN.{length, drop, length-set}
 use Rattle.trellis.specs.Lists.{tab}
 use Rattle.trellis.proofs.Loops.{tab-more, tab-seam, tab-whole}
-use Rattle.checknode.specs.Transposed.{besideIn}
+use Rattle.checknode.specs.inner.Transposed.{besideIn}
 use Rattle.checknode.proofs.expansion.pair.Statement.{statement}
 use Rattle.checknode.proofs.expansion.pair.Tie as tie
 

@@ -8,7 +8,7 @@ use borrow.Author.Needs.{needs}
 use lib.ListN.{length, take, drop, length-take, length-drop}
 use Rattle.trellis.specs.Lists.{blocks}
 use Rattle.trellis.proofs.Loops.{length-tab, block-more, block-end}
-use Rattle.checknode.specs.Transposed.{listOf, unpacked}
+use Rattle.checknode.specs.inner.Transposed.{listOf, unpacked}
 use Rattle.checknode.proofs.Transposing.{list-room, list-inside}
 use Rattle.checknode.proofs.expansion.unpack.Statement.{statement}
 use Rattle.checknode.proofs.expansion.unpack.Tie as tie

@@ -6,7 +6,7 @@ use native.Mathlib.Omega.{arith}
 use borrow.Author.Needs.{needs}
 use lib.ListN.{length, take, drop, length-take, length-drop}
 use Rattle.trellis.specs.Lists.{tab}
-use Rattle.checknode.specs.Transposed.{valueIn}
+use Rattle.checknode.specs.inner.Transposed.{valueIn}
 use Rattle.checknode.proofs.Transposing.{values-turn, values-end}
 use Rattle.checknode.proofs.expansion.values.Statement.{statement}
 use Rattle.checknode.proofs.expansion.values.Tie as tie

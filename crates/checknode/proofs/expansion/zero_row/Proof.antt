@@ -1,7 +1,7 @@
 -- The test decides between the two cases of the definition.
 use mathlib.Core.Path.{sym}
 use borrow.Author.Tests.{eq-eqb, ne-eqb}
-use Rattle.checknode.specs.Transposed.{zeroRow}
+use Rattle.checknode.specs.inner.Transposed.{zeroRow}
 use Rattle.checknode.proofs.expansion.zero_row.Statement.{statement}
 use Rattle.checknode.proofs.expansion.zero_row.Tie as tie
 

@@ -5,7 +5,7 @@ use mathlib.Core.Logic.{_≢_}
 use native.Mathlib.Omega.{arith}
 use borrow.Author.Needs.{needs}
 use borrow.Author.Tests.{eq-eqb, ne-eqb, lt-ltb, le-ltb, le-leb, lt-leb}
-use Rattle.checknode.specs.Asks.{pairNext}
+use Rattle.checknode.specs.inner.Asks.{pairNext}
 use Rattle.checknode.proofs.form.pair_next.Statement.{statement}
 use Rattle.checknode.proofs.form.pair_next.Tie as tie
 

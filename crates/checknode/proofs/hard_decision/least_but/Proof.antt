@@ -5,7 +5,7 @@ use native.Mathlib.Numerals.{add-one}
 use native.Mathlib.Omega.{arith}
 use borrow.Author.Needs.{needs}
 use lib.ListN.{length}
-use Rattle.trellis.specs.Margins.{leastBut}
+use Rattle.trellis.specs.inner.Margins.{leastBut}
 use Rattle.checknode.proofs.hard_decision.least_but.Statement.{statement}
 use Rattle.checknode.proofs.hard_decision.least_but.Tie as tie
 

@@ -3,7 +3,7 @@ use mathlib.Core.Path.{_∙_}
 use borrow.Author.Needs.{needs}
 use borrow.Author.Tests.{lt-ltb, le-ltb}
 use native.Mathlib.Omega.{arith}
-use Rattle.trellis.specs.Margins.{marginAt}
+use Rattle.trellis.specs.inner.Margins.{marginAt}
 use Rattle.checknode.proofs.hard_decision.margin_at.Statement.{statement}
 use Rattle.checknode.proofs.hard_decision.margin_at.Tie as tie
 

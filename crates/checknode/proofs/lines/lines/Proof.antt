@@ -8,8 +8,8 @@ use borrow.Author.Needs.{needs}
 use lib.ListN.{length, drop, length-take, length-drop}
 use Rattle.trellis.specs.Lists.{tab, blocks}
 use Rattle.trellis.specs.Rules.{powerOf, sizeOf}
-use Rattle.engine.specs.Terms.{termOf, sumTo}
-use Rattle.checknode.specs.Lines.{rowOf, restsOf}
+use Rattle.engine.specs.inner.Terms.{termOf, sumTo}
+use Rattle.checknode.specs.inner.Lines.{rowOf, restsOf}
 use Rattle.trellis.proofs.Loops.{tab-whole, block-end}
 use Rattle.trellis.proofs.Ready.{costs-length}
 use Rattle.checknode.proofs.Turns.{ready-times, part-is, term-turn, out-turn, sum-turn}

@@ -5,7 +5,7 @@ use native.Mathlib.Nat.{add-sub-cancel-left}
 use native.Mathlib.Omega.{arith}
 use borrow.Author.Needs.{needs}
 use lib.ListN.{length, length-take, length-drop}
-use Rattle.engine.specs.Lines.{placed}
+use Rattle.engine.specs.inner.Lines.{placed}
 use Rattle.checknode.proofs.Lining.{room-part, place-turn}
 use Rattle.checknode.proofs.lines.place.Statement.{statement}
 use Rattle.checknode.proofs.lines.place.Tie as tie

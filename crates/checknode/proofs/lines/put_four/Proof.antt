@@ -2,7 +2,7 @@
 use native.Mathlib.Omega.{arith}
 use borrow.Author.Needs.{needs}
 use lib.ListN.{length-set}
-use Rattle.engine.specs.Lines.{placed}
+use Rattle.engine.specs.inner.Lines.{placed}
 use Rattle.checknode.proofs.Lining.{rest-below}
 use Rattle.checknode.proofs.lines.put_four.Statement.{statement}
 use Rattle.checknode.proofs.lines.put_four.Tie as tie

@@ -6,7 +6,7 @@ use lib.Pow.{pow-mono}
 use lib.ListN.{length, take, drop, length-take, length-drop, length-append}
 use lib.Seq.{take-at}
 use Rattle.trellis.specs.Rules.{sizeOf}
-use Rattle.checknode.specs.Lines.{sideOf}
+use Rattle.checknode.specs.inner.Lines.{sideOf}
 use Rattle.checknode.proofs.Resting.{send-law, sends-room}
 use borrow.Author.Needs.{needs}
 use Rattle.checknode.proofs.record.messages_with.Statement.{statement}

@@ -8,7 +8,7 @@ use lib.Seq.{take-at}
 use Rattle.trellis.specs.Rules.{powerOf}
 use Rattle.trellis.proofs.Ready.{ready-high}
 use Rattle.rules.specs.declared.Rule.{Rule}
-use Rattle.checknode.specs.Lines.{restsOf, sideOf}
+use Rattle.checknode.specs.inner.Lines.{restsOf, sideOf}
 use Rattle.trellis.specs.Lists.{blocks}
 use Rattle.checknode.proofs.Lining.{cleared-part}
 use Rattle.checknode.proofs.Resting.{rests-law, shifts-law, sent-same}

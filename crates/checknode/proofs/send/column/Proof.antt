@@ -7,7 +7,7 @@ use borrow.Author.Needs.{needs}
 use lib.ListN.{length, drop, length-set}
 use Rattle.trellis.specs.Lists.{tab}
 use Rattle.trellis.specs.Field.{xor}
-use Rattle.checknode.specs.Lines.{sentFrom}
+use Rattle.checknode.specs.inner.Lines.{sentFrom}
 use Rattle.trellis.proofs.Loops.{tab-more, tab-whole}
 use Rattle.checknode.proofs.Lining.{send-turn}
 use Rattle.checknode.proofs.send.column.Statement.{statement}

@@ -7,7 +7,7 @@ use native.Mathlib.Omega.{arith}
 use borrow.Author.Needs.{needs}
 use lib.ListN.{length, drop, length-take, length-drop}
 use Rattle.trellis.specs.Lists.{blocks}
-use Rattle.checknode.specs.Lines.{sentColumn}
+use Rattle.checknode.specs.inner.Lines.{sentColumn}
 use Rattle.trellis.proofs.Loops.{block-more, block-end}
 use Rattle.checknode.proofs.Lining.{send-bounds, send-room, sent-full, send-done}
 use Rattle.checknode.proofs.send.columns.Statement.{statement}

@@ -1,6 +1,6 @@
 -- One computed test: the constant is the list of the recurrence's values at each pair.
 use Rattle.trellis.specs.Field.{xor}
-use Rattle.checknode.specs.Table.{productTable}
+use Rattle.checknode.specs.inner.Table.{productTable}
 use Rattle.checknode.proofs.Tables.{same-is}
 use Rattle.checknode.proofs.table.products.Statement.{statement}
 use Rattle.checknode.proofs.table.products.Tie as tie

@@ -7,7 +7,7 @@ use borrow.Author.Tests.{lt-ltb, le-ltb, not-true, not-false}
 use Rattle.trellis.specs.Rules.{sizeOf, firstOk}
 use Rattle.trellis.proofs.Rules.{first-power}
 use Rattle.checknode.specs.Answers.{weightsOk}
-use Rattle.checknode.specs.Asks.{weightsFault}
+use Rattle.checknode.specs.inner.Asks.{weightsFault}
 use Rattle.checknode.proofs.tests.weights_fault.Statement.{statement}
 use Rattle.checknode.proofs.tests.weights_fault.Tie as tie
 

@@ -5,7 +5,7 @@ use native.Mathlib.Omega.{arith}
 use borrow.Author.Needs.{needs}
 use borrow.Author.Tests.{lt-ltb, le-ltb, le-leb, lt-leb}
 use lib.ListN.{length, take, getD}
-use Rattle.machine.specs.Tables.{checkInto}
+use Rattle.machine.specs.inner.Tables.{checkInto}
 use Rattle.codeline.proofs.Parsing.{check-past}
 use Rattle.codeline.proofs.checks.check_at.Statement.{statement}
 use Rattle.codeline.proofs.checks.check_at.Tie as tie

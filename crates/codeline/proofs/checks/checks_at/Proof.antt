@@ -6,8 +6,8 @@ use native.Mathlib.Nat.{sub-zero}
 use native.Mathlib.Omega.{arith}
 use borrow.Author.Needs.{needs}
 use lib.ListN.{length, take}
-use Rattle.machine.specs.Tables.{checksInto}
-use Rattle.codeline.specs.Reading.{CheckFits}
+use Rattle.machine.specs.inner.Tables.{checksInto}
+use Rattle.codeline.specs.inner.Reading.{CheckFits}
 use Rattle.codeline.specs.declared.checks.Check.the-variants.{Degree}
 use Rattle.codeline.proofs.Parsing.{checks-bad, checks-more, checks-done, checks-over}
 use Rattle.codeline.proofs.checks.checks_at.Statement.{statement}

@@ -5,7 +5,7 @@ use native.Mathlib.Omega.{arith}
 use borrow.Author.Tests.{eq-eqb, ne-eqb, lt-ltb, le-ltb, le-leb, lt-leb}
 use lib.ListN.{getD}
 use Rattle.machine.specs.CodeLine.{readEdge, wordAt}
-use Rattle.codeline.specs.Reading.{ByteAt}
+use Rattle.codeline.specs.inner.Reading.{ByteAt}
 use Rattle.codeline.proofs.Parsing.{byte-there}
 use Rattle.codeline.proofs.checks.edge_at.Statement.{statement}
 use Rattle.codeline.proofs.checks.edge_at.Tie as tie

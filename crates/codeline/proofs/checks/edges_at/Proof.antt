@@ -5,7 +5,7 @@ use native.Mathlib.Nat.{sub-zero}
 use native.Mathlib.Omega.{arith}
 use borrow.Author.Needs.{needs}
 use lib.ListN.{length, take}
-use Rattle.machine.specs.Tables.{edgesInto}
+use Rattle.machine.specs.inner.Tables.{edgesInto}
 use Rattle.codeline.proofs.Parsing.{edges-bad, edges-more}
 use Rattle.codeline.proofs.checks.edges_at.Statement.{statement}
 use Rattle.codeline.proofs.checks.edges_at.Tie as tie

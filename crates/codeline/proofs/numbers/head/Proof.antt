@@ -8,7 +8,7 @@ use borrow.Author.Needs.{needs}
 use borrow.Author.Tests.{lt-ltb, le-ltb}
 use lib.ListN.{length, getD}
 use Rattle.machine.specs.CodeLine.{wordAt}
-use Rattle.codeline.specs.Reading.{ByteAt, WordAt, fromFirst, fromColumns, fromChecks, fromScale, fromLimit, headOf}
+use Rattle.codeline.specs.inner.Reading.{ByteAt, WordAt, fromFirst, fromColumns, fromChecks, fromScale, fromLimit, headOf}
 use Rattle.codeline.proofs.Parsing.{byte-there, word-there, tested, first-tested, inside, head-read}
 use Rattle.codeline.proofs.numbers.head.Statement.{statement}
 use Rattle.codeline.proofs.numbers.head.Tie as tie

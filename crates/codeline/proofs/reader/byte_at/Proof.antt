@@ -37,7 +37,7 @@ use denote.Triple.Table.{entered, cited}
 use denote.Triple.Walked.{says, needs, Stays, stay-none, stay-none-slice, walkOf, goes-none, goes-none-slice, Walks, ends-at, walked, walk-meets}
 use denote.Exit.{yes}
 use denote.Triple.Clauses.{ensured, lasts}
-use Rattle.codeline.specs.Reading.{ByteAt}
+use Rattle.codeline.specs.inner.Reading.{ByteAt}
 use Rattle.codeline.specs.declared.reader.Reader.{Reader}
 use Rattle.codeline.specs.declared.reader.Field.{Field}
 use Rattle.codeline.proofs.reader.Reader as T

@@ -4,7 +4,7 @@ use Prim.Native.Nat.{_≤_}
 use native.Mathlib.Omega.{arith}
 use borrow.Author.Needs.{needs}
 use lib.ListN.{length-take}
-use Rattle.codeline.specs.Reading.{checksIn}
+use Rattle.codeline.specs.inner.Reading.{checksIn}
 use Rattle.codeline.proofs.Answered.{handed-is}
 use Rattle.codeline.proofs.tables.hand_over.Statement.{statement}
 use Rattle.codeline.proofs.tables.hand_over.Tie as tie

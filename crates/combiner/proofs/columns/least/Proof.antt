@@ -5,7 +5,7 @@ use native.Mathlib.Numerals.{add-one}
 use native.Mathlib.Omega.{arith}
 use borrow.Author.Needs.{needs}
 use lib.ListN.{length}
-use Rattle.combiner.specs.Columns.{leastBoth}
+use Rattle.combiner.specs.inner.Columns.{leastBoth}
 use Rattle.combiner.proofs.columns.least.Statement.{statement}
 use Rattle.combiner.proofs.columns.least.Tie as tie
 

@@ -5,8 +5,8 @@ use Prim.Native.Nat.{_+_, _-_, _≤_}
 use native.Mathlib.Omega.{arith}
 use borrow.Author.Needs.{needs}
 use lib.ListN.{length, take, drop, length-set}
-use Rattle.machine.specs.Tables.{before}
-use Rattle.encoder.specs.Words.{encodeOn}
+use Rattle.machine.specs.inner.Tables.{before}
+use Rattle.encoder.specs.inner.Words.{encodeOn}
 use Rattle.machine.proofs.Places.{before-more, end-within}
 use Rattle.encoder.proofs.Filling.{turn-room, own-is, fill-turn, fill-start, fill-done}
 use Rattle.encoder.proofs.fill.fill.Statement.{statement}

@@ -4,7 +4,7 @@ use mathlib.Core.List.{[]}
 use Prim.Native.Nat.{_-_, _≤_}
 use native.Mathlib.Omega.{arith}
 use borrow.Author.Needs.{needs}
-use Rattle.machine.specs.Tables.{sumFrom}
+use Rattle.machine.specs.inner.Tables.{sumFrom}
 use Rattle.machine.proofs.Places.{sum-more}
 use Rattle.encoder.proofs.fill.sum.Statement.{statement}
 use Rattle.encoder.proofs.fill.sum.Tie as tie

@@ -5,8 +5,8 @@ use native.Mathlib.Omega.{arith}
 use borrow.Author.Needs.{needs}
 use lib.ListN.{length}
 use mathlib.Core.Bool.{true}
-use Rattle.machine.specs.Tables.{before}
-use Rattle.encoder.specs.Words.{ownTo}
+use Rattle.machine.specs.inner.Tables.{before}
+use Rattle.encoder.specs.inner.Words.{ownTo}
 use Rattle.machine.proofs.Places.{before-more, end-within}
 use Rattle.encoder.proofs.Refusals.{formed-short, formed-start, formed-not, formed-more, formed-done}
 use Rattle.encoder.proofs.form.formed.Statement.{statement}

@@ -6,7 +6,7 @@ use native.Mathlib.Numerals.{add-one}
 use native.Mathlib.Omega.{arith}
 use borrow.Author.Needs.{needs}
 use lib.ListN.{length, length-take, length-drop}
-use Rattle.layered.specs.Columns.{gathered}
+use Rattle.layered.specs.inner.Columns.{gathered}
 use Rattle.layered.proofs.Columns.{room-at, below-part, gather-turn, gather-start, length-gathered}
 use Rattle.layered.proofs.column.gather.Statement.{statement}
 use Rattle.layered.proofs.column.gather.Tie as tie

@@ -8,7 +8,7 @@ use lib.ListN.{length, drop}
 use Prim.Native.Nat.{min}
 use Rattle.trellis.specs.Lists.{tab}
 use Rattle.trellis.proofs.Loops.{tab-more}
-use Rattle.layered.specs.Columns.{raised}
+use Rattle.layered.specs.inner.Columns.{raised}
 use Rattle.layered.proofs.Columns.{incoming-done, least-raised-le}
 use Rattle.layered.proofs.column.incoming_column.Statement.{statement}
 use Rattle.layered.proofs.column.incoming_column.Tie as tie

@@ -5,7 +5,7 @@ use native.Mathlib.Numerals.{add-one}
 use native.Mathlib.Omega.{arith}
 use borrow.Author.Needs.{needs}
 use lib.ListN.{length}
-use Rattle.layered.specs.Columns.{leastRaised}
+use Rattle.layered.specs.inner.Columns.{leastRaised}
 use Rattle.layered.proofs.column.least_raised.Statement.{statement}
 use Rattle.layered.proofs.column.least_raised.Tie as tie
 

@@ -7,7 +7,7 @@ use borrow.Author.Needs.{needs}
 use lib.ListN.{length, drop, getD}
 use Rattle.trellis.specs.Lists.{tab}
 use Rattle.trellis.proofs.Loops.{tab-more}
-use Rattle.layered.specs.Columns.{summed}
+use Rattle.layered.specs.inner.Columns.{summed}
 use Rattle.layered.proofs.Columns.{mul-small, outgoing-done, least-summed-le}
 use Rattle.layered.proofs.column.outgoing_column.Statement.{statement}
 use Rattle.layered.proofs.column.outgoing_column.Tie as tie

@@ -4,7 +4,7 @@ use Prim.Native.Nat.{_+_, _-_, _*_, _≤_}
 use native.Mathlib.Omega.{arith}
 use borrow.Author.Needs.{needs}
 use lib.ListN.{length, length-take, length-drop}
-use Rattle.layered.specs.Columns.{scattered}
+use Rattle.layered.specs.inner.Columns.{scattered}
 use Rattle.layered.proofs.Columns.{scatter-room, scatter-turn, length-turn}
 use Rattle.layered.proofs.column.scatter.Statement.{statement}
 use Rattle.layered.proofs.column.scatter.Tie as tie

@@ -4,7 +4,7 @@ use Prim.Native.Nat.{_+_, _-_, _≤_, _<_}
 use native.Mathlib.Omega.{arith}
 use borrow.Author.Needs.{needs}
 use lib.ListN.{length}
-use Rattle.layered.specs.Early.{decidedAgain}
+use Rattle.layered.specs.inner.Early.{decidedAgain}
 use Rattle.layered.proofs.Retests.{again-start, again-more}
 use Rattle.layered.proofs.early.decide_again.Statement.{statement}
 use Rattle.layered.proofs.early.decide_again.Tie as tie

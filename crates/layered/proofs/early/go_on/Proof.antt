@@ -5,11 +5,11 @@ use native.Mathlib.Omega.{arith}
 use borrow.Author.Needs.{needs}
 use lib.Dec.{ltb}
 use lib.ListN.{length}
-use Rattle.layered.specs.Passes.{graph, lent}
-use Rattle.layered.specs.Early.{Going}
+use Rattle.layered.specs.inner.Passes.{graph, lent}
+use Rattle.layered.specs.inner.Early.{Going}
 use Rattle.layered.proofs.Advances.{going-start, going-decided, going-end, going-updatable, going-retest, going-found, going-next}
 use Rattle.trellis.specs.Rules.{sizeOf}
-use Rattle.layered.specs.Parity.{decisionsOf}
+use Rattle.layered.specs.inner.Parity.{decisionsOf}
 use Rattle.layered.proofs.early.go_on.Statement.{statement}
 use Rattle.layered.proofs.early.go_on.Tie as tie
 

@@ -5,12 +5,12 @@ use Prim.Native.Nat.{_*_}
 use native.Mathlib.Omega.{arith}
 use borrow.Author.Needs.{needs}
 use lib.ListN.{length}
-use Rattle.layered.specs.Passes.{graph, lent}
+use Rattle.layered.specs.inner.Passes.{graph, lent}
 use Rattle.layered.proofs.Passes.{test-by, decided-by}
 use Rattle.layered.proofs.Runs.{test-room}
 use Rattle.layered.proofs.Advances.{stop-first, few-checks, first-unsettled}
 use Rattle.trellis.specs.Rules.{sizeOf}
-use Rattle.layered.specs.Parity.{decisionsOf}
+use Rattle.layered.specs.inner.Parity.{decisionsOf}
 use Rattle.layered.proofs.early.run.Statement.{statement}
 use Rattle.layered.proofs.early.run.Tie as tie
 

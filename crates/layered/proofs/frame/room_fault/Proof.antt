@@ -1,6 +1,6 @@
 -- One test for each refusal, in the definition's order.
 use borrow.Author.Tests.{lt-ltb, le-ltb}
-use Rattle.layered.specs.Frames.{roomFault}
+use Rattle.layered.specs.inner.Frames.{roomFault}
 use Rattle.layered.proofs.frame.room_fault.Statement.{statement}
 use Rattle.layered.proofs.frame.room_fault.Tie as tie
 

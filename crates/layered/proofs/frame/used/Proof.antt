@@ -4,7 +4,7 @@ use Prim.Native.Nat.{_-_, _*_, _≤_}
 use native.Mathlib.Omega.{arith}
 use borrow.Author.Needs.{needs}
 use lib.ListN.{length}
-use Rattle.layered.specs.Passes.{placeAt}
+use Rattle.layered.specs.inner.Passes.{placeAt}
 use Rattle.layered.proofs.Passes.{groups-few, place-more}
 use Rattle.layered.proofs.frame.used.Statement.{statement}
 use Rattle.layered.proofs.frame.used.Tie as tie

@@ -5,8 +5,8 @@ use native.Mathlib.Omega.{arith}
 use borrow.Author.Needs.{needs}
 use lib.ListN.{length}
 use Rattle.trellis.specs.Lists.{upto}
-use Rattle.layered.specs.Passes.{graph, lent, placeAt, turnAt}
-use Rattle.layered.specs.Places.{Stands}
+use Rattle.layered.specs.inner.Passes.{graph, lent, placeAt, turnAt}
+use Rattle.layered.specs.inner.Places.{Stands}
 use Rattle.layered.proofs.Passes.{pass-done, turns-more}
 use Rattle.layered.proofs.Places.{stands-own}
 use Rattle.layered.proofs.Runs.{turn-updatable}

@@ -5,7 +5,7 @@ use native.Mathlib.Omega.{arith}
 use borrow.Author.Needs.{needs}
 use lib.Dec.{eqb}
 use lib.ListN.{length}
-use Rattle.layered.specs.Passes.{graph, lent, goOn, RunRoom}
+use Rattle.layered.specs.inner.Passes.{graph, lent, goOn, RunRoom}
 use Rattle.layered.proofs.Passes.{test-by, decided-by, run-found, run-end, run-more}
 use Rattle.layered.proofs.Runs.{test-room, run-next}
 use Rattle.layered.proofs.iterate.run.Statement.{statement}

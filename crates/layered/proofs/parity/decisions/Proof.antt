@@ -9,7 +9,7 @@ use Rattle.trellis.specs.Lists.{tab}
 use Rattle.trellis.specs.Check.{firstZero}
 use Rattle.machine.specs.CodeLine.{columnOf}
 use Rattle.machine.proofs.Ranges.{column-room}
-use Rattle.layered.specs.Parity.{decisionsOf}
+use Rattle.layered.specs.inner.Parity.{decisionsOf}
 use Rattle.layered.proofs.Satisfied.{each-turn, each-done}
 use Rattle.layered.proofs.parity.decisions.Statement.{statement}
 use Rattle.layered.proofs.parity.decisions.Tie as tie

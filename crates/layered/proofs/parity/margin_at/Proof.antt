@@ -2,7 +2,7 @@
 use borrow.Author.Needs.{needs}
 use borrow.Author.Tests.{lt-ltb, le-ltb}
 use native.Mathlib.Omega.{arith}
-use Rattle.trellis.specs.Margins.{marginAt}
+use Rattle.trellis.specs.inner.Margins.{marginAt}
 use Rattle.layered.proofs.parity.margin_at.Statement.{statement}
 use Rattle.layered.proofs.parity.margin_at.Tie as tie
 

@@ -9,7 +9,7 @@ use Rattle.trellis.specs.Lists.{tab}
 use Rattle.trellis.specs.Check.{marginOf}
 use Rattle.machine.specs.CodeLine.{columnOf}
 use Rattle.machine.proofs.Ranges.{column-room}
-use Rattle.layered.specs.Parity.{marginsOf}
+use Rattle.layered.specs.inner.Parity.{marginsOf}
 use Rattle.layered.proofs.Satisfied.{each-turn, each-done}
 use Rattle.layered.proofs.parity.margins.Statement.{statement}
 use Rattle.layered.proofs.parity.margins.Tie as tie

@@ -3,7 +3,7 @@ use mathlib.Core.Path.{_≡_, ap, _∙_}
 use Prim.Native.Nat.{_^_}
 use borrow.Author.Needs.{needs}
 use lib.ListN.{length}
-use Rattle.layered.specs.Parity.{decisionsOf, allHold}
+use Rattle.layered.specs.inner.Parity.{decisionsOf, allHold}
 use Rattle.layered.proofs.Satisfied.{decided-room}
 use Rattle.layered.proofs.parity.settled.Statement.{statement}
 use Rattle.layered.proofs.parity.settled.Tie as tie

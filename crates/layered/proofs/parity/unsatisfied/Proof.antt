@@ -5,8 +5,8 @@ use Prim.Native.Nat.{ℕ, _-_, _≤_, _<_}
 use native.Mathlib.Omega.{arith}
 use borrow.Author.Needs.{needs}
 use lib.ListN.{length}
-use Rattle.machine.specs.Tables.{before, sumFrom}
-use Rattle.layered.specs.Parity.{holdsAt}
+use Rattle.machine.specs.inner.Tables.{before, sumFrom}
+use Rattle.layered.specs.inner.Parity.{holdsAt}
 use Rattle.machine.proofs.Places.{before-more, edge-within, end-within, sum-more}
 use Rattle.layered.proofs.Satisfied.{edge-room, sum-holds, sum-not, between-more}
 use Rattle.layered.proofs.parity.unsatisfied.Statement.{statement}

@@ -5,7 +5,7 @@ use native.Mathlib.Omega.{arith}
 use borrow.Author.Needs.{needs}
 use mathlib.Core.Bool.{true}
 use Rattle.trellis.specs.Lists.{allTo}
-use Rattle.layered.specs.Stages.{lowAt}
+use Rattle.layered.specs.inner.Stages.{lowAt}
 use Rattle.layered.proofs.Resuming.{low-more, low-not}
 use Rattle.layered.proofs.resume.low_costs.Statement.{statement}
 use Rattle.layered.proofs.resume.low_costs.Tie as tie

@@ -7,9 +7,9 @@ use borrow.Author.Tests.{not-true, not-false}
 use lib.ListN.{length}
 use mathlib.Core.Bool.{true}
 use Rattle.trellis.specs.Lists.{allTo}
-use Rattle.machine.specs.Tables.{before}
-use Rattle.layered.specs.Passes.{placeAt}
-use Rattle.layered.specs.Stages.{formedAt}
+use Rattle.machine.specs.inner.Tables.{before}
+use Rattle.layered.specs.inner.Passes.{placeAt}
+use Rattle.layered.specs.inner.Stages.{formedAt}
 use Rattle.machine.proofs.Places.{before-more}
 use Rattle.layered.proofs.Passes.{place-more}
 use Rattle.layered.proofs.Resuming.{form-places, form-asks, form-more, form-not}

@@ -4,7 +4,7 @@ use Prim.Native.Nat.{_^_}
 use borrow.Author.Needs.{needs}
 use Rattle.rules.specs.declared.Rule.{Rule}
 use Rattle.sweep.proofs.Laws.{step-asks, step-done}
-use Rattle.checknode.specs.Asks.{Times}
+use Rattle.checknode.specs.inner.Asks.{Times}
 use Rattle.sweep.specs.inner.Cells.{Sized}
 use Rattle.sweep.proofs.columns.advance.Statement.{statement}
 use Rattle.sweep.proofs.columns.advance.Tie as tie

@@ -10,7 +10,7 @@ use lib.Pow.{pow-pos}
 use native.Mathlib.Nat.{mul-comm}
 use Rattle.trellis.specs.Rules.{powerOf, sizeOf, mostOf}
 use Rattle.rules.specs.declared.Rule.{Rule}
-use Rattle.checknode.specs.Asks.{shiftsOf}
+use Rattle.checknode.specs.inner.Asks.{shiftsOf}
 use Rattle.trellis.proofs.Rules.{most-few}
 use Rattle.checknode.proofs.Resting.{shifts-length}
 use Rattle.sweep.proofs.Sending.{rows-joinable, rows-are, sent-fits, record-is, two-parts, rest-length}

@@ -7,7 +7,7 @@ use borrow.Author.Needs.{needs}
 use lib.ListN.{length, drop, length-set}
 use Rattle.trellis.specs.Lists.{tab}
 use Rattle.trellis.specs.Rules.{powerOf}
-use Rattle.engine.specs.Terms.{termOf, sumTo}
+use Rattle.engine.specs.inner.Terms.{termOf, sumTo}
 use Rattle.checknode.proofs.Turns.{sum-turn}
 use Rattle.sweep.proofs.Laws.{tab-turn, tab-end}
 use Rattle.sweep.proofs.record.terms.Statement.{statement}

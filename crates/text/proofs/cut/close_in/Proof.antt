@@ -2,7 +2,7 @@
 use mathlib.Core.Path.{sym, ap, _∙_}
 use native.Mathlib.Omega.{arith}
 use lib.ListN.{length}
-use Rattle.text.specs.Held.{held, keptOf, putAt}
+use Rattle.text.specs.inner.Held.{held, keptOf, putAt}
 use Rattle.text.proofs.Laws.{close-none, close-some, turn-few, put-nothing}
 use borrow.Author.Needs.{needs}
 use Rattle.text.proofs.cut.close_in.Statement.{statement}

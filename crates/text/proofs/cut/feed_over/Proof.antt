@@ -6,8 +6,8 @@ use native.Mathlib.Omega.{arith}
 use borrow.Author.Needs.{needs}
 use lib.ListN.{length, take, drop}
 use lib.Seq.{take-length}
-use Rattle.machine.specs.Blocks.{fedOut}
-use Rattle.text.specs.Held.{held, keptOf, fedHeld, putAt}
+use Rattle.machine.specs.inner.Blocks.{fedOut}
+use Rattle.text.specs.inner.Held.{held, keptOf, fedHeld, putAt}
 use Rattle.text.proofs.Laws.{loop-start, part-same}
 use Rattle.text.proofs.Parts.{line-plain, line-piece, piece-room, piece-more, over-done, rest-done}
 use Rattle.text.proofs.cut.feed_over.Statement.{statement}

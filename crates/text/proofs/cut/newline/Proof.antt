@@ -4,7 +4,7 @@ use Prim.Native.Nat.{_≤_, _<_, _-_, _+_}
 use native.Mathlib.Omega.{arith}
 use native.Mathlib.Numerals.{add-one}
 use lib.ListN.{length, drop}
-use Rattle.text.specs.Held.{toNewline}
+use Rattle.text.specs.inner.Held.{toNewline}
 use Rattle.text.proofs.Parts.{line-here, line-later, line-none}
 use Rattle.text.proofs.cut.newline.Statement.{statement}
 use Rattle.text.proofs.cut.newline.Tie as tie

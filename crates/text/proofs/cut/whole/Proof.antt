@@ -1,7 +1,7 @@
 -- The part is kept, then the line ends.
 use mathlib.Core.Path.{_∙_}
 use lib.ListN.{length}
-use Rattle.text.specs.Held.{held}
+use Rattle.text.specs.inner.Held.{held}
 use Rattle.text.proofs.Parts.{whole-room, whole-done}
 use borrow.Author.Needs.{needs}
 use Rattle.text.proofs.cut.whole.Statement.{statement}

@@ -6,7 +6,7 @@ use native.Mathlib.Numerals.{add-one}
 use native.Mathlib.Omega.{arith}
 use borrow.Author.Needs.{needs}
 use lib.ListN.{length, getD}
-use Rattle.text.specs.Digits.{allDigits}
+use Rattle.text.specs.inner.Digits.{allDigits}
 use Rattle.text.proofs.Digits.{told-digit, told-fault, no-fault}
 use Rattle.text.proofs.hex.fault.Statement.{statement}
 use Rattle.text.proofs.hex.fault.Tie as tie

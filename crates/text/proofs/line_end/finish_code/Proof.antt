@@ -4,7 +4,7 @@ use Prim.Native.Nat.{_≤_}
 use native.Mathlib.Omega.{arith}
 use borrow.Author.Needs.{needs}
 use lib.ListN.{length, length-take}
-use Rattle.text.specs.Held.{codeBytes}
+use Rattle.text.specs.inner.Held.{codeBytes}
 use Rattle.text.proofs.Laws.{row-long, accepted-turn, refused-turn, refused-front}
 use Rattle.text.proofs.line_end.finish_code.Statement.{statement}
 use Rattle.text.proofs.line_end.finish_code.Tie as tie

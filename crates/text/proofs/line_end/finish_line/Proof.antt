@@ -4,7 +4,7 @@ use Prim.Native.Nat.{_+_}
 use native.Mathlib.Omega.{arith}
 use borrow.Author.Needs.{needs}
 use lib.ListN.{length, length-take}
-use Rattle.text.specs.Held.{putAt}
+use Rattle.text.specs.inner.Held.{putAt}
 use Rattle.text.proofs.Laws.{first-out, first-held, later-out, later-held}
 use Rattle.text.proofs.line_end.finish_line.Statement.{statement}
 use Rattle.text.proofs.line_end.finish_line.Tie as tie

@@ -3,7 +3,7 @@ use mathlib.Core.Path.{_∙_, ap}
 use native.Mathlib.Omega.{arith}
 use borrow.Author.Needs.{needs}
 use Rattle.machine.specs.Printing.{frameLine}
-use Rattle.text.specs.Held.{putAt}
+use Rattle.text.specs.inner.Held.{putAt}
 use Rattle.text.proofs.Laws.{row-long, row-front}
 use Rattle.text.proofs.line_end.print_in.Statement.{statement}
 use Rattle.text.proofs.line_end.print_in.Tie as tie

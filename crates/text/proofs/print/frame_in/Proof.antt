@@ -4,7 +4,7 @@ use native.Mathlib.Omega.{arith}
 use borrow.Author.Needs.{needs}
 use lib.ListN.{length, length-take}
 use Rattle.machine.specs.Decoding.{lending}
-use Rattle.text.specs.Lines.{over}
+use Rattle.text.specs.inner.Lines.{over}
 use Rattle.text.proofs.Printing.{tells}
 use Rattle.text.proofs.print.frame_in.Statement.{statement}
 use Rattle.text.proofs.print.frame_in.Tie as tie

@@ -1,7 +1,7 @@
 -- No change unless running and below 255; else the iteration's stage taken into the registers.
 use borrow.Author.Tests.{eq-eqb, ne-eqb}
 use Rattle.machine.specs.Decoding.{lending}
-use Rattle.layered.specs.Stages.{stageOf}
+use Rattle.layered.specs.Answers.{stageOf}
 use Rattle.window.specs.Meaning.{bytesOf}
 use Rattle.window.specs.Window.{second}
 use Rattle.window.proofs.Taking.{stepped}

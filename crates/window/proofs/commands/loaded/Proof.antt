@@ -1,6 +1,6 @@
 -- The load's stage taken into the registers at t = 0.
 use Rattle.machine.specs.Decoding.{lending}
-use Rattle.layered.specs.Stages.{stageOf}
+use Rattle.layered.specs.Answers.{stageOf}
 use Rattle.window.specs.Meaning.{bytesOf}
 use Rattle.window.proofs.Taking.{loaded}
 use borrow.Author.Needs.{needs}

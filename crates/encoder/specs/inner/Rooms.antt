@@ -6,10 +6,10 @@ use Prim.Native.Nat.{ℕ, _+_, _-_, _^_, _≤_, _<_}
 use lib.ListN.{length, getD}
 use Rattle.trellis.specs.Reply.{Reply}
 use Rattle.machine.specs.CodeLine.{Code, good}
-use Rattle.machine.specs.Tables.{before, Tabled}
+use Rattle.machine.specs.inner.Tables.{before, Tabled}
 use Rattle.machine.specs.Encoding.{encodingUnder}
-use Rattle.machine.proofs.Lines.{GoodCode}
-use Rattle.encoder.specs.Words.{Leaves}
+use Rattle.machine.specs.inner.Accepted.{GoodCode}
+use Rattle.encoder.specs.inner.Words.{Leaves}
 
 -- edge k has a column with a symbol, and two elements to multiply
 pub record EdgeRoom (p : ℕ) (cs ws z : List ℕ) (k : ℕ) : Type 0 where

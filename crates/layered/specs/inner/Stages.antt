@@ -2,33 +2,23 @@
 -- shows that these are loading and iterating.
 use mathlib.Core.Path.{_≡_}
 use mathlib.Core.Bool.{Bool, true, _&&_, _||_}
-use mathlib.Core.List.{List}
+use mathlib.Core.List.{List, [], _∷_}
 use Prim.Native.Nat.{ℕ, _+_, _*_, _≤_, _<_}
 use lib.Dec.{eqb, leb}
 use lib.ListN.{length, getD}
 use Rattle.trellis.specs.Lists.{pick, allTo}
+use Rattle.trellis.specs.Refusals.{unless, faultBy}
 use Rattle.trellis.specs.Record.{recordOk}
 use Rattle.trellis.specs.Rules.{firstOk, powerOf, sizeOf, ruleFor}
 use Rattle.machine.specs.CodeLine.{good, Code, zeroIn}
 use Rattle.machine.specs.Decoding.{Buffers, admittedUnder}
 use Rattle.machine.specs.Moments.{Stage as Ends, Moment, loadingUnder, resumableUnder, iteratingUnder}
-use Rattle.machine.specs.Tables.{before}
-use Rattle.layered.specs.declared.Stage.{Stage}
-use Rattle.layered.specs.declared.Stage.the-variants.{Running, Found, NotFound, Refused}
-use Rattle.layered.specs.Parity.{SettledRoom}
-use Rattle.layered.specs.Passes.{Graph, tableAt, lengthAt, placeAt, recordAt, PassRoom}
-use Rattle.layered.specs.Turns.{Weighed}
-use Rattle.layered.specs.Frames.{Coded}
-
-abbrev pub ends : ℕ → ℕ → Ends
-ends state number = record { state = state; number = number }
-
--- "States: 0 idle, 1 running, 2 found, 3 not found, 4 refused."
-abbrev pub stageOf : Stage → Ends
-stageOf Running = ends 1 0
-stageOf Found = ends 2 0
-stageOf NotFound = ends 3 0
-stageOf (Refused k) = ends 4 k
+use Rattle.machine.specs.inner.Tables.{before}
+use Rattle.layered.specs.Answers.{ends}
+use Rattle.layered.specs.inner.Parity.{SettledRoom}
+use Rattle.layered.specs.inner.Passes.{Graph, tableAt, lengthAt, placeAt, recordAt, PassRoom}
+use Rattle.layered.specs.inner.Turns.{Weighed}
+use Rattle.layered.specs.inner.Frames.{Coded}
 
 -- "2 if the test holds, else 3 if t is I or more, else 1"
 unfoldable pub stageAfter : Bool → ℕ → ℕ → Ends
@@ -58,7 +48,7 @@ recordsIn first ds t s = eqb t 0 || allTo (formedAt first ds s) (length ds)
 
 -- "then 13 .. then, if t is not 0, 16"; 0 for none
 unfoldable pub resumeFault : ℕ → ℕ → List ℕ → ℕ → List ℕ → List ℕ → ℕ
-resumeFault first n ds t c s = pick (costsIn (sizeOf first) n c) (pick (recordsIn first ds t s) 0 16) 13
+resumeFault first n ds t c s = faultBy (unless (costsIn (sizeOf first) n c) 13 ∷ unless (recordsIn first ds t s) 16 ∷ [])
 
 -- check m's weights are those of an accepted check, and its record is inside the store
 pub record FormRoom (first : ℕ) (ds ws s : List ℕ) (m : ℕ) : Type 0 where

@@ -1,43 +1,29 @@
 -- What the functions ask and leave: the struct that a call answers by, the numbers and lengths that a channel needs, and room for each loop.
 use mathlib.Core.Path.{_≡_}
 use mathlib.Core.Bool.{_||_}
-use mathlib.Core.List.{List, map, _++_}
+use mathlib.Core.List.{List, map, _++_, [], _∷_}
 use Prim.Native.Nat.{ℕ, _+_, _-_, _*_, _≤_, _<_}
 use lib.Dec.{eqb, ltb}
 use lib.ListN.{length, take, replicate}
 use Rattle.trellis.specs.Lists.{pick}
+use Rattle.trellis.specs.Refusals.{unless, refusedBy, faultBy}
 use Rattle.trellis.specs.Rules.{sizeOf}
 use Rattle.trellis.specs.Reply.{Reply}
 use Rattle.machine.specs.CodeLine.{good, Code, size, parse}
 use Rattle.machine.specs.Machine.{used}
 use Rattle.machine.specs.Decoding.{Buffers}
 use Rattle.machine.specs.Moments.{Moment}
-use Rattle.machine.proofs.Lines.{GoodCode}
-use Rattle.machine.proofs.Passing.{Passable}
-use Rattle.layered.specs.Frames.{roomFault}
-use Rattle.layered.specs.Passes.{graph, placeAt, Tables}
+use Rattle.machine.specs.inner.Accepted.{GoodCode}
+use Rattle.machine.specs.inner.InRange.{Passable}
+use Rattle.layered.specs.inner.Frames.{roomFault}
+use Rattle.layered.specs.inner.Passes.{graph, placeAt, Tables}
 use Rattle.channels.specs.declared.service.Layout.{Layout}
-use Rattle.channels.specs.Channels.{Results, ownOf}
-use Rattle.channels.specs.Rounds.{Standing, Serves, lentIn, statusOf, patchAt}
-
--- a list of eight: those of the channels, and 0 for each that there is not
-abbrev pub eight : (Reply → ℕ) → List Reply → List ℕ
-eight f l = map f l ++ replicate (8 - length l) 0
-
--- the struct's fields and the buffers afterwards are those of the results
-pub record Gives (R : Results) (number spent : ℕ) (status iterations : List ℕ) (b : Buffers) : Type 0 where
-  pub number-is : number ≡ R .number
-  pub spent-is : spent ≡ R .spent
-  pub status-is : status ≡ eight (λ a. a .number) (R .answers)
-  pub iterations-is : iterations ≡ eight (λ a. a .value) (R .answers)
-  pub symbols-then : b .symbols ≡ R .buffers .symbols
-  pub costs-then : b .costs ≡ R .buffers .costs
-  pub store-then : b .store ≡ R .buffers .store
-  pub margins-then : b .margins ≡ R .buffers .margins
+use Rattle.channels.specs.Channels.{Results, ownOf, countTests}
+use Rattle.channels.specs.inner.Rounds.{Standing, Serves, lentIn, statusOf, patchAt}
 
 -- "21, channel count not 1 to 8, before all; 22, A is 0, after 21."; 0 for neither
 unfoldable pub countFault : ℕ → ℕ → ℕ
-countFault n A = pick (ltb n 1 || ltb 8 n) 21 (pick (eqb A 0) 22 0)
+countFault n A = faultBy (countTests n A)
 
 -- a layout by its numbers
 pub record LaidOut (first scale limit columns : ℕ) (ds : List ℕ) (z : Layout) : Type 0 where
@@ -50,7 +36,7 @@ pub record LaidOut (first scale limit columns : ℕ) (ds : List ℕ) (z : Layout
 
 -- 12, 2, 3, 4, 19 by the lengths; 0 for none
 unfoldable pub faultFor : ℕ → Layout → ℕ → ℕ → ℕ → ℕ → ℕ → ℕ
-faultFor n z f y c s v = pick (eqb f (n * z .costs)) (roomFault (n * z .columns) (n * z .costs) (n * z .store) y c s v) 12
+faultFor n z f y c s v = refusedBy (unless (eqb f (n * z .costs)) 12 ∷ []) (λ k. k) (roomFault (n * z .columns) (n * z .costs) (n * z .store) y c s v)
 
 -- lengths whose multiples fit
 pub record FaultRoom (n : ℕ) (z : Layout) : Type 0 where

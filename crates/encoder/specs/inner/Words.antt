@@ -8,7 +8,7 @@ use lib.ListN.{length, getD}
 use Rattle.trellis.specs.Lists.{pick, allTo}
 use Rattle.trellis.specs.Field.{quotient}
 use Rattle.trellis.specs.Reply.{Reply}
-use Rattle.machine.specs.Tables.{before, sumFrom}
+use Rattle.machine.specs.inner.Tables.{before, sumFrom}
 use Rattle.machine.specs.Encoding.{symbolsOk, Wrote}
 
 -- where check m's last edge stands

@@ -5,7 +5,7 @@ use mathlib.Core.List.{List, [], _∷_, _++_}
 use Prim.Native.Nat.{ℕ, zero, suc, _-_}
 use lib.Dec.{ltb}
 use Rattle.trellis.specs.Lists.{pick, blocks}
-use Rattle.engine.specs.Rests.{mostTo}
+use Rattle.engine.specs.inner.Rests.{mostTo}
 
 -- x put before f, or not
 abbrev pub pushed : Bool → ℕ → (ℕ → ℕ) → ℕ → ℕ

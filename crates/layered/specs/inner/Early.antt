@@ -12,17 +12,17 @@ use Rattle.trellis.specs.Rules.{powerOf, sizeOf}
 use Rattle.machine.specs.CodeLine.{Code, columnOf}
 use Rattle.machine.specs.Machine.{found, notFound}
 use Rattle.machine.specs.Lent.{Lent}
-use Rattle.machine.specs.LentEarly.{Halted, halted}
-use Rattle.machine.specs.Tables.{before}
-use Rattle.machine.proofs.Lines.{GoodCode}
-use Rattle.machine.proofs.EarlyPassing.{Advancing}
+use Rattle.machine.specs.inner.LentEarly.{Halted, halted}
+use Rattle.machine.specs.inner.Tables.{before}
+use Rattle.machine.specs.inner.Accepted.{GoodCode}
+use Rattle.machine.specs.inner.InRange.{Advancing}
 use Rattle.layered.specs.declared.Stopped.{Stopped}
 use Rattle.layered.specs.declared.Stopped.the-variants.{Found, NotFound}
 use Rattle.layered.specs.declared.parity.CheckAt.{CheckAt}
 use Rattle.layered.specs.declared.place.Place.{Place}
-use Rattle.layered.specs.Parity.{decisionsOf, EdgeOf, SettledRoom}
-use Rattle.layered.specs.Places.{Stands}
-use Rattle.layered.specs.Passes.{Graph, lent, tableAt, turnAt, testOn, settledOn, Tables}
+use Rattle.layered.specs.inner.Parity.{decisionsOf, EdgeOf, SettledRoom}
+use Rattle.layered.specs.inner.Places.{Stands}
+use Rattle.layered.specs.inner.Passes.{Graph, lent, tableAt, turnAt, testOn, settledOn, Tables}
 
 -- the symbols z where the first k of the columns cs are decided again, from costs P
 unfoldable pub decidedAgain : ℕ → List ℕ → List ℕ → ℕ → List ℕ → List ℕ

@@ -8,7 +8,7 @@ use lib.ListN.{length, getD}
 use Rattle.trellis.specs.Lists.{tab, allTo}
 use Rattle.trellis.specs.Check.{firstZero, decide}
 use Rattle.machine.specs.CodeLine.{columnOf}
-use Rattle.machine.specs.Tables.{before, sumFrom}
+use Rattle.machine.specs.inner.Tables.{before, sumFrom}
 use Rattle.layered.specs.declared.parity.CheckAt.{CheckAt}
 
 -- the decisions of n columns of q costs, and their margins

@@ -2,24 +2,25 @@
 use mathlib.Core.Path.{_≡_}
 use mathlib.Core.List.{List}
 use Prim.Native.Nat.{ℕ, _*_, _≤_}
-use lib.Dec.{eqb, ltb}
+use lib.Dec.{eqb}
 use lib.ListN.{length}
-use Rattle.trellis.specs.Lists.{pick, allTo}
+use Rattle.trellis.specs.Lists.{pick}
+use Rattle.trellis.specs.Refusals.{faultBy}
 use Rattle.trellis.specs.Rules.{sizeOf}
-use Rattle.machine.specs.CodeLine.{good, Code, zeroIn}
-use Rattle.machine.specs.Tables.{Tabled}
-use Rattle.machine.specs.Decoding.{Buffers, After, admittedUnder, decodingUnder}
+use Rattle.machine.specs.CodeLine.{good, Code, frameTests}
+use Rattle.machine.specs.inner.Tables.{Tabled}
+use Rattle.machine.specs.Decoding.{Buffers, After, roomTests, admittedUnder, decodingUnder}
 use Rattle.machine.specs.Early.{earlyUnder}
-use Rattle.machine.proofs.Lines.{GoodCode}
-use Rattle.layered.specs.Passes.{placeAt}
+use Rattle.machine.specs.inner.Accepted.{GoodCode}
+use Rattle.layered.specs.inner.Passes.{placeAt}
 
--- "12, cost count wrong; 13, a column without a cost of 0"
+-- a frame's refusal by the first byte and N
 unfoldable pub frameFaultOf : ℕ → ℕ → List ℕ → ℕ
-frameFaultOf first n f = pick (eqb (length f) (n * sizeOf first)) (pick (allTo (zeroIn (sizeOf first) f) n) 0 13) 12
+frameFaultOf first n f = faultBy (frameTests (sizeOf first) n f)
 
--- 2, 3, 4, 19, in this order: n symbols, w costs, u bytes and n margins are needed
+-- that of the buffers by their lengths
 unfoldable pub roomFault : ℕ → ℕ → ℕ → ℕ → ℕ → ℕ → ℕ → ℕ
-roomFault n w u y c s v = pick (ltb y n) 2 (pick (ltb c w) 3 (pick (ltb s u) 4 (pick (ltb v n) 19 0)))
+roomFault n w u y c s v = faultBy (roomTests n w u y c s v)
 
 -- "12, 13, 2, 3, 4", 19
 unfoldable pub faultOf : ℕ → ℕ → List ℕ → List ℕ → ℕ → ℕ → ℕ → ℕ → ℕ

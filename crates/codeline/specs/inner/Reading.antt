@@ -8,7 +8,7 @@ use lib.ListN.{length, take, drop, getD}
 use Rattle.trellis.specs.Lists.{pick}
 use Rattle.trellis.specs.Rules.{firstOk}
 use Rattle.machine.specs.CodeLine.{Read, good, bad, Code, Edge as Pair, edge, wordAt, Numbers}
-use Rattle.machine.specs.Tables.{Flat, flat, Tables, tables}
+use Rattle.machine.specs.inner.Tables.{Flat, flat, Tables, tables}
 use Rattle.codeline.specs.Answers.{degreesOf, columnsOf, weightsOf}
 use Rattle.codeline.specs.declared.Header.{Header}
 use Rattle.codeline.specs.declared.Header.the-variants.{Read as HeaderRead, Refused as HeaderRefused}

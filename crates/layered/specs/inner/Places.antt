@@ -8,12 +8,11 @@ use lib.ListN.{length}
 use Rattle.trellis.specs.Lists.{pick}
 use Rattle.machine.specs.CodeLine.{Code}
 use Rattle.machine.specs.Machine.{used}
-use Rattle.machine.specs.Tables.{before}
-use Rattle.machine.proofs.Lines.{GoodCode}
-use Rattle.machine.proofs.Ranges.{Ranged}
-use Rattle.machine.proofs.Passing.{Formed}
+use Rattle.machine.specs.inner.Tables.{before}
+use Rattle.machine.specs.inner.Accepted.{GoodCode}
+use Rattle.machine.specs.inner.InRange.{Ranged, Formed}
 use Rattle.layered.specs.declared.place.Place.{Place}
-use Rattle.layered.specs.Passes.{Graph, lent, placeAt, Tables}
+use Rattle.layered.specs.inner.Passes.{Graph, lent, placeAt, Tables}
 
 -- where check m stands
 pub record Stands (first : ℕ) (ds : List ℕ) (m : ℕ) (p : Place) : Type 0 where

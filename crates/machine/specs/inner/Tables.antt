@@ -2,12 +2,13 @@
 -- proofs/Tables.antt shows that it is parse.
 use mathlib.Core.Path.{_≡_}
 use mathlib.Core.List.{List, [], _∷_, _++_, map}
-use Prim.Native.Nat.{ℕ, zero, suc, _+_, _-_, _*_}
-use lib.Dec.{eqb, ltb, leb}
+use Prim.Native.Nat.{ℕ, zero, suc, _+_, _*_}
+use lib.Dec.{eqb}
 use lib.ListN.{length, getD, take}
 use Rattle.trellis.specs.Lists.{each, pick, upto}
+use Rattle.trellis.specs.Refusals.{refusedBy}
 use Rattle.trellis.specs.Field.{xor, product}
-use Rattle.machine.specs.CodeLine.{Read, good, bad, then, Edge, Code, edge, readEdge}
+use Rattle.machine.specs.CodeLine.{Read, good, bad, then, Edge, Code, edge, readEdge, checkTests}
 
 -- columns and weights
 pub record Flat : Type 0 where
@@ -24,13 +25,7 @@ edgesInto (suc c) s at n q low cs ws =
     then (readEdge s at n q low) (λ (e : Edge). edgesInto c s (at + 3) n q (e .column + 1) (cs ++ (e .column ∷ [])) (ws ++ (e .weight ∷ [])))
 
 unfoldable pub checkInto : List ℕ → ℕ → ℕ → ℕ → ℕ → List ℕ → List ℕ → Read Flat
-checkInto s at n q total cs ws =
-    pick (leb (length s) at) (bad 5)
-    (pick (ltb (getD s at 0) 2) (bad 9)
-    (pick (ltb 32 (getD s at 0)) (bad 9)
-    (pick (ltb 1024 (total + getD s at 0)) (bad 9)
-    (pick (ltb (length s - (at + 1)) (3 * getD s at 0)) (bad 5)
-    (edgesInto (getD s at 0) s (at + 1) n q 0 cs ws)))))
+checkInto s at n q total cs ws = refusedBy (checkTests s at total) bad (edgesInto (getD s at 0) s (at + 1) n q 0 cs ws)
 
 pub record Tables : Type 0 where
   pub degrees : List ℕ

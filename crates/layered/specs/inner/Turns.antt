@@ -12,8 +12,8 @@ use Rattle.trellis.specs.Rules.{firstOk, sizeOf, ruleFor}
 use Rattle.trellis.specs.Ready.{Ready}
 use Rattle.machine.specs.Machine.{spread}
 use Rattle.machine.specs.Lent.{weightsOf, heard, gathered}
-use Rattle.machine.specs.Tables.{edgesOf}
-use Rattle.layered.specs.Columns.{Below}
+use Rattle.machine.specs.inner.Tables.{edgesOf}
+use Rattle.machine.specs.inner.InRange.{Below}
 
 -- what the old record sent, before scaling: its expansion; 0 in the first iteration
 unfoldable pub oldCosts : ℕ → Bool → List ℕ → List ℕ → List ℕ

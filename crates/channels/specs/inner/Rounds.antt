@@ -13,8 +13,8 @@ use Rattle.machine.specs.Machine.{settled, used}
 use Rattle.machine.specs.Lent.{Lent}
 use Rattle.machine.specs.Decoding.{Buffers, holding}
 use Rattle.machine.specs.Moments.{Stage, Moment, moment, further, gone}
-use Rattle.machine.proofs.Lines.{GoodCode}
-use Rattle.machine.proofs.Passing.{Passable}
+use Rattle.machine.specs.inner.Accepted.{GoodCode}
+use Rattle.machine.specs.inner.InRange.{Passable}
 use Rattle.channels.specs.Channels.{frameOf, ownOf, channels}
 
 -- a load of one channel in its own parts; the lengths are the call's, so that 13 alone can refuse it

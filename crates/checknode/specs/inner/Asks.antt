@@ -11,9 +11,9 @@ use Rattle.trellis.specs.Field.{xor, product}
 use Rattle.trellis.specs.Check.{firstZero}
 use Rattle.trellis.specs.Record.{pairsOk, expandAt}
 use Rattle.trellis.specs.Rules.{ruleOf}
-use Rattle.engine.specs.Terms.{termOf, sumTo}
+use Rattle.engine.specs.inner.Terms.{termOf, sumTo}
 use Rattle.checknode.specs.Answers.{weightCases, checkCases}
-use Rattle.checknode.specs.Table.{productTable}
+use Rattle.checknode.specs.inner.Table.{productTable}
 
 -- h is an element of the field, p is 2 to 6, and the products of h are elements
 pub record Times (p h : ℕ) : Type 0 where

@@ -10,14 +10,14 @@ use Rattle.trellis.specs.Record.{recordLength}
 use Rattle.trellis.specs.Rules.{powerOf, sizeOf, ruleFor}
 use Rattle.machine.specs.CodeLine.{Code}
 use Rattle.machine.specs.Machine.{found, notFound}
-use Rattle.machine.specs.Tables.{tablesOf, before}
+use Rattle.machine.specs.inner.Tables.{tablesOf, before}
 use Rattle.machine.specs.Lent.{Lent, Ended, ended}
-use Rattle.machine.proofs.Lines.{GoodCode}
-use Rattle.machine.proofs.Passing.{Passable}
+use Rattle.machine.specs.inner.Accepted.{GoodCode}
+use Rattle.machine.specs.inner.InRange.{Passable}
 use Rattle.layered.specs.declared.Outcome.{Outcome}
 use Rattle.layered.specs.declared.Outcome.the-variants.{Found, NotFound}
-use Rattle.layered.specs.Parity.{decisionsOf, allHold}
-use Rattle.layered.specs.Turns.{recordNow, costsNow}
+use Rattle.layered.specs.inner.Parity.{decisionsOf, allHold}
+use Rattle.layered.specs.inner.Turns.{recordNow, costsNow}
 
 -- the first code byte, g, the degrees of the checks, and the columns and weights of all edges end to end
 pub record Graph : Type 0 where

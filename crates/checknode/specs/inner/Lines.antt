@@ -7,7 +7,7 @@ use Rattle.trellis.specs.Lists.{tab, part}
 use Rattle.trellis.specs.Field.{xor, product}
 use Rattle.trellis.specs.Check.{firstZero, sentAt}
 use Rattle.trellis.specs.Rules.{powerOf, sizeOf, ruleFor, columnsOf, costsAt}
-use Rattle.engine.specs.Lines.{placed}
+use Rattle.engine.specs.inner.Lines.{placed}
 
 -- each symbol's row is below 2 ^ p, and the line has these rows
 pub record PlaceRoom (costs row : List ℕ) (s : ℕ) (line : List ℕ) : Type 0 where

@@ -4,11 +4,8 @@ use Prim.Native.Nat.{ℕ, _+_, _-_, _*_, _≤_, _<_, min}
 use lib.ListN.{length, getD, drop}
 use Rattle.trellis.specs.Lists.{upto, part, patch, blocks}
 use Rattle.machine.specs.CodeLine.{columnOf}
+use Rattle.machine.specs.inner.InRange.{Below}
 use Rattle.machine.specs.Machine.{scaled, incoming, outgoing}
-
--- no element above b
-abbrev pub Below : ℕ → List ℕ → Type 0
-Below b l = (x : ℕ) → getD l x 0 ≤ b
 
 -- P less the old scaled cost, 255 higher
 abbrev pub raised : ℕ → List ℕ → List ℕ → ℕ → ℕ

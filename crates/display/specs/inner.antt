@@ -1,0 +1,2 @@
+-- An expansion without room, and what the loop asks.
+pub mod Showing

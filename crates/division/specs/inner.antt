@@ -1,0 +1,2 @@
+-- The table of inverses and its computed test.
+pub mod Table

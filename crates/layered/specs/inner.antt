@@ -1,0 +1,9 @@
+-- What the loops leave and what the functions that another crate cannot call ask, in the shape of the code.
+pub mod Columns
+pub mod Parity
+pub mod Turns
+pub mod Passes
+pub mod Places
+pub mod Early
+pub mod Frames
+pub mod Stages

@@ -1,0 +1,2 @@
+-- A margin as a loop finds it.
+pub mod Margins
