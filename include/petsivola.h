@@ -1,10 +1,11 @@
 /* petsivola.h - decoder and encoder for nonbinary LDPC frames, over buffers that the caller lends.
  *
- * C99. Link with libpetsivola.a (x86-64 Linux). No heap, no files, no state between calls, so calls
- * from several threads need no lock.
+ * C99. Link with libpetsivola.a or libpetsivola.so (x86-64 Linux). No heap, no files, no state between
+ * calls, so calls from several threads need no lock.
  *
  * Stack of a call, as measured: decode, decode_early, window_write and channels 30 KB, check 19 KB,
- * sweep 36 KB, expand and display 5 KB, encode 9 KB, combine 4 KB, product and line under 1 KB.
+ * sweep 36 KB, expand and display 5 KB, encode 9 KB, combine and code_line 4 KB, product and line under
+ * 1 KB.
  *
  * Every input is answered: each function ends, stays inside its buffers, and refuses for the numbered
  * reasons below and no others. A refused call changes no byte. An accepted call fills the first bytes
@@ -16,7 +17,7 @@
  *
  * The result is one number: PETSIVOLA_NUMBER(result) says what happened, PETSIVOLA_VALUE(result) is
  * the product, the bytes written, the iterations t or the check updates; it is 0 on a refusal. The
- * register window answers in registers, and petsivola_channels in a struct.
+ * register window answers in registers, petsivola_code_line and petsivola_channels in a struct.
  *
  * The first byte of a code line, "first" below, gives the field, the number of deviations and the
  * edition. Its low hexadecimal digit is p, 2 to 6: the field has q = 2^p elements. What a check sends
@@ -37,6 +38,12 @@
 #ifdef __cplusplus
 extern "C" {
 #endif
+
+/* The version; CHANGELOG.md says what each one brought. */
+#define PETSIVOLA_VERSION_MAJOR 1
+#define PETSIVOLA_VERSION_MINOR 14
+#define PETSIVOLA_VERSION_PATCH 0
+#define PETSIVOLA_VERSION "1.14.0"
 
 #define PETSIVOLA_NUMBER(result) ((uint32_t)(result) >> 16)
 #define PETSIVOLA_VALUE(result) ((uint32_t)(result) & 0xFFFFu)
@@ -127,6 +134,37 @@ enum petsivola_number {
 
 /* The channels of one petsivola_channels. */
 #define PETSIVOLA_MOST_CHANNELS 8
+
+/* What petsivola_code_line answers. All but the number is 0 on a refusal. */
+struct petsivola_code {
+    uint8_t number;     /* 0, or the refusal of the code line, 5 to 11 */
+    uint8_t first;      /* the first byte: p, k and the edition */
+    uint16_t columns;   /* N */
+    uint8_t checks;     /* M */
+    uint8_t scale;      /* g */
+    uint8_t limit;      /* I */
+    uint32_t store;     /* the length of the store: as many bytes as the M records have together */
+};
+
+/* Reads a code line: whether it is accepted, the numbers at its start, and how long a store it needs.
+ * Call it first where the code line comes from elsewhere: the lengths of all buffers follow.
+ *
+ *   code     the code line, as for petsivola_decode
+ *
+ * Under an accepted code line, with the answer c, petsivola_decode takes
+ *
+ *   frame    PETSIVOLA_FRAME_LENGTH(c.first, c.columns), exactly
+ *   symbols  at least c.columns
+ *   costs    at least PETSIVOLA_FRAME_LENGTH(c.first, c.columns)
+ *   store    at least c.store
+ *   margins  at least PETSIVOLA_MARGINS_LENGTH(c.columns)
+ *
+ * and petsivola_encode, for N above M, a message of PETSIVOLA_MESSAGE_LENGTH(c.columns, c.checks).
+ * The calls below refuse a code line by 5 to 11 for the same reasons and by the same number.
+ *
+ * Number: 0, or 5 to 11 as the code line is read front to back.
+ */
+struct petsivola_code petsivola_code_line(const uint8_t *code, size_t code_len);
 
 /* Decodes one frame: the layered decoder with the trellis extended min-sum rule, or with Min-Max.
  *
@@ -444,6 +482,40 @@ uint32_t petsivola_display(uint8_t first,
  * Number: 0, or 6, 11 in this order. Value: the product.
  */
 uint32_t petsivola_product(uint8_t p, uint8_t a, uint8_t b);
+
+#ifndef PETSIVOLA_NO_NUMBER_TEXT    /* define it for a compiler without inline, as C89 */
+/* A number's cause in words, for a log or a display: never null, and no newline. */
+static inline const char *petsivola_number_text(uint32_t number)
+{
+    switch (number) {
+    case PETSIVOLA_ACCEPTED: return "accepted; of a decoding: found";
+    case PETSIVOLA_NOT_FOUND: return "not found: the symbols do not satisfy every check";
+    case PETSIVOLA_SHORT_BUFFER: return "symbol or output buffer too short";
+    case PETSIVOLA_SHORT_COSTS: return "cost buffer too short";
+    case PETSIVOLA_SHORT_STORE: return "record buffer or store too short";
+    case PETSIVOLA_CODE_BYTES: return "bytes of the code line missing or left over";
+    case PETSIVOLA_FIELD_SIZE: return "first byte with a high digit above 3, or p not 2 to 6";
+    case PETSIVOLA_COLUMNS_CHECKS: return "N not 1 to 256, or M not 1 to 128";
+    case PETSIVOLA_SCALE_LIMIT: return "g not 1 to 16, or I not 1 to 255";
+    case PETSIVOLA_DEGREE: return "degree not 2 to 32, or more than 1,024 edges";
+    case PETSIVOLA_COLUMN: return "column not below N, or not above the one before";
+    case PETSIVOLA_WEIGHT: return "weight 0, or a weight or element not below q";
+    case PETSIVOLA_COST_COUNT: return "wrong number of costs";
+    case PETSIVOLA_NO_ZERO_COST: return "column without a cost of 0, or in the window a cost above 510";
+    case PETSIVOLA_DIGITS: return "odd digit count, or a byte other than 0-9 and A-F";
+    case PETSIVOLA_LONG_LINE: return "line of more than 32,768 bytes";
+    case PETSIVOLA_RECORD: return "record of a wrong length or form";
+    case PETSIVOLA_NO_FORM: return "code line not of the form that encoding needs";
+    case PETSIVOLA_MESSAGE: return "message length not N - M, or a symbol not below q";
+    case PETSIVOLA_SHORT_MARGINS: return "margin buffer too short";
+    case PETSIVOLA_SPENT: return "still running when the allowance was spent";
+    case PETSIVOLA_CHANNEL_COUNT: return "channel count not 1 to 8";
+    case PETSIVOLA_NO_ALLOWANCE: return "allowance 0";
+    case PETSIVOLA_SECOND_FRAME: return "second frame: wrong number of costs, or a column without a 0";
+    default: return "unknown number";
+    }
+}
+#endif
 
 #ifdef __cplusplus
 }

@@ -3,6 +3,7 @@
 mod buffers;
 mod channels;
 mod check;
+mod code_line;
 mod combine;
 mod decode;
 mod early;
@@ -24,6 +25,7 @@ use crate::tally::{Class, Tally};
 
 pub use channels::CHANNELS;
 pub use check::{CHECK, SWEEP};
+pub use code_line::CODE_LINE;
 pub use combine::COMBINE;
 pub use decode::DECODE;
 pub use early::EARLY;
@@ -34,8 +36,9 @@ pub use product::PRODUCT;
 pub use window::WINDOW;
 
 /// Every entry point.
-pub const ENTRY_POINTS: [EntryPoint; 12] = [
-    PRODUCT, CHECK, SWEEP, EXPAND, DISPLAY, LINE, DECODE, EARLY, ENCODE, WINDOW, CHANNELS, COMBINE,
+pub const ENTRY_POINTS: [EntryPoint; 13] = [
+    PRODUCT, CHECK, SWEEP, EXPAND, DISPLAY, LINE, CODE_LINE, DECODE, EARLY, ENCODE, WINDOW,
+    CHANNELS, COMBINE,
 ];
 
 /// An entry point and how it is compared.
@@ -74,9 +77,9 @@ impl EntryPoint {
     }
 
     /// Makes the calls that are few enough to be made all: every product, every line of two bytes, a check, a
-    /// sweep, an expansion, a display, a decoding, one that may stop inside an iteration, an encoding, several channels
-    /// and two frames combined with every first byte, the most updates, every write to a window, and every count of
-    /// channels.
+    /// sweep, an expansion, a display, a code line, a decoding, one that may stop inside an iteration, an encoding,
+    /// several channels and two frames combined with every first byte, every byte in every place of a code line and one
+    /// cut at every place, the most updates, every write to a window, and every count of channels.
     ///
     /// # Errors
     ///

@@ -22,8 +22,8 @@ pub mod programs;
 mod tally;
 
 pub use calls::{
-    EntryPoint, CHANNELS, CHECK, COMBINE, DECODE, DISPLAY, EARLY, ENCODE, ENTRY_POINTS, EXPAND,
-    LINE, PRODUCT, SWEEP, WINDOW,
+    EntryPoint, CHANNELS, CHECK, CODE_LINE, COMBINE, DECODE, DISPLAY, EARLY, ENCODE, ENTRY_POINTS,
+    EXPAND, LINE, PRODUCT, SWEEP, WINDOW,
 };
 pub use comparison::Difference;
 pub use tally::{Class, Tally};

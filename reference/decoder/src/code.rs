@@ -82,6 +82,12 @@ impl Code {
         line
     }
 
+    /// The edges of all checks together.
+    pub fn edges(&self) -> usize {
+        let degrees = self.checks.iter().map(|check| check.weights.len());
+        degrees.sum()
+    }
+
     /// "A frame is N times q costs, column by column."
     pub fn frame_length(&self) -> usize {
         self.n * self.field().size()

@@ -91,7 +91,51 @@ fn exactly_1024_edges_are_accepted() {
     let mut generator = Generator::new(31);
     for size in [Size::MOST_CHECKS, Size::MOST_DEGREE] {
         let code = code_line(&sample::code(&mut generator, &size).line).unwrap();
-        let edges: usize = code.checks.iter().map(|check| check.columns.len()).sum();
-        assert_eq!((edges, code.n, code.field().p()), (1_024, 256, 6));
+        assert_eq!((code.edges(), code.n, code.field().p()), (1_024, 256, 6));
     }
+}
+
+/// "The line is read front to back, each field once": six bytes, a degree byte for each check and three bytes for each
+/// edge, so that 3,206 bytes are the most.
+#[test]
+fn an_accepted_line_has_six_bytes_one_a_check_and_three_an_edge() {
+    let mut generator = Generator::new(32);
+    let mut longest = 0;
+    for round in 0..2_000 {
+        let size = match round % 50 {
+            0 => Size::FULL,
+            1 => Size::MOST_CHECKS,
+            2 => Size::MOST_DEGREE,
+            3..20 => Size::MEDIUM,
+            _ => Size::SMALL,
+        };
+        let line = sample::code(&mut generator, &size).line;
+        let damaged = sample::damaged_code(&mut generator, &line);
+        for line in [line, damaged] {
+            let Ok(code) = code_line(&line) else { continue };
+            assert_eq!(line.len(), 6 + code.m + 3 * code.edges());
+            assert_eq!(code.line(), line);
+            longest = longest.max(line.len());
+        }
+    }
+    assert_eq!(longest, 3_206);
+}
+
+/// The store's length by the edges: "d + 5(q - 1)" bytes for each record, with 1 + 2k in the place of 5.
+#[test]
+fn a_store_has_a_shift_an_edge_and_the_entries_of_each_check() {
+    let mut generator = Generator::new(33);
+    for size in [Size::SMALL, Size::MEDIUM, Size::FULL] {
+        for _ in 0..50 {
+            let code = code_line(&sample::code(&mut generator, &size).line).unwrap();
+            let of_check = (1 + 2 * code.rule().deviations()) * (code.field().size() - 1);
+            assert_eq!(code.store_length(), code.edges() + code.m * of_check);
+        }
+    }
+    let longest = sample::code(&mut generator, &Size::MOST_CHECKS).line;
+    let lengths = [0x06, 0x16, 0x26, 0x36].map(|first| {
+        let line = [&[first], &longest[1..]].concat();
+        code_line(&line).map(|code| code.store_length())
+    });
+    assert_eq!(lengths, [41_344, 41_344, 57_472, 57_472].map(Ok));
 }

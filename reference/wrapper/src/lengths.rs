@@ -33,6 +33,8 @@ pub const MOST_MESSAGE: usize = MOST_COLUMNS - 1;
 /// The longest used part of a store.
 pub const MOST_STORE: usize =
     MOST_EDGES + MOST_CHECKS * entry(MOST_DEVIATIONS) * (MOST_ELEMENTS - 1);
+/// The longest accepted code line.
+pub const MOST_CODE: usize = code(MOST_CHECKS, MOST_EDGES);
 /// The longest accepted text of a line: "more than 32,768 bytes" are refused.
 pub const MOST_LINE: usize = 32_768;
 
@@ -65,6 +67,12 @@ pub const fn record(first: u8, degree: usize) -> Option<usize> {
 /// The bytes of an expansion: "d times q unscaled bytes".
 pub const fn expansion(first: u8, degree: usize) -> Option<usize> {
     frame(first, degree)
+}
+
+/// The bytes of a code line: six, then one for the degree of each check and three for each edge.
+pub const fn code(checks: usize, edges: usize) -> usize {
+    let of_edges = edges.saturating_mul(3);
+    of_edges.saturating_add(checks).saturating_add(6)
 }
 
 /// The costs of a frame, and the used part of a cost buffer: "N times q costs".
@@ -114,6 +122,7 @@ mod tests {
         assert_eq!(message(2, 1), Some(1));
         assert_eq!(message(2, 2), None);
         assert_eq!(message(2, 3), None);
+        assert_eq!(code(1, 3), 16);
         // Two checks, of degree 3 and 4.
         for first in [0x03, 0x13, 0x23, 0x33] {
             let both = record(first, 3).zip(record(first, 4)).map(|(a, b)| a + b);
@@ -132,6 +141,7 @@ mod tests {
         assert_eq!(store(0x26, MOST_CHECKS, MOST_EDGES), Some(MOST_STORE));
         // As the header has them.
         assert_eq!((MOST_RECORD, MOST_STORE), (473, 57_472));
+        assert_eq!(MOST_CODE, 3_206);
         assert_eq!(record(6, MOST_DEGREE), Some(347));
         assert_eq!(store(6, MOST_CHECKS, MOST_EDGES), Some(41_344));
         // The longest frame fills the longest line.
@@ -150,6 +160,7 @@ mod tests {
                 assert_eq!(store(first, number, number).is_some(), accepted);
             }
         }
+        assert_eq!(code(usize::MAX, usize::MAX), usize::MAX);
     }
 
     #[test]

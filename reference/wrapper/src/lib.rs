@@ -8,7 +8,7 @@
 //!
 //! The first byte of a code line, which `check`, `sweep`, `expand` and `display` take too, gives the field, the number of
 //! deviations and the edition, sum or Min-Max: a [`Rule`] reads and composes it. [`lengths`] has the lengths
-//! that follow from it. `product` takes p alone.
+//! that follow from it, and a [`CodeLine`] those for a whole code line. `product` takes p alone.
 //!
 //! | call | fills | refusals, in order |
 //! |---|---|---|
@@ -17,7 +17,8 @@
 //! | [`sweep`] | the same record, by an engine that can be followed on paper | 6, 9, 11, 12, 13, 4 |
 //! | [`expand`] | the sent costs that a record stands for | 6, 9, 11, 16, 2 |
 //! | [`display`] | the symbols that a record urges its columns towards | 6, 9, 11, 16, 2 |
-//! | [`line`] | the bytes of a line of hexadecimal digits | 15, 14, 2 |
+//! | [`line`](line()) | the bytes of a line of hexadecimal digits | 15, 14, 2 |
+//! | [`code_line`](code_line()) | nothing; it answers a [`CodeLine`] | 5 to 11 |
 //! | [`decode`] | symbols, costs, records and margins of one frame | 5 to 11, 12, 13, 2, 3, 4, 19 |
 //! | [`decode_early`] | the same, stopped as soon as the symbols satisfy every check | 5 to 11, 12, 13, 2, 3, 4, 19 |
 //! | [`encode`] | the symbols of one message | 5 to 11, 17, 18, 2 |
@@ -49,6 +50,7 @@
 
 mod answer;
 pub mod channels;
+pub mod code_line;
 pub mod lengths;
 mod lent;
 mod library;
@@ -58,6 +60,7 @@ pub mod window;
 
 pub use answer::{Outcome, Stopped};
 pub use channels::{channels, Channel, Served};
+pub use code_line::{code_line, CodeLine};
 pub use lent::Lent;
 pub use refusal::Refusal;
 pub use rule::{Edition, Rule};

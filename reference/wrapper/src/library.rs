@@ -14,6 +14,7 @@
 mod declared;
 
 use crate::channels::Answer;
+use crate::code_line::Summary;
 use crate::lent::Lent;
 pub(crate) use declared::Registers;
 use declared::*;
@@ -91,6 +92,12 @@ pub(crate) fn line(text: &[u8], out: &mut [u8]) -> u32 {
     // SAFETY: each pointer and length come from one borrowed slice; `out`, the only one written,
     // does not overlap `text`.
     unsafe { petsivola_line(text.as_ptr(), text.len(), out.as_mut_ptr(), out.len()) }
+}
+
+pub(crate) fn code_line(code: &[u8]) -> Summary {
+    // SAFETY: pointer and length come from one borrowed slice, which is not written; the function answers with a struct
+    // of numbers, any of which they may be.
+    unsafe { petsivola_code_line(code.as_ptr(), code.len()) }
 }
 
 pub(crate) fn decode(

@@ -90,13 +90,18 @@ pub fn accepted_or_drawn(generator: &mut Generator, first: u8) -> u8 {
 
 /// Codes of a few columns with this accepted one.
 pub fn small_codes(first: u8) -> Size {
+    with_size(first, Size::SMALL)
+}
+
+/// Codes of a size with this accepted one.
+pub fn with_size(first: u8, size: Size) -> Size {
     let rule = Rule::new(first).expect("an accepted first byte");
     let (p, k, join) = (rule.field().p(), rule.deviations(), rule.join());
     Size {
         p: p..=p,
         k: k..=k,
         join: join..=join,
-        ..Size::SMALL
+        ..size
     }
 }
 

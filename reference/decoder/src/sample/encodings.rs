@@ -84,7 +84,7 @@ pub fn near_miss(generator: &mut Generator, code: &Code, miss: Miss) -> Option<C
     let first_parity = code.n - code.m;
     match miss {
         Miss::HigherColumn if code.m > 1 => {
-            let edges: usize = code.checks.iter().map(|check| check.columns.len()).sum();
+            let edges = code.edges();
             let place = generator.below(code.m - 1);
             let higher = generator.between(first_parity + place + 1..=code.n - 1);
             let weight = checks::weights(generator, code.field().p(), 1);

@@ -1,6 +1,7 @@
 //! What `include/petsivola.h` declares.
 
 use crate::channels::Answer;
+use crate::code_line::Summary;
 
 /// `struct petsivola_window`: the registers of a window from byte 1 on.
 #[derive(Clone, Copy, Debug, Default, PartialEq, Eq, Hash)]
@@ -62,6 +63,8 @@ extern "C" {
         out: *mut u8,
         out_len: usize,
     ) -> u32;
+
+    pub(super) fn petsivola_code_line(code: *const u8, code_len: usize) -> Summary;
 
     pub(super) fn petsivola_decode(
         code: *const u8,

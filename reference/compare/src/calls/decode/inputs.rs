@@ -59,6 +59,16 @@ pub fn with_other_deviations(code: &Code) -> Code {
     }
 }
 
+/// The line of a code whose last check has one edge more. With 1,024 edges before, "the edge total passes 1,024".
+pub fn line_with_edge_more(code: &Code) -> Vec<u8> {
+    let mut line = code.line();
+    let degree = code.checks.last().map_or(0, |check| check.weights.len());
+    let degree_place = line.len() - 3 * degree - 1;
+    line[degree_place] += 1;
+    line.extend([0, 0, 1]);
+    line
+}
+
 /// A code line, a frame or the frames of several channels, and the lengths of the symbol buffer, the cost buffer,
 /// the store and the margin buffer.
 pub struct Input {
@@ -136,7 +146,7 @@ impl Input {
     /// Damages one part so that the input is refused.
     pub fn damage_one(&mut self, generator: &mut Generator, code: &Code) {
         match generator.below(8) {
-            0 => self.damage_edge_total(code),
+            0 => self.line = line_with_edge_more(code),
             1 => {
                 let buffer = generator.below(4);
                 self.lengths[buffer] = code.lengths()[buffer] - 1;
@@ -152,13 +162,5 @@ impl Input {
                 }
             }
         }
-    }
-
-    /// Gives the last check one more edge. With 1,024 edges before, "the edge total passes 1,024".
-    fn damage_edge_total(&mut self, code: &Code) {
-        let degree = code.checks.last().map_or(0, |check| check.weights.len());
-        let degree_place = self.line.len() - 3 * degree - 1;
-        self.line[degree_place] += 1;
-        self.line.extend([0, 0, 1]);
     }
 }

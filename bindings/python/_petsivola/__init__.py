@@ -1,0 +1,1 @@
+"""The parts of the module petsivola, which is the one to import."""
