@@ -14,13 +14,13 @@ use Rattle.trellis.specs.Lists.{pick}
 use Rattle.trellis.specs.Reply.{foundIn, notFoundIn}
 use Rattle.machine.specs.CodeLine.{Code, size, frameFault}
 use Rattle.machine.specs.Machine.{none, State, lastOf, start, iteration, settled, records, used, held}
-use Rattle.machine.specs.Lent.{pass}
+use Rattle.machine.specs.Lent.{iterationLent}
 use Rattle.machine.specs.Decoding.{Buffers, holding, Room}
 use Rattle.machine.specs.Moments.{Moment, moment, stateAfter, further, gone}
 use Rattle.machine.specs.inner.Accepted.{GoodCode}
 use Rattle.machine.specs.inner.InRange.{Below}
 use Rattle.machine.proofs.Ranges.{frame-ranged}
-use Rattle.machine.proofs.Lent.{lentOf, held-none, held-end, pass-stands, Ready}
+use Rattle.machine.proofs.Lent.{lentOf, held-none, held-end, iteration-stands, Ready}
 use Rattle.machine.proofs.Buffers.{holding-again}
 use Rattle.machine.proofs.Resume.{at, Sound, iteration-sound}
 use Rattle.channels.specs.Channels.{after, finished, spentIn, answer, received}
@@ -58,9 +58,9 @@ module _ (C : Code) (G : GoodCode C) (f : List ℕ) (own : Buffers) (fits : fram
     where
       further-at : further C (s .t) (at C G own room s) ≡ lentOf C (own .store) (iteration C s)
       further-at =
-          ap (λ P. pass C (eqb (s .t) 0) (record { costs = P; store = held C (own .store) s }))
+          ap (λ P. iterationLent C (eqb (s .t) 0) (record { costs = P; store = held C (own .store) s }))
           (take-at (s .costs) (drop (C .columns * size C) (own .costs)) (C .columns * size C) (S .ranged .full))
-          ∙ pass-stands C G (own .store) (room .for-store) (eqb (s .t) 0) s (S .ready .kept) (S .ready .when)
+          ∙ iteration-stands C G (own .store) (room .for-store) (eqb (s .t) 0) s (S .ready .kept) (S .ready .when)
 
   -- its state after j iterations
   abbrev pub stateOf : ℕ → ℕ

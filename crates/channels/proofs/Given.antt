@@ -8,26 +8,27 @@ use native.Mathlib.Nat.{mul-le-mul, not-suc-le-zero, le-of-suc-le-suc}
 use native.Mathlib.Omega.{arith}
 use lib.Dec.{eqb, ltb}
 use borrow.Author.Tests.{ne-eqb, eqb-true, eqb-false, ltb-false, le-ltb}
-use lib.ListN.{length, getD, take, drop, length-take, replicate, length-map, getD-replicate}
+use lib.ListN.{length, getD, drop, replicate, length-map, getD-replicate}
 use Rattle.trellis.specs.Lists.{pick, upTo}
-use Rattle.trellis.specs.Rules.{firstOk, sizeOf}
 use Rattle.trellis.specs.Reply.{Reply}
 use Rattle.trellis.proofs.Places.{length-count}
 use Rattle.machine.specs.CodeLine.{good, Code, size, numbersOf, parse}
-use Rattle.machine.specs.inner.Tables.{Tabled}
 use Rattle.machine.specs.Decoding.{Buffers, lending}
 use Rattle.machine.proofs.Rooms.{used-high, costs-high}
 use Rattle.codeline.specs.declared.Header.{Header}
-use Rattle.codeline.specs.declared.Header.the-variants.{Read as HeaderRead, Refused as HeaderRefused}
+use Rattle.codeline.specs.declared.Header.the-variants.{Refused as HeaderRefused}
+use Rattle.codeline.specs.declared.Numbers.{Numbers}
+use Rattle.codeline.specs.inner.Coding.{codeOf, Coded}
 use Rattle.codeline.specs.Answers.{headerNumbers}
 use Rattle.codeline.proofs.Answered.{header-refused}
-use Rattle.layered.specs.inner.Frames.{roomFault, Coded}
-use Rattle.layered.proofs.Decoded.{coded-tables, degree-slice, few, used-is, read, coded}
+use Rattle.layered.specs.inner.Frames.{roomFault}
+use Rattle.layered.proofs.Runs.{checks-count}
+use Rattle.layered.proofs.Decoded.{used-is}
 use Rattle.channels.specs.declared.service.Layout.{Layout}
 use Rattle.channels.specs.Channels.{results, refusing, roomFaultFor, under, channels}
 use Rattle.channels.specs.inner.Rounds.{Standing, standing, roundsAt, loadedTo, RoomFor, Asked, Ends, replyBy, statusAt, countAt, Serves}
 use Rattle.channels.specs.Answers.{Gives}
-use Rattle.channels.specs.inner.Layouts.{LaidOut, Shaped, countFault, faultFor, FaultRoom, UnderRoom}
+use Rattle.channels.specs.inner.Layouts.{LayoutRoom, LaidOut, Shaped, countFault, faultFor, FaultRoom, UnderRoom}
 use Rattle.channels.proofs.Parts.{room-for}
 use Rattle.channels.proofs.Ends.{eight-end}
 use Rattle.channels.proofs.Quiet.{round-left}
@@ -134,9 +135,10 @@ module _ (C : Code) (z : Layout) (ds cs ws : List ℕ) (H : Shaped C z ds cs ws)
       E : Ends n A code fs b C (standing (replicate 8 0) (replicate 8 0) A b) l
       E = rw o (eight-end n A code fs b C asked)
 
-      pub spent-small : z .limit ≤ 255 → A - l .left ≤ 2040
+      pub spent-small : z .numbers .limit ≤ 255 → A - l .left ≤ 2040
       spent-small d =
-          let i : C .limit ≤ 255 = omega (arith, H .limit-is) in
+          let j : z .numbers .limit ≡ C .limit = ap (λ (D : Code). D .limit) (H .code-is) in
+          let i : C .limit ≤ 255 = omega arith in
           let m : n * C .limit ≤ 8 * 255 = mul-le-mul high i in
           omega (arith, E .spent-most)
 
@@ -161,55 +163,48 @@ module _ (C : Code) (z : Layout) (ds cs ws : List ℕ) (H : Shaped C z ds cs ws)
           }
 
 -- the layout of a code that is read
-shaped-of : (C : Code) (first n m g limit : ℕ) (ds cs ws : List ℕ) → Coded C first n m g limit ds cs ws → (z : Layout) → LaidOut first g limit n (take m ds) z
-    → Shaped C z (take m ds) cs ws
-shaped-of C first n m g limit ds cs ws H z L =
+shaped-of : (k : Numbers) (ds cs ws : List ℕ) → Coded k ds cs ws → (z : Layout) → LaidOut k ds z → Shaped (codeOf k ds cs ws) z ds cs ws
+shaped-of k ds cs ws T z L =
     record {
-      good = H .good;
-      tables = rw (L .first-is, L .scale-is) (coded-tables C first n m g limit ds cs ws H);
-      columns-is = L .columns-is ∙ H .columns-is;
-      limit-is = L .limit-is ∙ H .limit-is;
-      costs-is = L .costs-is ∙ ap₂ (λ a b. a * sizeOf b) (H .columns-is) (H .first-is);
-      store-is = L .store-is ∙ used-is C first n m g limit ds cs ws H;
+      coded = rw (L .numbers-is) T;
+      code-is = ap (λ k. codeOf k ds cs ws) (L .numbers-is);
+      good = T .good;
+      columns-is = L .columns-is;
+      costs-is = L .costs-is;
+      store-is = L .store-is ∙ used-is k ds cs ws T (k .columns) (k .checks) refl refl;
     }
 
--- what the reader's answer says of the line
-module _ (s₀ : List ℕ) (h : Header) (e : headerNumbers h ≡ numbersOf (parse s₀)) where
-  pub line-refused : (n A : ℕ) → 1 ≤ n → n ≤ 8 → 0 < A → (k : ℕ) → h ≡ HeaderRefused k → (fs : List ℕ) (b : Buffers) → channels n A s₀ fs b ≡ refusing k b
-  line-refused n A i j l k o fs b = passed-under n A s₀ fs b i j l ∙ ap (λ r. under r n A fs b) (header-refused s₀ h e k o)
+pub layout-asks : (k : Numbers) (ds cs ws : List ℕ) → Coded k ds cs ws → LayoutRoom k ds
+layout-asks k ds cs ws T =
+    record {
+      accepted = T .good .first;
+      columns = T .good .columns-high;
+      checks = omega (arith, checks-count k ds cs ws T, T .good .checks-high);
+      degrees = T .for-degrees;
+    }
 
-  -- with the numbers as wider ones
-  module _ (first n m g limit : ℕ) (i : h ≡ HeaderRead first n m g limit) (N M G : ℕ) (j : N ≡ n) (k : M ≡ m) (l : G ≡ g)
-      (ds cs ws : List ℕ) (T : (C : Code) → parse s₀ ≡ good C → Tabled C ds cs ws) where
-    H : Coded (read s₀ h e first n m g limit i .code) first N M G limit ds cs ws
-    H = coded s₀ h e first n m g limit i N M G j k l ds cs ws T
+-- a line that is refused
+pub line-refused : (s₀ : List ℕ) (h : Header) → headerNumbers h ≡ numbersOf (parse s₀) → (n A : ℕ) → 1 ≤ n → n ≤ 8 → 0 < A → (k : ℕ) → h ≡ HeaderRefused k
+    → (fs : List ℕ) (b : Buffers) → channels n A s₀ fs b ≡ refusing k b
+line-refused s₀ h e n A i j l k o fs b = passed-under n A s₀ fs b i j l ∙ ap (λ r. under r n A fs b) (header-refused s₀ h e k o)
 
-    pub degrees-inside : M ≤ length ds
-    degrees-inside = omega (arith, degree-slice _ first N M G limit ds cs ws H, length-take M ds)
+-- and one that says a code
+module _ (s₀ : List ℕ) (k : Numbers) (ds cs ws : List ℕ) (T : Coded k ds cs ws) (e : parse s₀ ≡ good (codeOf k ds cs ws)) (z : Layout) (L : LaidOut k ds z) where
+  pub under-room : (c A : ℕ) → 1 ≤ c → c ≤ 8 → 0 < A → (Q S : List ℕ) → 2048 ≤ length Q → 2048 ≤ length S → UnderRoom c A z ds cs ws Q S
+  under-room c A u v w Q S a b =
+      record {
+        code = codeOf k ds cs ws;
+        line = s₀;
+        parsed = e;
+        shaped = shaped-of k ds cs ws T z L;
+        low = u;
+        high = v;
+        some = w;
+        arrived = a;
+        sent = b;
+      }
 
-    pub layout-asks : (M ≤ length ds) × ((M ≤ 128) × ((firstOk first ≡ true) × (N ≤ 256)))
-    layout-asks =
-        let w = few _ first N M G limit ds cs ws H in
-        (degrees-inside, (omega (arith, degree-slice _ first N M G limit ds cs ws H, w .1 .1), (w .0, w .1 .0)))
-
-    module _ (z : Layout) (L : LaidOut first G limit N (take M ds) z) where
-      pub under-room : (c A : ℕ) → 1 ≤ c → c ≤ 8 → 0 < A → (Q S : List ℕ) → 2048 ≤ length Q → 2048 ≤ length S → UnderRoom c A z M ds cs ws Q S
-      under-room c A u v w Q S a b =
-          record {
-            code = read s₀ h e first n m g limit i .code;
-            line = s₀;
-            parsed = read s₀ h e first n m g limit i .parsed;
-            checks = degrees-inside;
-            shaped = shaped-of _ first N M G limit ds cs ws H z L;
-            low = u;
-            high = v;
-            some = w;
-            arrived = a;
-            sent = b;
-          }
-
-      pub line-gives : (c A : ℕ) (fs : List ℕ) (b : Buffers) (x y : ℕ) (p q : List ℕ) (b′ : Buffers)
-          → ((code : List ℕ) (C : Code) → parse code ≡ good C → Shaped C z (take M ds) cs ws → Gives (channels c A code fs b) x y p q b′)
-          → Gives (channels c A s₀ fs b) x y p q b′
-      line-gives c A fs b x y p q b′ W =
-          W s₀ (read s₀ h e first n m g limit i .code) (read s₀ h e first n m g limit i .parsed) (shaped-of _ first N M G limit ds cs ws H z L)
+  pub line-gives : (c A : ℕ) (fs : List ℕ) (b : Buffers) (x y : ℕ) (p q : List ℕ) (b′ : Buffers)
+      → ((code : List ℕ) (C : Code) → parse code ≡ good C → Shaped C z ds cs ws → Gives (channels c A code fs b) x y p q b′)
+      → Gives (channels c A s₀ fs b) x y p q b′
+  line-gives c A fs b x y p q b′ W = W s₀ (codeOf k ds cs ws) e (shaped-of k ds cs ws T z L)

@@ -1,6 +1,6 @@
 -- From a layout and the tables of a code to one channel's load and iteration in its parts of the buffers.
-use mathlib.Core.Path.{_≡_, refl, sym, ap, ap₂, _∙_}
-use mathlib.Core.Bool.{Bool, true, false, true≢false}
+use mathlib.Core.Path.{_≡_, refl, sym, ap, ap₂, subst, _∙_}
+use mathlib.Core.Bool.{Bool, true, false}
 use mathlib.Core.List.{List, _++_, append-nil}
 use Prim.Native.Nat.{ℕ, _+_, _-_, _*_, _≤_}
 use native.Mathlib.Nat.{add-sub-cancel-left}
@@ -10,22 +10,19 @@ use borrow.Author.Tests.{eq-eqb, ne-eqb, lt-leb}
 use lib.ListN.{length, take, drop, replicate, length-replicate, take-append-drop}
 use lib.Seq.{drop-length}
 use Rattle.trellis.specs.Lists.{pick, part, patch}
-use Rattle.trellis.specs.Rules.{sizeOf}
 use Rattle.machine.specs.CodeLine.{Code, size, frameFault}
 use Rattle.machine.specs.Machine.{symbols, margins, settled, used}
-use Rattle.machine.specs.Lent.{pass}
+use Rattle.machine.specs.Lent.{Lent, lent, iterationLent}
 use Rattle.machine.specs.Decoding.{Buffers, lending, holding}
 use Rattle.machine.specs.Moments.{Stage, moment, further}
-use Rattle.machine.specs.inner.InRange.{Below, Passable}
+use Rattle.machine.specs.inner.Accepted.{GoodCode}
+use Rattle.machine.specs.inner.InRange.{Below, Ranged, Passable}
 use Rattle.machine.proofs.Ranges.{part-patch, below-take, below-drop, frame-ranged}
-use Rattle.layered.specs.inner.Parity.{decisionsOf, marginsOf}
-use Rattle.layered.specs.inner.Passes.{graph, lent, passOver, testOn, Running}
+use Rattle.codeline.specs.inner.Coding.{codeOf}
 use Rattle.layered.specs.inner.Frames.{frameFaultOf}
 use Rattle.layered.specs.Answers.{ends}
 use Rattle.layered.specs.inner.Stages.{stageAfter, TestRoom}
 use Rattle.layered.specs.inner.Stages.{StepRoom as IterateRoom}
-use Rattle.layered.proofs.Passes.{symbols-are, margins-are, settled-is, tables-pass}
-use Rattle.layered.proofs.Steps.{tested-room}
 use Rattle.channels.specs.declared.service.Layout.{Layout}
 use Rattle.channels.specs.Channels.{frameOf, ownOf}
 use Rattle.channels.specs.inner.Rounds.{lentIn, statusOf, patchAt, loadAt, stepAt}
@@ -46,14 +43,8 @@ put-between : (l x : List ℕ) (w k : ℕ) → w ≡ k → (c : ℕ) → patch l
 put-between l x w k e c = rw (add-sub-cancel-left (c * w) w, e)
 
 module _ (C : Code) (z : Layout) (ds cs ws : List ℕ) (H : Shaped C z ds cs ws) where
-  settled-there : (P : List ℕ) → testOn (z .first) ds cs ws (C .columns) P ≡ settled C P
-  settled-there P = rw (H .tables .first-is, H .tables .degrees-is) (settled-is C cs ws (H .tables .columns) (H .tables .weights) P)
-
-  symbols-there : (P : List ℕ) → decisionsOf (sizeOf (z .first)) P (C .columns) ≡ symbols C P
-  symbols-there P = rw (H .tables .first-is) (symbols-are C cs ws (H .tables .columns) (H .tables .weights) P)
-
-  margins-there : (P : List ℕ) → marginsOf (sizeOf (z .first)) P (C .columns) ≡ margins C P
-  margins-there P = rw (H .tables .first-is) (margins-are C cs ws (H .tables .columns) (H .tables .weights) P)
+  limit-is : z .numbers .limit ≡ C .limit
+  limit-is = ap (λ (D : Code). D .limit) (H .code-is)
 
   -- what exact parts hold of costs P
   holds-exact : (P s : List ℕ) (own : Buffers) → Exact C own
@@ -157,28 +148,42 @@ module _ (C : Code) (z : Layout) (ds cs ws : List ℕ) (H : Shaped C z ds cs ws)
     module _ (t : ℕ) where
       -- an iteration may be made
       pub step-asks : Passable C (H .good) (eqb t 0) (lentIn (ownOf C b c)) → (A S : List ℕ) → 2048 ≤ length A → 2048 ≤ length S
-          → IterateRoom (graph (z .first) (z .scale) ds cs ws) (eqb t 0) costsAt storeAt symbolsAt marginsAt A S
+          → IterateRoom (z .numbers) ds cs ws (eqb t 0) costsAt storeAt symbolsAt marginsAt A S
       step-asks Pa A S i j =
-          rw (symbols-own, costs-own, store-own, margins-own)
-          record { pass = record { running = record { code = C; good = H .good; tables = H .tables; passable = Pa }; arrived = i; sent = j }; symbols = E .symbols; margins = E .margins ∙ sym (E .symbols) }
+          record {
+            iterate = record { running = record { coded = H .coded; passable = passable-own Pa }; arrived = i; sent = j };
+            symbols = count-symbols ∙ columns-numbers;
+            margins = count-margins ∙ columns-numbers;
+          }
+        where
+          columns-numbers : C .columns ≡ z .numbers .columns
+          columns-numbers = sym (ap (λ (D : Code). D .columns) (H .code-is))
+
+          there : Passable C (H .good) (eqb t 0) (lentIn (ownOf C b c)) → Passable C (H .good) (eqb t 0) (lent costsAt storeAt)
+          there Q = subst (λ (l : Lent). Passable C (H .good) (eqb t 0) l) (ap₂ lent (sym costs-own) (sym store-own)) Q
+
+          passable-own : Passable C (H .good) (eqb t 0) (lentIn (ownOf C b c)) → Passable (codeOf (z .numbers) ds cs ws) (H .coded .good) (eqb t 0) (lent costsAt storeAt)
+          passable-own Q =
+              subst (λ D. (G : GoodCode D) → Passable D G (eqb t 0) (lent costsAt storeAt)) (sym (H .code-is))
+              (λ G. record { ranged = there Q .ranged; room = there Q .room; formed = there Q .formed }) (H .coded .good)
 
       -- and what it leaves
       pub step-puts : (found : Bool) (P u x x′ : List ℕ)
-          → found ≡ testOn (z .first) ds cs ws (length symbolsAt) P
-          → lent P u ≡ passOver (graph (z .first) (z .scale) ds cs ws) (eqb t 0) (lent costsAt storeAt)
-          → x ≡ decisionsOf (sizeOf (z .first)) P (length symbolsAt) → x′ ≡ marginsOf (sizeOf (z .first)) P (length marginsAt)
-          → (e : Stage) → e ≡ stageAfter found (t + 1) (z .limit) → (r : ℕ) → r ≡ statusOf e
+          → found ≡ settled (codeOf (z .numbers) ds cs ws) P
+          → lent P u ≡ iterationLent (codeOf (z .numbers) ds cs ws) (eqb t 0) (lent costsAt storeAt)
+          → x ≡ symbols (codeOf (z .numbers) ds cs ws) P → x′ ≡ margins (codeOf (z .numbers) ds cs ws) P
+          → (e : Stage) → e ≡ stageAfter found (t + 1) (z .numbers .limit) → (r : ℕ) → r ≡ statusOf e
           → Puts C c b (stepAt C c t b) r (putBack x P u x′)
       unfolding stepAt
       step-puts found P u x x′ i p q q′ e j r k =
           let l₁ : lent P u ≡ further C t own =
-          p ∙ tables-pass C (z .first) (z .scale) ds cs ws (H .tables) (eqb t 0) (lent costsAt storeAt) ∙ ap₂ (λ a s. pass C (eqb t 0) (lent a s)) costs-own store-own ∙ sym (further-own C (H .good) t own E) in
-          let s₁ : found ≡ settled C P = i ∙ ap (λ k. testOn (z .first) ds cs ws k P) count-symbols ∙ settled-there P in
+          p ∙ ap (λ D. iterationLent D (eqb t 0) (lent costsAt storeAt)) (H .code-is) ∙ ap₂ (λ a s. iterationLent C (eqb t 0) (lent a s)) costs-own store-own ∙ sym (further-own C (H .good) t own E) in
+          let s₁ : found ≡ settled C P = i ∙ ap (λ D. settled D P) (H .code-is) in
           let m₁ : stepAt C c t b ≡ moment (pick (settled C P) 2 (pick (leb (C .limit) (t + 1)) 3 1)) 0 (t + 1) (lending (symbols C P) P u (margins C P)) =
           rw (← l₁) (ap (moment (pick (settled C P) 2 (pick (leb (C .limit) (t + 1)) 3 1)) 0 (t + 1)) (holds-exact P u own E)) in
-          let x₁ : x ≡ symbols C P = q ∙ ap (decisionsOf (sizeOf (z .first)) P) count-symbols ∙ symbols-there P in
-          let x₂ : x′ ≡ margins C P = q′ ∙ ap (marginsOf (sizeOf (z .first)) P) count-margins ∙ margins-there P in
-          rw m₁ record { status-is = k ∙ ap statusOf (j ∙ ends-there found (t + 1) (z .limit) P s₁ (H .limit-is)); buffers-are = put-there x P u x′ ∙ ap₂ (λ a d. patchAt C c b (lending a P u d)) x₁ x₂ }
+          let x₁ : x ≡ symbols C P = q ∙ ap (λ D. symbols D P) (H .code-is) in
+          let x₂ : x′ ≡ margins C P = q′ ∙ ap (λ D. margins D P) (H .code-is) in
+          rw m₁ record { status-is = k ∙ ap statusOf (j ∙ ends-there found (t + 1) (z .numbers .limit) P s₁ limit-is); buffers-are = put-there x P u x′ ∙ ap₂ (λ a d. patchAt C c b (lending a P u d)) x₁ x₂ }
 
     -- a load
     module _ (fs : List ℕ) (room : c * (C .columns * size C) + C .columns * size C ≤ length fs) where
@@ -191,11 +196,11 @@ module _ (C : Code) (z : Layout) (ds cs ws : List ℕ) (H : Shaped C z ds cs ws)
       frame-own : frameAt ≡ frameOf C fs c
       frame-own = between fs (z .costs) (C .columns * size C) (H .costs-is) c
 
-      fault-there : (f : List ℕ) → frameFaultOf (z .first) (z .columns) f ≡ frameFault C f
+      fault-there : (f : List ℕ) → frameFaultOf (z .numbers .first) (z .columns) f ≡ frameFault C f
       unfolding frameFaultOf frameFault
-      fault-there f = rw (H .tables .first-is, H .columns-is)
+      fault-there f = let i : z .numbers .first ≡ C .first = ap (λ (D : Code). D .first) (H .code-is) in rw (i, H .columns-is)
 
-      module _ (k : ℕ) (e : k ≡ frameFaultOf (z .first) (z .columns) frameAt) where
+      module _ (k : ℕ) (e : k ≡ frameFaultOf (z .numbers .first) (z .columns) frameAt) where
         fault-own : k ≡ frameFault C (frameOf C fs c)
         fault-own = e ∙ fault-there frameAt ∙ ap (frameFault C) frame-own
 
@@ -223,39 +228,33 @@ module _ (C : Code) (z : Layout) (ds cs ws : List ℕ) (H : Shaped C z ds cs ws)
               rw (d, part-patch (b .costs) f′ (c * z .costs) (z .costs) costs-inside frame-full) (i ∙ frame-own)
 
           -- the test may be made
-          pub load-asks : Below 255 fs → TestRoom (z .first) ds cs ws copiedAt symbolsAt marginsAt
+          pub load-asks : Below 255 fs → TestRoom (z .numbers) ds cs ws copiedAt symbolsAt marginsAt
           load-asks bytes =
-              let s : List ℕ = replicate (used C) 0 in
-              let R : Running (graph (z .first) (z .scale) ds cs ws) true copiedAt s =
+              let R : Ranged C copiedAt =
+              rw copied-is (frame-ranged C (frameOf C fs c) (sym fault-own ∙ h) (below-take 255 (C .columns * size C) _ (below-drop 255 (c * (C .columns * size C)) fs bytes))) in
+              let n : C .columns ≡ z .numbers .columns = sym (ap (λ (D : Code). D .columns) (H .code-is)) in
               record {
-                code = C;
-                good = H .good;
-                tables = H .tables;
-                passable = record {
-                  ranged = rw copied-is (frame-ranged C (frameOf C fs c) (sym fault-own ∙ h) (below-take 255 (C .columns * size C) _ (below-drop 255 (c * (C .columns * size C)) fs bytes)));
-                  room = omega (arith, length-replicate {A = ℕ} (used C) 0);
-                  formed = λ e. absurd (true≢false e);
-                };
-              } in
-              tested-room (z .first) (z .scale) ds cs ws copiedAt s true R symbolsAt marginsAt count-symbols (count-margins ∙ sym count-symbols)
+                settled = record { coded = H .coded; ranged = rw (H .code-is) R; symbols = count-symbols ∙ n };
+                margins = count-margins ∙ n;
+              }
 
           pub load-puts : (found : Bool) (x x′ : List ℕ)
-              → found ≡ testOn (z .first) ds cs ws (length symbolsAt) copiedAt
-              → x ≡ decisionsOf (sizeOf (z .first)) copiedAt (length symbolsAt) → x′ ≡ marginsOf (sizeOf (z .first)) copiedAt (length marginsAt)
-              → (e : Stage) → e ≡ stageAfter found 0 (z .limit) → (r : ℕ) → r ≡ statusOf e
+              → found ≡ settled (codeOf (z .numbers) ds cs ws) copiedAt
+              → x ≡ symbols (codeOf (z .numbers) ds cs ws) copiedAt → x′ ≡ margins (codeOf (z .numbers) ds cs ws) copiedAt
+              → (e : Stage) → e ≡ stageAfter found 0 (z .numbers .limit) → (r : ℕ) → r ≡ statusOf e
               → Puts C c b (loadAt C fs c b) r
               (lending (patch (b .symbols) (c * z .columns) (c * z .columns + z .columns - c * z .columns) x) copiedCosts (b .store)
               (patch (b .margins) (c * z .columns) (c * z .columns + z .columns - c * z .columns) x′))
           unfolding loadAt
           load-puts found x x′ o q q′ e j r l =
               let f : List ℕ = frameOf C fs c in
-              let s₁ : found ≡ settled C f = o ∙ ap₂ (λ k p. testOn (z .first) ds cs ws k p) count-symbols copied-is ∙ settled-there f in
+              let s₁ : found ≡ settled C f = o ∙ ap₂ settled (H .code-is) copied-is in
               let u : leb (C .limit) 0 ≡ false = lt-leb (C .limit) 0 (H .good .limit-low) in
-              let st : stageAfter found 0 (z .limit) ≡ ends (pick (settled C f) 2 1) 0 = ends-there found 0 (z .limit) f s₁ (H .limit-is) ∙ rw u in
+              let st : stageAfter found 0 (z .numbers .limit) ≡ ends (pick (settled C f) 2 1) 0 = ends-there found 0 (z .numbers .limit) f s₁ limit-is ∙ rw u in
               let m₁ : loadAt C fs c b ≡ moment (pick (settled C f) 2 1) 0 0 (lending (symbols C f) f (own .store) (margins C f)) =
               rw (← fault-own, eq-eqb k 0 h) (ap (moment (pick (settled C f) 2 1) 0 0) (holds-exact f (own .store) own E)) in
-              let x₁ : x ≡ symbols C f = q ∙ ap₂ (λ p k. decisionsOf (sizeOf (z .first)) p k) copied-is count-symbols ∙ symbols-there f in
-              let x₂ : x′ ≡ margins C f = q′ ∙ ap₂ (λ p k. marginsOf (sizeOf (z .first)) p k) copied-is count-margins ∙ margins-there f in
+              let x₁ : x ≡ symbols C f = q ∙ ap₂ symbols (H .code-is) copied-is in
+              let x₂ : x′ ≡ margins C f = q′ ∙ ap₂ margins (H .code-is) copied-is in
               let y : b .store ≡ patch (b .store) (c * used C) (used C) (own .store) = sym (patch-same (b .store) (c * used C) (used C)) in
               rw m₁
               record {

@@ -66,8 +66,10 @@ module _ (n : ℕ) (z : Layout) (ds cs ws : List ℕ) (l : Standing) (A S : List
       }
 
   -- its count has room for one more
-  pub count-low : countAt l c + 1 ≤ z .limit
-  count-low = rw (R .shaped .limit-is) (omega (arith, R .serves .below c h e))
+  pub count-low : countAt l c + 1 ≤ z .numbers .limit
+  count-low =
+      let i : z .numbers .limit ≡ R .code .limit = ap (λ (D : Code). D .limit) (R .shaped .code-is) in
+      rw i (omega (arith, R .serves .below c h e))
 
 -- after a serving there is room for the next one
 pub serve-next : (n : ℕ) (z : Layout) (ds cs ws : List ℕ) (l : Standing) (A S : List ℕ) → ServeRoom n z ds cs ws l A S → (c : ℕ) → c < n

@@ -14,13 +14,13 @@ use borrow.Author.Tests.{ne-eqb, eqb-true, leb-false}
 use Rattle.trellis.specs.Lists.{pick, upto}
 use Rattle.machine.specs.CodeLine.{Code, size, frameFault}
 use Rattle.machine.specs.Machine.{settled}
-use Rattle.machine.specs.Lent.{Lent, pass}
+use Rattle.machine.specs.Lent.{Lent, iterationLent}
 use Rattle.machine.specs.Decoding.{Buffers}
 use Rattle.machine.specs.Moments.{Moment, further, gone}
 use Rattle.machine.specs.inner.Accepted.{GoodCode}
 use Rattle.machine.specs.inner.InRange.{Below, Passable}
 use Rattle.machine.proofs.Ranges.{below-take, below-drop, frame-ranged}
-use Rattle.machine.proofs.Passing.{turns-before, pass-passable}
+use Rattle.machine.proofs.Passing.{updates-before, iteration-passable}
 use Rattle.machine.proofs.Buffers.{length-symbols, length-margins}
 use Rattle.channels.specs.Channels.{frameOf, ownOf}
 use Rattle.channels.specs.inner.Rounds.{opened, stepped, stepAt, statusOf, Standing, statusAt, countAt, loadedTo, movedAt, servingAt, roundAt, roundsAt, Rooms, lentIn, Serves}
@@ -60,20 +60,20 @@ module _ (C : Code) (G : GoodCode C) where
       }
 
   -- an iteration over a channel's own parts
-  pub further-own : (t : ℕ) (own : Buffers) → Exact C own → further C t own ≡ pass C (eqb t 0) (lentIn own)
-  further-own t own E = ap (λ P. pass C (eqb t 0) (record { costs = P; store = own .store })) (take-all (C .columns * size C) (own .costs) (omega (arith, E .costs)))
+  pub further-own : (t : ℕ) (own : Buffers) → Exact C own → further C t own ≡ iterationLent C (eqb t 0) (lentIn own)
+  further-own t own E = ap (λ P. iterationLent C (eqb t 0) (record { costs = P; store = own .store })) (take-all (C .columns * size C) (own .costs) (omega (arith, E .costs)))
 
   module _ (t : ℕ) (own : Buffers) (E : Exact C own) (P : Passable C G (eqb t 0) (lentIn own)) where
     now : Lent
-    now = pass C (eqb t 0) (lentIn own)
+    now = iterationLent C (eqb t 0) (lentIn own)
 
     now-passable : Passable C G false now
     unfolding now
-    now-passable = pass-passable C G (eqb t 0) (lentIn own) (P .ranged) (P .room)
+    now-passable = iteration-passable C G (eqb t 0) (lentIn own) (P .ranged) (P .room)
 
     now-store : length (now .store) ≡ length (own .store)
-    unfolding now pass
-    now-store = turns-before C G (eqb t 0) (lentIn own) (P .ranged) (P .room) (length (C .checks)) (omega arith) .room
+    unfolding now iterationLent
+    now-store = updates-before C G (eqb t 0) (lentIn own) (P .ranged) (P .room) (length (C .checks)) (omega arith) .room
 
     step-is : stepped C t own ≡ gone C (t + 1) now own
     unfolding now

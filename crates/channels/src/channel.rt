@@ -44,13 +44,13 @@ pub fn load_at(
     let b = a + z.columns;
     let d = c * z.costs;
     let e = d + z.costs;
-    let k = frame::frame_fault(z.first, z.columns, &frames[d..e]);
+    let k = frame::frame_fault(z.numbers.first, z.columns, &frames[d..e]);
     if k != 0 {
         return k;
     }
     frame::copy(&frames[d..e], &mut costs[d..e]);
     let found = stages::tested(
-        z.first,
+        z.numbers,
         degrees,
         columns,
         weights,
@@ -58,7 +58,7 @@ pub fn load_at(
         &mut symbols[a..b],
         &mut margins[a..b],
     );
-    status_of(stages::stage_after(found, 0, z.limit))
+    status_of(stages::stage_after(found, 0, z.numbers.limit))
 }
 
 // Its next iteration, after t.
@@ -86,8 +86,7 @@ pub fn step_at(
     let f = c * z.store;
     let g = f + z.store;
     let found = stages::iterated(
-        z.first,
-        z.scale,
+        z.numbers,
         t == 0,
         degrees,
         columns,
@@ -99,5 +98,5 @@ pub fn step_at(
         arrived,
         sent,
     );
-    status_of(stages::stage_after(found, num::wide(t) + 1, z.limit))
+    status_of(stages::stage_after(found, num::wide(t) + 1, z.numbers.limit))
 }

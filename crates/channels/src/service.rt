@@ -1,5 +1,6 @@
 // The channels in turn: all loaded, then rounds in which each that is running gets one iteration.
 use crate::channel;
+use codeline::Numbers;
 ghost use mathlib.Core.Path.{_≡_};
 ghost use mathlib.Core.List.{List};
 ghost use Prim.Native.Nat.{ℕ};
@@ -8,11 +9,9 @@ ghost use Rattle.machine.specs.Decoding.{lending};
 ghost use Rattle.channels.specs.inner.Rounds.{standing, servingAt, loadedTo, roundAt, roundsAt};
 ghost use Rattle.channels.specs.inner.Layouts.{Shaped, AllParts, LoadsRoom, OneRoom, ServeRoom};
 
-// The numbers of the code line that a channel needs, and the lengths of its parts: N, N times q, and the M record lengths added up.
+// The numbers of the code line, and the lengths of a channel's parts: N, N times q, and the M record lengths added up.
 pub struct Layout {
-    pub first: u8,
-    pub scale: u16,
-    pub limit: u8,
+    pub numbers: Numbers,
     pub columns: usize,
     pub costs: usize,
     pub store: usize,

@@ -3,19 +3,17 @@ use crate::Served;
 use crate::service;
 use crate::service::Layout;
 use codeline::Header;
+use codeline::Numbers;
 use layered::frame;
 use layered::num;
 ghost use mathlib.Core.Path.{_≡_};
-ghost use mathlib.Core.Bool.{true};
 ghost use mathlib.Core.List.{List};
-ghost use Prim.Native.Nat.{ℕ, _≤_};
-ghost use lib.ListN.{length, take};
-ghost use Rattle.trellis.specs.Rules.{firstOk};
+ghost use Prim.Native.Nat.{ℕ};
 ghost use Rattle.machine.specs.CodeLine.{good, Code, parse};
 ghost use Rattle.machine.specs.Decoding.{Buffers, lending};
 ghost use Rattle.channels.specs.Channels.{refusing, channels};
 ghost use Rattle.channels.specs.Answers.{Gives};
-ghost use Rattle.channels.specs.inner.Layouts.{Shaped, LaidOut, countFault, faultFor, FaultRoom, UnderRoom};
+ghost use Rattle.channels.specs.inner.Layouts.{Shaped, LayoutRoom, LaidOut, countFault, faultFor, FaultRoom, UnderRoom};
 
 // A refusal of the whole call.
 fn refused(k: u8) -> Served
@@ -45,20 +43,20 @@ fn count_fault(count: u8, allowance: u32) -> u8
     0
 }
 
-// The lengths of one channel's parts, where the code has m checks.
-fn layout_of(first: u8, scale: u16, limit: u8, columns: usize, m: usize, degrees: &[u8]) -> Layout
-    requires { ⌜ (m ≤ length (now degrees)) × ((m ≤ 128) × ((firstOk first ≡ true) × (columns ≤ 256))) ⌝ }
-    ensures { λ r. ⌜ LaidOut first scale limit columns (take m (now (degrees .entry))) r ⌝ }
+// The lengths of one channel's parts.
+fn layout_of(numbers: Numbers, degrees: &[u8]) -> Layout
+    requires { ⌜ LayoutRoom numbers (now degrees) ⌝ }
+    ensures { λ r. ⌜ LaidOut numbers (now (degrees .entry)) r ⌝ }
 {
-    let q = rules::size(first);
-    let store = frame::used(first, &degrees[..m]);
+    let n = num::long(numbers.columns);
+    let m = num::index(numbers.checks);
+    let q = rules::size(numbers.first);
+    let store = frame::used(numbers.first, &degrees[..m]);
     Layout {
-        first: first,
-        scale: scale,
-        limit: limit,
-        columns: columns,
-        costs: columns * q,
-        store: store,
+        numbers,
+        columns: n,
+        costs: n * q,
+        store,
     }
 }
 
@@ -95,7 +93,6 @@ fn under_code(
     count: usize,
     allowance: u32,
     z: Layout,
-    m: usize,
     degrees: &[u8],
     columns: &[u16],
     weights: &[u8],
@@ -107,8 +104,8 @@ fn under_code(
     arrived: &mut [u8],
     sent: &mut [u8],
 ) -> Served
-    requires { ⌜ UnderRoom count allowance z m (now degrees) (now columns) (now weights) (now arrived) (now sent) ⌝ }
-    ensures { λ r. ⌜ ((code : List ℕ) (C : Code) → parse code ≡ good C → Shaped C z (take m (now (degrees .entry))) (now (columns .entry)) (now (weights .entry)) → Gives (channels count allowance code (now (frames .entry)) (lending (now (symbols .entry)) (now (costs .entry)) (now (store .entry)) (now (margins .entry)))) (r .number) (r .spent) (r .status) (r .iterations) (lending (now (symbols .exit)) (now (costs .exit)) (now (store .exit)) (now (margins .exit)))) ⌝ }
+    requires { ⌜ UnderRoom count allowance z (now degrees) (now columns) (now weights) (now arrived) (now sent) ⌝ }
+    ensures { λ r. ⌜ ((code : List ℕ) (C : Code) → parse code ≡ good C → Shaped C z (now (degrees .entry)) (now (columns .entry)) (now (weights .entry)) → Gives (channels count allowance code (now (frames .entry)) (lending (now (symbols .entry)) (now (costs .entry)) (now (store .entry)) (now (margins .entry)))) (r .number) (r .spent) (r .status) (r .iterations) (lending (now (symbols .exit)) (now (costs .exit)) (now (store .exit)) (now (margins .exit)))) ⌝ }
 {
     let k = fault(
         count,
@@ -127,7 +124,7 @@ fn under_code(
     service::load_all(
         count,
         z,
-        &degrees[..m],
+        degrees,
         columns,
         weights,
         frames,
@@ -140,7 +137,7 @@ fn under_code(
         count,
         allowance,
         z,
-        &degrees[..m],
+        degrees,
         columns,
         weights,
         symbols,
@@ -184,23 +181,13 @@ pub fn decode_in(
     }
     match codeline::code_tables(code, degrees, columns, weights) {
         Header::Refused(k) => refused(k),
-        Header::Read {
-            first,
-            columns: n,
-            checks: m,
-            scale: g,
-            limit,
-        } => {
-            let n = num::long(n);
-            let m = num::index(m);
-            let g = num::wide(g);
-            let z = layout_of(first, g, limit, n, m, degrees);
+        Header::Read(numbers) => {
+            let z = layout_of(numbers, degrees);
             let count = num::index(count);
             under_code(
                 count,
                 allowance,
                 z,
-                m,
                 degrees,
                 columns,
                 weights,

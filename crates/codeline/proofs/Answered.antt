@@ -9,18 +9,19 @@ use Rattle.machine.specs.CodeLine.{Read, good, bad, Code, Numbers, numbersOf, p
 use Rattle.machine.specs.inner.Tables.{Tabled}
 use Rattle.codeline.specs.declared.Header.{Header}
 use Rattle.codeline.specs.declared.Header.the-variants.{Read as HeaderRead, Refused as HeaderRefused}
-use Rattle.codeline.specs.Answers.{headerNumbers, degreesOf, columnsOf, weightsOf, leftIn}
+use Rattle.codeline.specs.declared.Numbers.{Numbers as LineNumbers}
+use Rattle.codeline.specs.Answers.{numbersIn, headerNumbers, degreesOf, columnsOf, weightsOf, leftIn}
 use Rattle.codeline.specs.inner.Reading.{CountFits, checksIn, handed}
 
 -- the line is accepted, and these are the numbers of its code
-pub record Accepted (s : List ℕ) (first n m g limit : ℕ) : Type 0 where
+pub record Accepted (s : List ℕ) (k : LineNumbers) : Type 0 where
   pub code : Code
   pub parsed : parse s ≡ good code
-  pub first-is : first ≡ code .first
-  pub columns-is : n ≡ code .columns
-  pub checks-is : m ≡ length (code .checks)
-  pub scale-is : g ≡ code .scale
-  pub limit-is : limit ≡ code .limit
+  pub first-is : k .first ≡ code .first
+  pub columns-is : k .columns ≡ code .columns
+  pub checks-is : k .checks ≡ length (code .checks)
+  pub scale-is : k .scale ≡ code .scale
+  pub limit-is : k .limit ≡ code .limit
 
 module _ (s : List ℕ) (h : Header) (e : headerNumbers h ≡ numbersOf (parse s)) where
   pub header-refused : (k : ℕ) → h ≡ HeaderRefused k → parse s ≡ bad k
@@ -30,15 +31,12 @@ module _ (s : List ℕ) (h : Header) (e : headerNumbers h ≡ numbersOf (parse s
       go (good C) o = let z : _≡_ {A = ℕ} 0 1 = cc in absurd (omega arith)
       go (bad l) o = cc
 
-  pub header-read : (first n m g limit : ℕ) → h ≡ HeaderRead first n m g limit → Accepted s first n m g limit
-  header-read first n m g limit i = go (parse s) refl (sym e ∙ ap headerNumbers i)
+  pub header-read : (k : LineNumbers) → h ≡ HeaderRead k → Accepted s k
+  header-read k i = go (parse s) refl (sym e ∙ ap headerNumbers i)
     where
-      numbers : Numbers
-      numbers = record { first = first; columns = n; checks = m; scale = g; limit = limit }
-
-      go : (r : Read Code) → parse s ≡ r → numbersOf r ≡ good numbers → Accepted s first n m g limit
+      go : (r : Read Code) → parse s ≡ r → numbersOf r ≡ good (numbersIn k) → Accepted s k
       go (good C) j o =
-          let v : record { first = C .first; columns = C .columns; checks = length (C .checks); scale = C .scale; limit = C .limit } ≡ numbers = cc in
+          let v : record { first = C .first; columns = C .columns; checks = length (C .checks); scale = C .scale; limit = C .limit } ≡ numbersIn k = cc in
           record {
             code = C;
             parsed = j;
@@ -51,25 +49,25 @@ module _ (s : List ℕ) (h : Header) (e : headerNumbers h ≡ numbersOf (parse s
       go (bad l) j o = let z : _≡_ {A = ℕ} 0 1 = cc in absurd (omega arith)
 
 -- entries handed over, where the line is accepted
-pub handed-is : (h : Header) (f n m g l : ℕ) → h ≡ HeaderRead f n m g l → (count k : ℕ) (from to : List ℕ) {r : List ℕ} → k ≡ count → r ≡ take k from → r ++ drop k to ≡ handed h count from to
-handed-is h f n m g l e count k from to i o = rw (e, o, i) refl
+pub handed-is : (h : Header) (k : LineNumbers) → h ≡ HeaderRead k → (count j : ℕ) (from to : List ℕ) {r : List ℕ} → j ≡ count → r ≡ take j from → r ++ drop j to ≡ handed h count from to
+handed-is h k e count j from to i o = rw (e, o, i) refl
 
 -- and what that leaves
 pub left-is : (s : List ℕ) (h : Header) → headerNumbers h ≡ numbersOf (parse s) → (f : Code → List ℕ) (count : ℕ) (from to : List ℕ) {r : List ℕ} → ((C : Code) → parse s ≡ good C → (count ≤ length from) × (take count from ≡ f C))
     → r ≡ handed h count from to → r ≡ leftIn f (parse s) to
 left-is s h e f count from to {r} t o = go h refl (parse s) refl e
   where
-    go : (k : Header) → h ≡ k → (y : Read Code) → parse s ≡ y → headerNumbers h ≡ numbersOf y → r ≡ leftIn f y to
-    go (HeaderRead b n m g l) i (good C) j u =
+    go : (x : Header) → h ≡ x → (y : Read Code) → parse s ≡ y → headerNumbers h ≡ numbersOf y → r ≡ leftIn f y to
+    go (HeaderRead k) i (good C) j u =
         let q = t C j in
         let c : length (f C) ≡ count = ap length (sym (q .1)) ∙ length-take-le count from (q .0) in
         (rw i at o) ∙ rw (q .1, c) refl
-    go (HeaderRead b n m g l) i (bad x) j u = let z : _≡_ {A = ℕ} 0 1 = cc in absurd (omega arith)
+    go (HeaderRead k) i (bad x) j u = let z : _≡_ {A = ℕ} 0 1 = cc in absurd (omega arith)
     go (HeaderRefused x) i (good C) j u = let z : _≡_ {A = ℕ} 0 1 = cc in absurd (omega arith)
     go (HeaderRefused x) i (bad y) j u = rw i at o
 
 pub checks-small : (h : Header) (edges : ℕ) → CountFits h edges → checksIn h ≤ 128
-checks-small (HeaderRead b n m g l) edges f = f .0
+checks-small (HeaderRead k) edges f = f .0
 checks-small (HeaderRefused k) edges f = omega arith
 
 module _ (s : List ℕ) (h : Header) (e : headerNumbers h ≡ numbersOf (parse s)) (C : Code) (a : parse s ≡ good C) where
@@ -77,15 +75,15 @@ module _ (s : List ℕ) (h : Header) (e : headerNumbers h ≡ numbersOf (parse s
   edges-small edges l f i = go h refl (e ∙ ap numbersOf a)
     where
       go : (k : Header) → h ≡ k → headerNumbers h ≡ numbersOf (good C) → edges ≤ length l
-      go (HeaderRead b n m g j) o u = let r = rw o at f in omega (arith, r)
+      go (HeaderRead k) o u = let r = rw o at f in omega (arith, r)
       go (HeaderRefused k) o u = let z : _≡_ {A = ℕ} 0 1 = cc in absurd (omega arith)
 
   pub taken-degrees : (ds : List ℕ) → take (length (C .checks)) ds ≡ degreesOf C → take (checksIn h) ds ≡ degreesOf C
   taken-degrees ds t = ap (λ n. take n ds) (go h refl (e ∙ ap numbersOf a)) ∙ t
     where
       go : (k : Header) → h ≡ k → headerNumbers h ≡ numbersOf (good C) → checksIn h ≡ length (C .checks)
-      go (HeaderRead b n m g j) o u =
-          let v : _≡_ {A = Numbers} (record { first = b; columns = n; checks = m; scale = g; limit = j }) (record { first = C .first; columns = C .columns; checks = length (C .checks); scale = C .scale; limit = C .limit }) = cc in
+      go (HeaderRead k) o u =
+          let v : _≡_ {A = Numbers} (numbersIn k) (record { first = C .first; columns = C .columns; checks = length (C .checks); scale = C .scale; limit = C .limit }) = cc in
           rw o (ap (λ (a : Numbers). a .checks) v)
       go (HeaderRefused k) o u = let z : _≡_ {A = ℕ} 0 1 = cc in absurd (omega arith)
 

@@ -6,15 +6,16 @@ use Prim.Native.Nat.{ℕ, zero, suc, _+_, _-_, _*_, _≤_, _<_}
 use native.Mathlib.Numerals.{add-one}
 use native.Mathlib.Omega.{arith}
 use lib.Dec.{ltb, eqb}
-use lib.ListN.{length, take, getD, set, length-map}
+use lib.ListN.{length, take, drop, getD, set, length-map}
 use lib.Seq.{take-suc-set, length-take-le}
 use borrow.Author.Tests.{ltb-false, eq-eqb, ne-eqb, le-ltb, lt-leb}
 use Rattle.trellis.specs.Lists.{pick}
+use Rattle.trellis.specs.Refusals.{refusedBy}
 use Rattle.trellis.specs.Rules.{sizeOf, firstOk}
-use Rattle.machine.specs.CodeLine.{Read, good, bad, then, Edge, edge, wordAt, readEdge, Code, checks, parse, Numbers, numbersOf}
+use Rattle.machine.specs.CodeLine.{Read, good, bad, then, Edge, edge, wordAt, readEdge, Code, checks, headTests, parse, Numbers, numbersOf}
 use Rattle.machine.specs.inner.Tables.{flat, edgesInto, checkInto, Tables, tables, checksInto, tablesOf}
 use Rattle.machine.proofs.Tables.{pick-then, checks-into}
-use Rattle.codeline.specs.inner.Reading.{ByteAt, WordAt, Filled, isOutside, fromLimit, headOf}
+use Rattle.codeline.specs.inner.Reading.{ByteAt, WordAt, Filled, isOutside, numbersAt, headOf}
 use Rattle.codeline.specs.declared.reader.Field.{Field}
 
 -- a field read from where the one before it ended
@@ -69,6 +70,11 @@ unfolding checkInto
 check-past s at n q total d cs ws a e l h t r =
     simp (← e, lt-leb (length s) at a, le-ltb d 2 l, le-ltb 32 d h, le-ltb 1024 (total + d) t, le-ltb (length s - (at + 1)) (3 * d) r)
 
+-- two tests that refuse by one number
+pick-or : {A : Type 0} (a b : Bool) (x y : A) → pick (a || b) x y ≡ pick a x (pick b x y)
+pick-or true b x y = refl
+pick-or false b x y = refl
+
 -- a number that is not outside is at most the high one
 pub inside : (x low high : ℕ) → isOutside x low high ≡ false → x ≤ high
 inside x low high e = go (ltb x low) e
@@ -78,22 +84,23 @@ inside x low high e = go (ltb x low) e
     go false k = ltb-false high x k
 
 -- a test that the code made of x, which is y
-pub tested : {A : Type 0} (x y low high : ℕ) (r b : Bool) (u v : A) → r ≡ isOutside x low high → x ≡ y → r ≡ b → pick (isOutside y low high) u v ≡ pick b u v
-tested x y low high r b u v e i k = let o : isOutside y low high ≡ b = rw (← i) (sym e ∙ k) in ap (λ t. pick t u v) o
+pub tested : {A : Type 0} (x y low high : ℕ) (r b : Bool) (u v : A) → r ≡ isOutside x low high → x ≡ y → r ≡ b
+    → pick (ltb y low) u (pick (ltb high y) u v) ≡ pick b u v
+tested x y low high r b u v e i k =
+    let o : isOutside y low high ≡ b = rw (← i) (sym e ∙ k) in sym (pick-or (ltb y low) (ltb high y) u v) ∙ ap (λ t. pick t u v) o
 
 -- and the test of the first byte
 pub first-tested : {A : Type 0} (x y : ℕ) (r b : Bool) (u v : A) → r ≡ firstOk x → x ≡ y → not r ≡ b → pick (not (firstOk y)) u v ≡ pick b u v
 first-tested x y r b u v e i k = let o : not (firstOk y) ≡ b = rw (← i, ← e) k in ap (λ t. pick t u v) o
 
+-- what is left of the tests before the checks when j of them have passed
+abbrev pub headFrom : ℕ → List ℕ → Read Numbers
+headFrom j s = refusedBy (drop j (headTests s)) bad (good (numbersAt s))
+
 -- the numbers, past all tests
 pub head-read : (s : List ℕ) (f n m g i : ℕ) → f ≡ getD s 0 0 → n ≡ wordAt s 1 → m ≡ getD s 3 0 → g ≡ getD s 4 0 → i ≡ getD s 5 0 → 1 ≤ i
-    → good (record { first = f; columns = n; checks = m; scale = g; limit = i }) ≡ fromLimit s
+    → good (record { first = f; columns = n; checks = m; scale = g; limit = i }) ≡ headFrom 8 s
 head-read s f n m g i e₀ e₁ e₃ e₄ e₅ l = rw (e₀, e₁, e₃, e₄, e₅) (simp (le-ltb (getD s 5 0) 1 (omega arith)))
-
--- two tests that refuse by one number
-pick-or : {A : Type 0} (a b : Bool) (x y : A) → pick (a || b) x y ≡ pick a x (pick b x y)
-pick-or true b x y = refl
-pick-or false b x y = refl
 
 -- a code from its numbers and its checks
 abbrev coded : Numbers → List (List Edge) → Code
@@ -104,7 +111,7 @@ afterHead s h = then (checks (h .checks) s 6 (h .columns) (sizeOf (h .first)) 0)
 
 parse-head : (s : List ℕ) → parse s ≡ then (headOf s) (afterHead s)
 unfolding parse headOf
-parse-head s = sym (simp (pick-then, pick-or))
+parse-head s = sym (simp pick-then)
 
 pub head-bad : (s : List ℕ) (k : ℕ) → headOf s ≡ bad k → parse s ≡ bad k
 head-bad s k e = parse-head s ∙ ap (λ r. then r (afterHead s)) e

@@ -7,11 +7,15 @@ use Rattle.machine.specs.CodeLine.{Read, good, bad, Code, Numbers}
 use Rattle.machine.specs.Machine.{used}
 use Rattle.machine.specs.inner.Tables.{tablesOf}
 use Rattle.codeline.specs.declared.Summary.{Summary}
+use Rattle.codeline.specs.declared.Numbers.{Numbers as LineNumbers}
 use Rattle.codeline.specs.declared.Header.{Header}
 use Rattle.codeline.specs.declared.Header.the-variants.{Read as HeaderRead, Refused as HeaderRefused}
 
+abbrev pub numbersIn : LineNumbers → Numbers
+numbersIn k = record { first = k .first; columns = k .columns; checks = k .checks; scale = k .scale; limit = k .limit }
+
 abbrev pub headerNumbers : Header → Read Numbers
-headerNumbers (HeaderRead f n m g i) = good (record { first = f; columns = n; checks = m; scale = g; limit = i })
+headerNumbers (HeaderRead k) = good (numbersIn k)
 headerNumbers (HeaderRefused k) = bad k
 
 -- what a code line says to whoever lends the buffers: 0 or the number of its refusal, its numbers, and "as many bytes as the M record lengths add

@@ -1,8 +1,8 @@
 // The code line: its numbers, and its checks in tables.
 mod checks;
+mod head;
 mod lending;
 mod num;
-mod numbers;
 mod reader;
 mod tables;
 
@@ -10,15 +10,18 @@ ghost use mathlib.Core.Path.{_≡_};
 ghost use Rattle.machine.specs.CodeLine.{parse, numbersOf};
 ghost use Rattle.codeline.specs.Answers.{headerNumbers, summaryOf, Tells, degreesOf, columnsOf, weightsOf, leftIn};
 
-// The numbers of a code line, or the number of the refusal.
+// The numbers of a code line: the first byte, N, M, g and I.
+pub struct Numbers {
+    pub first: u8,
+    pub columns: u16,
+    pub checks: u8,
+    pub scale: u8,
+    pub limit: u8,
+}
+
+// They, or the number of the refusal.
 pub enum Header {
-    Read {
-        first: u8,
-        columns: u16,
-        checks: u8,
-        scale: u8,
-        limit: u8,
-    },
+    Read(Numbers),
     Refused(u8),
 }
 
@@ -51,20 +54,14 @@ pub fn describe(code: &[u8]) -> Summary
 {
     match code_line(code) {
         Header::Refused(k) => lending::refused(k),
-        Header::Read {
-            first,
-            columns,
-            checks,
-            scale,
-            limit,
-        } => Summary {
+        Header::Read(k) => Summary {
             number: 0,
-            first,
-            columns,
-            checks,
-            scale,
-            limit,
-            store: lending::store_length(first, checks, code.len()),
+            first: k.first,
+            columns: k.columns,
+            checks: k.checks,
+            scale: k.scale,
+            limit: k.limit,
+            store: lending::store_length(k.first, k.checks, code.len()),
         },
     }
 }

@@ -2,8 +2,8 @@
 use crate::Header;
 use crate::checks;
 use crate::checks::Checks;
+use crate::head;
 use crate::num;
-use crate::numbers;
 ghost use mathlib.Core.Path.{_≡_};
 ghost use lib.ListN.{length};
 ghost use Rattle.machine.specs.CodeLine.{Code, good, parse, numbersOf};
@@ -29,23 +29,17 @@ pub fn read(code: &[u8], degrees: &mut [u8], columns: &mut [u16], weights: &mut 
     ensures { λ r. ⌜ CountFits (r .header) (r .edges) ⌝ }
     ensures { λ r. ⌜ ((C : Code) → parse (now (code .entry)) ≡ good C → Filled C (now (degrees .exit)) (now (columns .exit)) (now (weights .exit)) (r .edges)) ⌝ }
 {
-    let f = numbers::head(code);
+    let f = head::head(code);
     let h = f.header;
-    let Header::Read {
-        first,
-        columns: n,
-        checks: m,
-        ..
-    } = h
-    else {
+    let Header::Read(k) = h else {
         return refused(h);
     };
-    let q = rules::size(first);
+    let q = rules::size(k.first);
     match checks::checks_at(
         code,
         f.next,
-        m as usize,
-        n as usize,
+        k.checks as usize,
+        k.columns as usize,
         q,
         degrees,
         columns,
@@ -76,8 +70,8 @@ pub fn hand_over(
     let h = r.header;
     match h {
         Header::Refused(_) => {}
-        Header::Read { checks: m, .. } => {
-            let m = num::index(m);
+        Header::Read(k) => {
+            let m = num::index(k.checks);
             let e = r.edges;
             num::copy(&ds[..m], &mut degrees[..m]);
             num::copy_words(&cs[..e], &mut columns[..e]);

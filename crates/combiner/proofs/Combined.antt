@@ -20,6 +20,7 @@ use Rattle.machine.proofs.Lines.{parse-good}
 use Rattle.machine.proofs.Ranges.{column-room, frame-fits}
 use Rattle.machine.proofs.Combining.{length-combined, fault-none}
 use Rattle.codeline.specs.declared.Header.{Header}
+use Rattle.codeline.specs.declared.Numbers.{Numbers}
 use Rattle.codeline.specs.declared.Header.the-variants.{Read as HeaderRead, Refused as HeaderRefused}
 use Rattle.codeline.specs.Answers.{headerNumbers}
 use Rattle.codeline.proofs.Answered.{Accepted, header-refused, header-read}
@@ -139,14 +140,14 @@ module _ (s : List ℕ) (h : Header) (e : headerNumbers h ≡ numbersOf (parse s
   unfolding combining
   line-refused k i = rw (header-refused s h e k i) (refl, refl)
 
-  module _ (byte n m t l : ℕ) (i : h ≡ HeaderRead byte n m t l) (N : ℕ) (j : N ≡ n) where
-    read : Accepted s byte n m t l
-    read = header-read s h e byte n m t l i
+  module _ (k : Numbers) (i : h ≡ HeaderRead k) (N : ℕ) (j : N ≡ k .columns) where
+    read : Accepted s k
+    read = header-read s h e k i
 
-    pub line-asks : (firstOk byte ≡ true) × (N ≤ 256)
+    pub line-asks : (firstOk (k .first) ≡ true) × (N ≤ 256)
     line-asks = let G = parse-good s (read .code) (read .parsed) in (ap firstOk (read .first-is) ∙ G .first, omega (arith, G .columns-high, read .columns-is))
 
-    pub line-is : combiningUnder (good (headed byte N)) f g out ≡ combining s f g out
+    pub line-is : combiningUnder (good (headed (k .first) N)) f g out ≡ combining s f g out
     unfolding combining combineFault frameFault
     line-is =
         ap₂ (λ a b. combiningUnder (good (headed a b)) f g out) (read .first-is) (j ∙ read .columns-is)

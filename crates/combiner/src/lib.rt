@@ -18,13 +18,9 @@ pub fn combine(code: &[u8], first: &[u8], second: &[u8], out: &mut [u8]) -> Writ
 {
     match codeline::code_line(code) {
         Header::Refused(k) => Written::Refused(k),
-        Header::Read {
-            first: byte,
-            columns: n,
-            ..
-        } => {
-            let n = num::long(n);
-            combining::under_code(byte, n, first, second, out)
+        Header::Read(numbers) => {
+            let n = num::long(numbers.columns);
+            combining::under_code(numbers.first, n, first, second, out)
         }
     }
 }

@@ -19,6 +19,7 @@ use Rattle.machine.specs.inner.Accepted.{GoodCode}
 use Rattle.machine.proofs.Lines.{parse-good}
 use Rattle.machine.proofs.Places.{count, degree-at, column-flat, weight-flat, sum-flat, all-columns, all-weights}
 use Rattle.machine.proofs.Encoding.{all-ext, lastOwn, encodable-last, more-columns, others-lower, encode-none}
+use Rattle.codeline.specs.declared.Numbers.{Numbers}
 use Rattle.codeline.specs.declared.Header.{Header}
 use Rattle.codeline.specs.declared.Header.the-variants.{Read as HeaderRead, Refused as HeaderRefused}
 use Rattle.codeline.specs.Answers.{headerNumbers}
@@ -164,13 +165,13 @@ module _ (s : List ℕ) (h : Header) (e : headerNumbers h ≡ numbersOf (parse s
   unfolding encoding
   line-refused k i u out = rw (header-refused s h e k i) (record { replies = refl; out-then = refl })
 
-  module _ (first n m g limit : ℕ) (i : h ≡ HeaderRead first n m g limit) where
-    read : Accepted s first n m g limit
-    read = header-read s h e first n m g limit i
+  module _ (f : Numbers) (i : h ≡ HeaderRead f) where
+    read : Accepted s f
+    read = header-read s h e f i
 
     -- with the numbers as wider ones
-    module _ (N M : ℕ) (j : N ≡ n) (k : M ≡ m) (ds cs ws : List ℕ) (T : (C : Code) → parse s ≡ good C → Tabled C ds cs ws) where
-      lined : Lined (read .code) first N M ds cs ws
+    module _ (N M : ℕ) (j : N ≡ f .columns) (k : M ≡ f .checks) (ds cs ws : List ℕ) (T : (C : Code) → parse s ≡ good C → Tabled C ds cs ws) where
+      lined : Lined (read .code) (f .first) N M ds cs ws
       lined =
           record {
             good = parse-good s (read .code) (read .parsed);
@@ -180,9 +181,9 @@ module _ (s : List ℕ) (h : Header) (e : headerNumbers h ≡ numbersOf (parse s
             tabled = T (read .code) (read .parsed);
           }
 
-      pub line-room : LineRoom first N M ds cs ws
+      pub line-room : LineRoom (f .first) N M ds cs ws
       line-room = record { code = read .code; lined = lined }
 
-      pub line-encodes : (u out : List ℕ) (r : Reply) (after : List ℕ) → LeavesLined first N M ds cs ws u out r after → Leaves (encoding s u out) r after
+      pub line-encodes : (u out : List ℕ) (r : Reply) (after : List ℕ) → LeavesLined (f .first) N M ds cs ws u out r after → Leaves (encoding s u out) r after
       unfolding encoding
       line-encodes u out r after L = rw (read .parsed) (L (read .code) lined)

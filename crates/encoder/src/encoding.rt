@@ -73,15 +73,19 @@ pub fn encode_in(
 {
     match codeline::code_tables(code, degrees, columns, weights) {
         Header::Refused(k) => Written::Refused(k),
-        Header::Read {
-            first,
-            columns: n,
-            checks: m,
-            ..
-        } => {
-            let n = num::long(n);
-            let m = num::index(m);
-            under_code(first, n, m, degrees, columns, weights, message, symbols)
+        Header::Read(numbers) => {
+            let n = num::long(numbers.columns);
+            let m = num::index(numbers.checks);
+            under_code(
+                numbers.first,
+                n,
+                m,
+                degrees,
+                columns,
+                weights,
+                message,
+                symbols,
+            )
         }
     }
 }

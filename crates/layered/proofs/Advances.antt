@@ -4,7 +4,7 @@ use mathlib.Core.Path.{_≡_, refl, sym, ap, ap₂, _∙_}
 use mathlib.Core.Bool.{Bool, true, false}
 use mathlib.Core.List.{List}
 use Prim.Native.Nat.{ℕ, zero, suc, _+_, _-_, _*_, _%_, _≤_, _<_}
-use native.Mathlib.Nat.{mod-lt, mod-eq-of-lt}
+use native.Mathlib.Nat.{mod-eq-of-lt}
 use native.Mathlib.Numerals.{add-one}
 use native.Mathlib.Omega.{arith}
 use lib.Dec.{eqb, ltb}
@@ -12,184 +12,174 @@ use lib.ListN.{length, getD, set}
 use borrow.Author.Tests.{eq-eqb, ne-eqb}
 use Rattle.trellis.specs.Lists.{pick, upto, tab}
 use Rattle.trellis.specs.Check.{decide}
-use Rattle.trellis.specs.Rules.{powerOf, sizeOf}
+use Rattle.trellis.specs.Rules.{sizeOf}
 use Rattle.machine.specs.CodeLine.{Code, size, check, edgeAt, columnOf}
-use Rattle.machine.specs.Machine.{found, notFound}
-use Rattle.machine.specs.Lent.{Lent, turn}
-use Rattle.machine.specs.inner.LentEarly.{halted, turnNext, stopLent}
-use Rattle.machine.specs.inner.Tables.{before}
-use Rattle.machine.proofs.Changed.{redone, redecided-lent}
+use Rattle.machine.specs.Machine.{found, notFound, symbols, settled}
+use Rattle.machine.specs.Lent.{Lent, lent, updateLent}
+use Rattle.machine.specs.inner.LentEarly.{halted, nextLent, stopLent}
+use Rattle.machine.specs.inner.Tables.{before, bytesBefore, tableAt}
 use Rattle.machine.specs.inner.InRange.{Advancing}
+use Rattle.trellis.proofs.Loops.{length-tab}
+use Rattle.machine.proofs.Changed.{redone, redecided-lent}
 use Rattle.machine.proofs.EarlyPassing.{next-check, check-small, advancing-start, advanced, next-formed}
-use Rattle.machine.proofs.Places.{same-length, weights-length, column-table}
+use Rattle.machine.proofs.InTables.{columns-length, degree-is, column-part}
+use Rattle.codeline.specs.declared.Numbers.{Numbers}
+use Rattle.codeline.specs.Answers.{numbersIn}
+use Rattle.codeline.specs.inner.Coding.{codeOf}
 use Rattle.layered.specs.declared.Stopped.the-variants.{Found, NotFound}
 use Rattle.layered.specs.declared.parity.CheckAt.{CheckAt}
 use Rattle.layered.specs.declared.place.Place.{Place}
-use Rattle.layered.specs.inner.Parity.{decisionsOf, EdgeOf}
-use Rattle.layered.specs.inner.Passes.{Graph, graph, lent, tableAt, placeAt, turnAt, settledOn, Tables, RunRoom}
+use Rattle.layered.specs.inner.Parity.{EdgeOf}
+use Rattle.layered.specs.inner.Iterations.{RunRoom}
 use Rattle.layered.specs.inner.Places.{Stands, Around, Updatable}
-use Rattle.layered.specs.inner.Early.{decidedAgain, RetestRoom, Retested, turnNextOn, stopOn, haltedIn, Unsettled, Going}
-use Rattle.layered.proofs.Passes.{upto-ext, tables-turn, tables-count, tables-settled}
+use Rattle.layered.specs.inner.Early.{decidedAgain, RetestRoom, Retested, haltedIn, Unsettled, Going}
 use Rattle.layered.proofs.Places.{stands-own}
-use Rattle.layered.proofs.Runs.{test-asks}
+use Rattle.layered.proofs.Satisfied.{symbols-are}
+use Rattle.layered.proofs.Runs.{checks-count}
+
+-- loops whose steps agree
+upto-ext : {A : Type 0} (n : ℕ) (f g : ℕ → A → A) (s : A) → ((k : ℕ) → k < n → (x : A) → f k x ≡ g k x) → upto f n s ≡ upto g n s
+upto-ext zero f g s h = refl
+upto-ext (suc n) f g s h = h n (omega arith) (upto f n s) ∙ ap (g n) (upto-ext n f g s (λ k i. h k (omega arith)))
 
 -- behind the last check the first comes again
-module _ (first : ℕ) (ds : List ℕ) (p r : Place) (A : Around (length ds) p r) where
+module _ (first : ℕ) (ds : List ℕ) (n : ℕ) (p r : Place) (A : Around n p r) where
   pub around-stands : Stands first ds (p .check) p → Stands first ds (r .check) r
-  unfolding placeAt
-  around-stands S = by (eqb (p .check) (length ds)) refl
+  unfolding bytesBefore
+  around-stands S = by (eqb (p .check) (n)) refl
     where
-      by : (b : Bool) → eqb (p .check) (length ds) ≡ b → Stands first ds (r .check) r
+      by : (b : Bool) → eqb (p .check) (n) ≡ b → Stands first ds (r .check) r
       by true e =
           let c : r .check ≡ 0 = A .check-is ∙ ap (λ b. pick b 0 (p .check)) e in
           record {
             check-is = refl;
             edge-is = A .edge-is ∙ ap (λ b. pick b 0 (p .edge)) e ∙ sym (ap (before ds) c);
-            byte-is = A .byte-is ∙ ap (λ b. pick b 0 (p .byte)) e ∙ sym (ap (placeAt first ds) c);
+            byte-is = A .byte-is ∙ ap (λ b. pick b 0 (p .byte)) e ∙ sym (ap (bytesBefore first ds) c);
           }
       by false e =
           let c : r .check ≡ p .check = A .check-is ∙ ap (λ b. pick b 0 (p .check)) e in
           record {
             check-is = refl;
             edge-is = A .edge-is ∙ ap (λ b. pick b 0 (p .edge)) e ∙ S .edge-is ∙ sym (ap (before ds) c);
-            byte-is = A .byte-is ∙ ap (λ b. pick b 0 (p .byte)) e ∙ S .byte-is ∙ sym (ap (placeAt first ds) c);
+            byte-is = A .byte-is ∙ ap (λ b. pick b 0 (p .byte)) e ∙ S .byte-is ∙ sym (ap (bytesBefore first ds) c);
           }
 
-  pub around-next : (u c : ℕ) → 0 < length ds → c ≡ u % length ds → p .check ≡ c + 1 → r .check ≡ (u + 1) % length ds
+  pub around-next : (u c : ℕ) → 0 < n → c ≡ u % n → p .check ≡ c + 1 → r .check ≡ (u + 1) % n
   around-next u c h e i =
-      let k : p .check ≡ u % length ds + 1 = i ∙ ap (λ n. n + 1) e in
-      A .check-is ∙ ap (λ n. pick (eqb n (length ds)) 0 n) k ∙ sym (next-check u (length ds) h) ∙ ap (λ n. n % length ds) (sym (add-one u))
+      let k : p .check ≡ u % n + 1 = i ∙ ap (λ j. j + 1) e in
+      A .check-is ∙ ap (λ j. pick (eqb j n) 0 j) k ∙ sym (next-check u n h) ∙ ap (λ j. j % n) (sym (add-one u))
 
 -- what is left of the updates, after u of them that have not satisfied every check
-module _ (T : Graph) (n most u : ℕ) (l l₀ : Lent) (not : settledOn T n (l .costs) ≡ false) (left : stopOn T n (most - u) u l ≡ stopOn T n most 0 l₀) where
-  pub stop-end : u ≡ most → halted notFound u l ≡ stopOn T n most 0 l₀
-  unfolding stopOn
+module _ (C : Code) (most u : ℕ) (l l₀ : Lent) (not : settled C (l .costs) ≡ false) (left : stopLent C (most - u) u l ≡ stopLent C most 0 l₀) where
+  pub stop-end : u ≡ most → halted notFound u l ≡ stopLent C most 0 l₀
+  unfolding stopLent
   stop-end e = let z : most - u ≡ 0 = omega arith in sym (rw (z, not)) ∙ left
 
-  module _ (h : u < most) (l′ : Lent) (o : l′ ≡ turnNextOn T u l) where
-    pub stop-more : stopOn T n (most - (u + 1)) (u + 1) l′ ≡ stopOn T n most 0 l₀
-    unfolding stopOn
-    stop-more = let z : most - u ≡ suc (most - (u + 1)) = omega arith in ap (stopOn T n (most - (u + 1)) (u + 1)) o ∙ sym (rw (z, not)) ∙ left
+  module _ (h : u < most) (l′ : Lent) (o : l′ ≡ nextLent C u l) where
+    pub stop-more : stopLent C (most - (u + 1)) (u + 1) l′ ≡ stopLent C most 0 l₀
+    unfolding stopLent
+    stop-more = let z : most - u ≡ suc (most - (u + 1)) = omega arith in ap (stopLent C (most - (u + 1)) (u + 1)) o ∙ sym (rw (z, not)) ∙ left
 
-    pub stop-found : settledOn T n (l′ .costs) ≡ true → halted found (u + 1) l′ ≡ stopOn T n most 0 l₀
-    unfolding stopOn
+    pub stop-found : settled C (l′ .costs) ≡ true → halted found (u + 1) l′ ≡ stopLent C most 0 l₀
+    unfolding stopLent
     stop-found e = sym (by (most - (u + 1))) ∙ stop-more
       where
-        by : (k : ℕ) → stopOn T n k (u + 1) l′ ≡ halted found (u + 1) l′
+        by : (k : ℕ) → stopLent C k (u + 1) l′ ≡ halted found (u + 1) l′
         by zero = rw e
         by (suc k) = rw e
 
-module _ (first g : ℕ) (ds cs ws P s z : List ℕ) (u : ℕ) (U : Unsettled (graph first g ds cs ws) u P s z) where
-  abbrev T : Graph
-  T = graph first g ds cs ws
-
+module _ (k : Numbers) (ds cs ws P s z : List ℕ) (u : ℕ) (U : Unsettled k ds cs ws u P s z) where
   abbrev C : Code
-  C = U .code
+  C = codeOf k ds cs ws
 
-  count : length ds ≡ length (C .checks)
-  count = tables-count C first g ds cs ws (U .tables)
+  many : length (C .checks) ≡ k .checks
+  many = checks-count k ds cs ws (U .coded)
 
-  pub some-check : 0 < length ds
-  some-check = omega (arith, count, U .good .checks-low)
+  pub some-check : 0 < k .checks
+  some-check = omega (arith, many, U .coded .good .checks-low)
 
   -- the next update
-  module _ (m : ℕ) (e : m ≡ u % length ds) (b : Bool) (i : b ≡ ltb u (length ds)) where
+  module _ (m : ℕ) (e : m ≡ u % k .checks) (b : Bool) (i : b ≡ ltb u (k .checks)) where
     here : m ≡ u % length (C .checks)
-    here = e ∙ ap (λ k. u % k) count
+    here = e ∙ ap (λ k. u % k) (sym many)
 
-    in-code : m < length (C .checks)
-    in-code = omega (arith, here, check-small C (U .good) u)
+    in-checks : m < length (C .checks)
+    in-checks = omega (arith, here, check-small C (U .coded .good) u)
 
-    pub next-updatable : Updatable T b m P s
+    in-code : m < k .checks
+    in-code = omega (arith, in-checks, many)
+
+    pub next-updatable : Updatable k ds cs ws b m P s
     next-updatable =
         record {
-          code = C;
-          good = U .good;
-          tables = U .tables;
+          coded = U .coded;
           in-code = in-code;
           ranged = U .advancing .ranged;
           room = U .advancing .room;
-          formed = λ f. rw here (next-formed C (U .good) u (lent P s) (U .advancing) (ap (ltb u) (sym count) ∙ sym i ∙ f));
+          formed = λ f. rw here (next-formed C (U .coded .good) u (lent P s) (U .advancing) (ap (ltb u) many ∙ sym i ∙ f));
         }
 
     -- and after it
-    module _ (P′ s′ : List ℕ) (o : lent P′ s′ ≡ turnAt T b m (lent P s)) where
-      pub next-on : lent P′ s′ ≡ turnNextOn T u (lent P s)
-      next-on = o ∙ ap₂ (λ a k. turnAt T a k (lent P s)) i e
+    module _ (P′ s′ : List ℕ) (o : lent P′ s′ ≡ updateLent C b m (lent P s)) where
+      pub as-next : lent P′ s′ ≡ nextLent C u (lent P s)
+      as-next = o ∙ ap₂ (λ a k. updateLent C a k (lent P s)) (i ∙ ap (ltb u) (sym many)) here
 
-      turned : lent P′ s′ ≡ turn C b m (lent P s)
-      turned = o ∙ tables-turn C first g ds cs ws (U .tables) b m in-code (lent P s)
-
-      as-next : lent P′ s′ ≡ turnNext C u (lent P s)
-      as-next = turned ∙ ap₂ (λ a k. turn C a k (lent P s)) (i ∙ ap (ltb u) count) here
-
-      next-advancing : Advancing C (U .good) (suc u) (lent P′ s′)
-      next-advancing = rw as-next (advanced C (U .good) u (lent P s) (U .advancing))
+      next-advancing : Advancing C (U .coded .good) (suc u) (lent P′ s′)
+      next-advancing = rw as-next (advanced C (U .coded .good) u (lent P s) (U .advancing))
 
       abbrev own : List ℕ
       own = tableAt ds cs m
 
       own-length : length own ≡ length (check C m)
       own-length =
-          ap (λ (d : List ℕ). length (tableAt d cs m)) (U .tables .degrees-is)
-          ∙ same-length C cs ws (U .tables .columns) (U .tables .weights) m in-code
-          ∙ weights-length C cs ws (U .tables .columns) (U .tables .weights) m in-code
+          columns-length (numbersIn k) ds cs ws (U .coded .for-columns) (U .coded .for-weights) m in-code
+          ∙ sym (degree-is (numbersIn k) ds cs ws (U .coded .for-columns) (U .coded .for-weights) m in-code)
 
-      own-column : (k : ℕ) → getD own k 0 ≡ edgeAt (check C m) k .column
-      own-column k = ap (λ (d : List ℕ). getD (tableAt d cs m) k 0) (U .tables .degrees-is) ∙ column-table C cs ws (U .tables .columns) (U .tables .weights) m in-code k
+      own-column : (n : ℕ) → getD own n 0 ≡ edgeAt (check C m) n .column
+      own-column = column-part (numbersIn k) ds cs ws (U .coded .for-columns) (U .coded .for-weights) m in-code
 
       -- its columns decided again give the decisions of the new costs
-      decided-at-code : decidedAgain (size C) P′ own (length own) (decisionsOf (size C) P (C .columns)) ≡ decisionsOf (size C) P′ (C .columns)
-      unfolding decidedAgain decisionsOf redone
-      decided-at-code =
-          let p : P′ ≡ turn C b m (lent P s) .costs = ap (λ (l : Lent). l .costs) turned in
-          ap (λ k. decidedAgain (size C) P′ own k (decisionsOf (size C) P (C .columns))) own-length
-          ∙ upto-ext (length (check C m)) _ _ _ (λ k h y. ap (λ c. set y c (decide (columnOf (size C) P′ c) .symbol)) (own-column k))
-          ∙ rw p (redecided-lent C (U .good) (λ (l : List ℕ). decide l .symbol) b (lent P s) (U .advancing .ranged) (U .advancing .room) m in-code)
-
-      decided-then : decidedAgain (sizeOf first) P′ own (length own) (decisionsOf (sizeOf first) P (length z)) ≡ decisionsOf (sizeOf first) P′ (length z)
+      decided-then : decidedAgain (size C) P′ own (length own) (symbols C P) ≡ symbols C P′
+      unfolding decidedAgain redone
       decided-then =
-          ap₂ (λ f n. decidedAgain (sizeOf f) P′ own (length own) (decisionsOf (sizeOf f) P n)) (U .tables .first-is) (U .symbols)
-          ∙ decided-at-code
-          ∙ sym (ap₂ (λ f n. decisionsOf (sizeOf f) P′ n) (U .tables .first-is) (U .symbols))
+          let p : P′ ≡ updateLent C b m (lent P s) .costs = ap (λ (l : Lent). l .costs) o in
+          ap (λ y. decidedAgain (size C) P′ own (length own) y) (sym (symbols-are k ds cs ws P))
+          ∙ ap (λ k. decidedAgain (size C) P′ own k (tab (λ c. decide (columnOf (size C) P c) .symbol) (C .columns))) own-length
+          ∙ upto-ext (length (check C m)) _ _ _ (λ k h y. ap (λ c. set y c (decide (columnOf (size C) P′ c) .symbol)) (own-column k))
+          ∙ rw p (redecided-lent C (U .coded .good) (λ (l : List ℕ). decide l .symbol) b (lent P s) (U .advancing .ranged) (U .advancing .room) m in-checks)
+          ∙ symbols-are k ds cs ws P′
 
-      pub next-retest : (p : Place) → p .check ≡ m → p .edge ≡ before ds (p .check) → (from : CheckAt) → EdgeOf ds from → from .check < length ds → RetestRoom first ds cs ws p from P′ z
-      next-retest p x y from v w =
+      pub next-retest : (p : Place) → p .check ≡ m → p .edge ≡ before ds (p .check) → (from : CheckAt) → EdgeOf ds from → from .check < k .checks
+          → (full : length z ≡ k .columns) → RetestRoom k ds cs ws p from P′ z
+      next-retest p x y from v w full =
           record {
-            settled = test-asks C (U .good) first g ds cs ws P′ (U .tables) (next-advancing .ranged) (powerOf first) refl z (U .symbols);
-            inside = omega (arith, x, in-code, count);
+            settled-room = record { coded = U .coded; ranged = next-advancing .ranged; symbols = full };
+            inside = omega (arith, x, in-code);
             edge-is = y;
             from-edge = v;
             from-inside = w;
             old = P;
             decided = U .decided;
             unsettled = U .unsettled;
-            again = ap (λ k. decidedAgain (sizeOf first) P′ (tableAt ds cs k) (length (tableAt ds cs k)) (decisionsOf (sizeOf first) P (length z))) x ∙ decided-then;
+            again = ap (λ k. decidedAgain (size C) P′ (tableAt ds cs k) (length (tableAt ds cs k)) (symbols C P)) x ∙ decided-then;
           }
 
       -- where they do not satisfy every check either
-      module _ (y : List ℕ) (d : y ≡ decisionsOf (sizeOf first) P′ (length z)) (full : length y ≡ length z) where
-        pub next-unsettled : settledOn T (length z) P′ ≡ false → Unsettled T (u + 1) P′ s′ y
-        next-unsettled f =
-            record {
-              code = C;
-              good = U .good;
-              tables = U .tables;
-              advancing = rw (add-one u) next-advancing;
-              symbols = full ∙ U .symbols;
-              decided = d ∙ ap (decisionsOf (sizeOf first) P′) (sym full);
-              unsettled = ap (λ k. settledOn T k P′) full ∙ f;
-            }
+      pub next-unsettled : (y : List ℕ) → y ≡ symbols C P′ → settled C P′ ≡ false → Unsettled k ds cs ws (u + 1) P′ s′ y
+      next-unsettled y d f = record { coded = U .coded; advancing = rw (add-one u) next-advancing; decided = d; unsettled = f }
 
--- one turn of the loop
-module _ (first g : ℕ) (ds cs ws : List ℕ) (n most : ℕ) (l₀ : Lent) where
-  abbrev D : Graph
-  D = graph first g ds cs ws
+  pub unsettled-full : length z ≡ k .columns
+  unsettled-full = ap length (U .decided ∙ sym (symbols-are k ds cs ws P)) ∙ length-tab (λ c. decide (columnOf (size C) P c) .symbol) (k .columns)
 
-  pub going-start : (P s z : List ℕ) → Unsettled D 0 P s z → length z ≡ n → lent P s ≡ l₀ → Going D n most l₀ 0 (record { check = 0; edge = 0; byte = 0 }) (record { check = 0; edge = 0 }) P s z
-  unfolding placeAt
-  going-start P s z U e i =
-      let h = some-check first g ds cs ws P s z 0 U in
+-- once around the loop
+module _ (k : Numbers) (ds cs ws : List ℕ) (most : ℕ) (l₀ : Lent) where
+  abbrev D : Code
+  D = codeOf k ds cs ws
+
+  pub going-start : (P s z : List ℕ) → Unsettled k ds cs ws 0 P s z → lent P s ≡ l₀ → Going k ds cs ws most l₀ 0 (record { check = 0; edge = 0; byte = 0 }) (record { check = 0; edge = 0 }) P s z
+  unfolding bytesBefore
+  going-start P s z U i =
+      let h = some-check k ds cs ws P s z 0 U in
       record {
         at-most = omega arith;
         check-is = sym (mod-eq-of-lt h);
@@ -197,83 +187,61 @@ module _ (first g : ℕ) (ds cs ws : List ℕ) (n most : ℕ) (l₀ : Lent) wher
         from-edge = refl;
         from-inside = h;
         unsettled = U;
-        symbols = e;
-        left = let z : most - 0 ≡ most = omega arith in ap₂ (λ k l. stopOn D n k 0 l) z i;
+        left = let z : most - 0 ≡ most = omega arith in ap₂ (λ k l. stopLent D k 0 l) z i;
       }
 
-  module _ (u : ℕ) (here : Place) (from : CheckAt) (P s z : List ℕ) (G : Going D n most l₀ u here from P s z) where
-    not-yet : settledOn D n P ≡ false
-    not-yet = ap (λ k. settledOn D k P) (sym (G .symbols)) ∙ G .unsettled .unsettled
+  module _ (u : ℕ) (here : Place) (from : CheckAt) (P s z : List ℕ) (G : Going k ds cs ws most l₀ u here from P s z) where
+    pub going-end : u ≡ most → haltedIn (NotFound u) (lent P s) ≡ stopLent D most 0 l₀
+    going-end e = stop-end D most u (lent P s) l₀ (G .unsettled .unsettled) (G .left) e
 
-    pub going-decided : z ≡ decisionsOf (sizeOf first) P n
-    going-decided = G .unsettled .decided ∙ ap (decisionsOf (sizeOf first) P) (G .symbols)
+    module _ (b : Bool) (i : b ≡ ltb u (k .checks)) where
+      pub going-updatable : Updatable k ds cs ws b (here .check) P s
+      going-updatable = next-updatable k ds cs ws P s z u (G .unsettled) (here .check) (G .check-is) b i
 
-    pub going-end : u ≡ most → haltedIn (NotFound u) (lent P s) ≡ stopOn D n most 0 l₀
-    going-end e = stop-end D n most u (lent P s) l₀ not-yet (G .left) e
+      module _ (P′ s′ : List ℕ) (o : lent P′ s′ ≡ updateLent D b (here .check) (lent P s)) where
+        pub going-retest : RetestRoom k ds cs ws here from P′ z
+        going-retest =
+            next-retest k ds cs ws P s z u (G .unsettled) (here .check) (G .check-is) b i P′ s′ o here refl (G .stands .edge-is) from (G .from-edge) (G .from-inside)
+            (unsettled-full k ds cs ws P s z u (G .unsettled))
 
-    module _ (b : Bool) (i : b ≡ ltb u (length ds)) where
-      pub going-updatable : Updatable D b (here .check) P s
-      going-updatable = next-updatable first g ds cs ws P s z u (G .unsettled) (here .check) (G .check-is) b i
+        module _ (h : u < most) (r : CheckAt) (R : Retested D ds P′ r) (n : ℕ) (all : n ≡ k .checks) where
+          on : lent P′ s′ ≡ nextLent D u (lent P s)
+          on = as-next k ds cs ws P s z u (G .unsettled) (here .check) (G .check-is) b i P′ s′ o
 
-      module _ (P′ s′ : List ℕ) (o : lent P′ s′ ≡ turnAt D b (here .check) (lent P s)) where
-        pub going-retest : RetestRoom first ds cs ws here from P′ z
-        going-retest = next-retest first g ds cs ws P s z u (G .unsettled) (here .check) (G .check-is) b i P′ s′ o here refl (G .stands .edge-is) from (G .from-edge) (G .from-inside)
+          checks-all : n ≡ length (D .checks)
+          checks-all = all ∙ sym (checks-count k ds cs ws (G .unsettled .coded))
 
-        module _ (h : u < most) (r : CheckAt) (R : Retested first ds cs ws (length z) P′ r) where
-          on : lent P′ s′ ≡ turnNextOn D u (lent P s)
-          on = next-on first g ds cs ws P s z u (G .unsettled) (here .check) (G .check-is) b i P′ s′ o
+          pub going-found : r .check ≡ n → haltedIn (Found (u + 1)) (lent P′ s′) ≡ stopLent D most 0 l₀
+          going-found e =
+              stop-found D most u (lent P s) l₀ (G .unsettled .unsettled) (G .left) h (lent P′ s′) on (sym (R .test-is) ∙ eq-eqb _ _ (e ∙ checks-all))
 
-          test-n : eqb (r .check) (length ds) ≡ settledOn D n P′
-          test-n = R .test-is ∙ ap (λ k. settledOn D k P′) (G .symbols)
-
-          pub going-found : r .check ≡ length ds → haltedIn (Found (u + 1)) (lent P′ s′) ≡ stopOn D n most 0 l₀
-          going-found e = stop-found D n most u (lent P s) l₀ not-yet (G .left) h (lent P′ s′) on (sym test-n ∙ eq-eqb _ _ e)
-
-          pub going-next : (r .check ≡ length ds → ⊥) → (next here′ : Place) → Stands first ds (here .check + 1) next → Around (length ds) next here′
-              → (y : List ℕ) → y ≡ decisionsOf (sizeOf first) P′ (length z) → length y ≡ length z → Going D n most l₀ (u + 1) here′ r P′ s′ y
-          going-next e next here′ S A y d full =
+          pub going-next : (r .check ≡ n → ⊥) → (next here′ : Place) → Stands (k .first) ds (here .check + 1) next → Around n next here′
+              → (y : List ℕ) → y ≡ symbols D P′ → Going k ds cs ws most l₀ (u + 1) here′ r P′ s′ y
+          going-next e next here′ S A y d =
+              let f : r .check ≡ length (D .checks) → ⊥ = λ i. e (i ∙ sym checks-all) in
               record {
                 at-most = omega arith;
-                check-is = around-next first ds next here′ A u (here .check) (some-check first g ds cs ws P s z u (G .unsettled)) (G .check-is) (S .check-is);
-                stands = around-stands first ds next here′ A (stands-own first ds _ next S);
+                check-is = around-next (k .first) ds (k .checks) next here′ (rw all at A) u (here .check) (some-check k ds cs ws P s z u (G .unsettled)) (G .check-is) (S .check-is);
+                stands = around-stands (k .first) ds n next here′ A (stands-own (k .first) ds _ next S);
                 from-edge = R .edge-is;
-                from-inside = omega (arith, R .high, e);
-                unsettled = next-unsettled first g ds cs ws P s z u (G .unsettled) (here .check) (G .check-is) b i P′ s′ o y d full (sym (R .test-is) ∙ ne-eqb _ _ e);
-                symbols = full ∙ G .symbols;
-                left = stop-more D n most u (lent P s) l₀ not-yet (G .left) h (lent P′ s′) on;
+                from-inside = omega (arith, R .high, f, checks-all, all);
+                unsettled = next-unsettled k ds cs ws P s z u (G .unsettled) (here .check) (G .check-is) b i P′ s′ o y d (sym (R .test-is) ∙ ne-eqb _ _ f);
+                left = stop-more D most u (lent P s) l₀ (G .unsettled .unsettled) (G .left) h (lent P′ s′) on;
               }
 
 -- the first test
-pub stop-first : (T : Graph) (n k u : ℕ) (l : Lent) → settledOn T n (l .costs) ≡ true → halted found u l ≡ stopOn T n k u l
-unfolding stopOn
-stop-first T n zero u l e = sym (rw e)
-stop-first T n (suc k) u l e = sym (rw e)
+pub stop-first : (C : Code) (k u : ℕ) (l : Lent) → settled C (l .costs) ≡ true → halted found u l ≡ stopLent C k u l
+unfolding stopLent
+stop-first C zero u l e = sym (rw e)
+stop-first C (suc k) u l e = sym (rw e)
 
-module _ (first g : ℕ) (ds cs ws P s z : List ℕ) (R : RunRoom (graph first g ds cs ws) true P s z) where
-  pub few-checks : length ds ≤ 128
-  few-checks = omega (arith, tables-count (R .running .code) first g ds cs ws (R .running .tables), R .running .good .checks-high)
-
-  pub first-unsettled : (y : List ℕ) → y ≡ decisionsOf (sizeOf first) P (length z) → length y ≡ length z → settledOn (graph first g ds cs ws) (length z) P ≡ false
-      → Unsettled (graph first g ds cs ws) 0 P s y
-  first-unsettled y d e f =
-      record {
-        code = R .running .code;
-        good = R .running .good;
-        tables = R .running .tables;
-        advancing = advancing-start (R .running .code) (R .running .good) (lent P s) (R .running .passable .ranged) (R .running .passable .room);
-        symbols = e ∙ R .symbols;
-        decided = d ∙ ap (decisionsOf (sizeOf first) P) (sym e);
-        unsettled = ap (λ k. settledOn (graph first g ds cs ws) k P) e ∙ f;
-      }
-
--- the whole run is the machine's
-module _ (C : Code) (first g : ℕ) (ds cs ws : List ℕ) (H : Tables C (graph first g ds cs ws)) (some : 0 < length (C .checks)) where
-  tables-next : (u : ℕ) (l : Lent) → turnNextOn (graph first g ds cs ws) u l ≡ turnNext C u l
-  tables-next u l =
-      let e : length ds ≡ length (C .checks) = tables-count C first g ds cs ws H in
-      ap (λ k. turnAt (graph first g ds cs ws) (ltb u k) (u % k) l) e ∙ tables-turn C first g ds cs ws H (ltb u (length (C .checks))) (u % length (C .checks)) (mod-lt u some) l
-
-  pub tables-stop : (k u : ℕ) (l : Lent) → stopOn (graph first g ds cs ws) (C .columns) k u l ≡ stopLent C k u l
-  unfolding stopOn stopLent
-  tables-stop zero u l = rw (tables-settled C first g ds cs ws H (l .costs))
-  tables-stop (suc k) u l = rw (tables-settled C first g ds cs ws H (l .costs), tables-next u l, tables-stop k (u + 1) (turnNext C u l))
+pub first-unsettled : (k : Numbers) (ds cs ws P s z A S : List ℕ) → RunRoom k ds cs ws true P s z A S → (y : List ℕ) → y ≡ symbols (codeOf k ds cs ws) P
+    → settled (codeOf k ds cs ws) P ≡ false → Unsettled k ds cs ws 0 P s y
+first-unsettled k ds cs ws P s z A S R y d f =
+    let r = R .iterate .running in
+    record {
+      coded = r .coded;
+      advancing = advancing-start (codeOf k ds cs ws) (r .coded .good) (lent P s) (r .passable .ranged) (r .passable .room);
+      decided = d;
+      unsettled = f;
+    }

@@ -8,8 +8,8 @@ use native.Mathlib.Numerals.{add-one}
 use native.Mathlib.Omega.{arith}
 use lib.Dec.{eqb, ltb}
 use borrow.Author.Tests.{eqb-true, eqb-false, ltb-false, eq-eqb, ne-eqb, lt-ltb, le-ltb}
-use lib.ListN.{length, getD, take, drop, length-map, length-replicate, getD-replicate}
-use lib.Seq.{ext-getD, take-at, drop-at}
+use lib.ListN.{length, getD, take, drop}
+use lib.Seq.{ext-getD, take-at, drop-at, length-take-le}
 use Rattle.trellis.specs.Lists.{tab, part, allTo, pick}
 use Rattle.trellis.specs.Check.{firstZero}
 use Rattle.trellis.specs.Rules.{firstOk, sizeOf}
@@ -17,29 +17,30 @@ use Rattle.trellis.proofs.Margins.{first-most}
 use Rattle.trellis.proofs.Loops.{tab-whole, length-tab, getD-tab}
 use Rattle.trellis.specs.Reply.{Reply, refusal}
 use Rattle.machine.specs.CodeLine.{Read, good, bad, Code, numbersOf, parse, size, columnOf, zeroIn, frameFault}
-use Rattle.machine.specs.Machine.{none as none′, Status, lastOf, symbols, margins, start, run, used}
-use Rattle.machine.specs.Lent.{Lent, Ended, ended, goLent}
+use Rattle.machine.specs.Machine.{Status, symbols, margins, run, place, used}
+use Rattle.machine.specs.Lent.{Lent, lent, Ended, ended, goLent}
 use Rattle.machine.specs.Decoding.{Buffers, After, lending, outcome, holding, storeOf, roomFault as faultOfRoom, admittedUnder, admitted, decodingUnder, decoding, Leaves, Decodes, Room}
-use Rattle.machine.specs.inner.Tables.{Tabled}
-use Rattle.machine.proofs.Lines.{parse-good}
+use Rattle.machine.specs.inner.Tables.{bytesBefore}
 use Rattle.machine.proofs.Ranges.{frame-ranged}
 use Rattle.machine.proofs.Buffers.{room-of}
-use Rattle.machine.proofs.Lent.{held-none, run-stands}
+use Rattle.machine.proofs.Lent.{run-stands}
+use Rattle.machine.proofs.InTables.{place-is, bytes-take}
 use Rattle.codeline.specs.declared.Header.{Header}
-use Rattle.codeline.specs.declared.Header.the-variants.{Read as HeaderRead, Refused as HeaderRefused}
-use Rattle.codeline.specs.Answers.{headerNumbers}
-use Rattle.codeline.proofs.Answered.{Accepted, header-refused, header-read}
+use Rattle.codeline.specs.declared.Header.the-variants.{Refused as HeaderRefused}
+use Rattle.codeline.specs.declared.Numbers.{Numbers}
+use Rattle.codeline.specs.Answers.{numbersIn, headerNumbers}
+use Rattle.codeline.specs.inner.Coding.{codeOf, Coded}
+use Rattle.codeline.proofs.Answered.{header-refused}
 use Rattle.layered.specs.declared.Outcome.{Outcome}
 use Rattle.layered.specs.declared.Outcome.the-variants.{Found, NotFound}
 use Rattle.layered.specs.declared.Answer.the-variants.{Decoded}
 use Rattle.layered.specs.Answers.{answerReply}
 use Rattle.machine.specs.inner.InRange.{Below}
-use Rattle.layered.specs.inner.Parity.{decisionsOf, marginsOf}
-use Rattle.layered.specs.inner.Passes.{graph, lent, placeAt, goOn, endedIn, Tables, RunRoom}
-use Rattle.layered.specs.inner.Frames.{frameFaultOf, roomFault, faultOf, decodingOf, Coded, CodeRoom}
+use Rattle.layered.specs.inner.Iterations.{endedIn, RunRoom}
+use Rattle.layered.specs.inner.Frames.{frameFaultOf, roomFault, faultOf, decodingOf}
 use Rattle.layered.proofs.Columns.{length-part}
 use Rattle.machine.proofs.Lists.{all-not}
-use Rattle.layered.proofs.Passes.{place-is, symbols-are, margins-are, tables-go}
+use Rattle.layered.proofs.Runs.{checks-count}
 
 -- the frame copied whole
 list-tab : (l : List ℕ) → tab (λ k. getD l k 0) (length l) ≡ l
@@ -87,7 +88,7 @@ module _ (first n : ℕ) (ds f : List ℕ) (y c s v k : ℕ) (e : k ≡ frameFau
   unfolding faultOf
   fault-frame h = e ∙ rw (ne-eqb (frameFaultOf first n f) 0 (λ z. h (e ∙ z)))
 
-  pub fault-room : k ≡ 0 → (w u r : ℕ) → w ≡ length f → u ≡ placeAt first ds (length ds) → r ≡ roomFault n w u y c s v → r ≡ faultOf first n ds f y c s v
+  pub fault-room : k ≡ 0 → (w u r : ℕ) → w ≡ length f → u ≡ bytesBefore first ds (length ds) → r ≡ roomFault n w u y c s v → r ≡ faultOf first n ds f y c s v
   unfolding faultOf
   fault-room h w u r i j o = o ∙ rw (i, j, frame-counted first n f (sym e ∙ h), eq-eqb (frameFaultOf first n f) 0 (sym e ∙ h))
 
@@ -122,105 +123,87 @@ reply-is : (o : Outcome) (l : Lent) (st : Status) (t : ℕ) (l′ : Lent) → en
 reply-is (Found u) l st t l′ e = (ap₂ outcome (ap (λ (x : Ended). x .status) e) (ap (λ (x : Ended). x .t) e), ap (λ (x : Ended). x .lent) e)
 reply-is (NotFound u) l st t l′ e = (ap₂ outcome (ap (λ (x : Ended). x .status) e) (ap (λ (x : Ended). x .t) e), ap (λ (x : Ended). x .lent) e)
 
-module _ (C : Code) (first n m g limit : ℕ) (ds cs ws : List ℕ) (H : Coded C first n m g limit ds cs ws) where
-  pub coded-tables : Tables C (graph first g (take m ds) cs ws)
-  coded-tables =
-      record {
-        first-is = H .first-is;
-        scale-is = H .scale-is;
-        degrees-is = ap (λ k. take k ds) (H .checks-is ∙ sym (length-map (C .checks) (λ es. length es))) ∙ H .tabled .degrees;
-        columns = H .tabled .columns;
-        weights = H .tabled .weights;
-      }
+-- a decoding over the tables of a code, of which n and m are N and M
+module _ (k : Numbers) (ds cs ws : List ℕ) (T : Coded k ds cs ws) (n m : ℕ) (N : n ≡ k .columns) (M : m ≡ k .checks) where
+  abbrev C : Code
+  C = codeOf k ds cs ws
 
-  pub degree-count : length (take m ds) ≡ length (C .checks)
-  degree-count = ap length (coded-tables .degrees-is) ∙ length-map (C .checks) (λ es. length es)
+  pub degrees-there : m ≤ length ds
+  degrees-there = omega (arith, T .for-degrees)
 
-  pub degree-slice : m ≡ length (take m ds)
-  degree-slice = H .checks-is ∙ sym degree-count
+  slice : length (take m ds) ≡ m
+  slice = length-take-le m ds degrees-there
 
-  pub few : (firstOk first ≡ true) × ((n ≤ 256) × (length (take m ds) ≤ 128))
-  few = rw (degree-count, H .first-is, H .columns-is) (H .good .first, (H .good .columns-high, H .good .checks-high))
+  pub few : (firstOk (k .first) ≡ true) × ((n ≤ 256) × (length (take m ds) ≤ 128))
+  few = (T .good .first, (omega (arith, T .good .columns-high), omega (arith, slice, checks-count k ds cs ws T, T .good .checks-high)))
 
-  pub used-is : placeAt first (take m ds) (length (take m ds)) ≡ used C
-  used-is = rw (degree-count, H .first-is, coded-tables .degrees-is) (place-is C cs ws (H .tabled .columns) (H .tabled .weights) (length (C .checks)))
-
-  symbols-there : (P : List ℕ) → decisionsOf (sizeOf first) P n ≡ symbols C P
-  symbols-there P = rw (H .columns-is, H .first-is) (symbols-are C cs ws (H .tabled .columns) (H .tabled .weights) P)
-
-  margins-there : (P : List ℕ) → marginsOf (sizeOf first) P n ≡ margins C P
-  margins-there P = rw (H .columns-is, H .first-is) (margins-are C cs ws (H .tabled .columns) (H .tabled .weights) P)
+  pub used-is : bytesBefore (k .first) (take m ds) (length (take m ds)) ≡ used C
+  used-is =
+      ap (bytesBefore (k .first) (take m ds)) slice
+      ∙ bytes-take (k .first) ds m m (omega arith)
+      ∙ ap (bytesBefore (k .first) ds) M
+      ∙ place-is (numbersIn k) ds cs ws (T .for-columns) (T .for-weights) (k .checks) (omega arith)
+      ∙ ap (place C) (sym (checks-count k ds cs ws T))
 
   -- what the buffers hold of costs P and a store u
-  pub holds-then : (P u s y c v x x′ : List ℕ) (w : ℕ) → w ≡ C .columns * size C → x ≡ decisionsOf (sizeOf first) P n → x′ ≡ marginsOf (sizeOf first) P n
+  pub holds-then : (P u s y c v x x′ : List ℕ) (w : ℕ) → w ≡ C .columns * size C → x ≡ symbols C P → x′ ≡ margins C P
       → lending (x ++ drop n y) (P ++ drop w c) u (x′ ++ drop n v) ≡ holding C P u (lending y c s v)
-  holds-then P u s y c v x x′ w e i j = rw (i, j, symbols-there P, margins-there P, e, H .columns-is)
+  holds-then P u s y c v x x′ w e i j = rw (i, j, e, N)
 
-  module _ (f y c s v : List ℕ) (k : ℕ) (e : k ≡ faultOf first n (take m ds) f (length y) (length c) (length s) (length v)) where
+  module _ (f y c s v : List ℕ) (r : ℕ) (e : r ≡ faultOf (k .first) n (take m ds) f (length y) (length c) (length s) (length v)) where
     abbrev b : Buffers
     b = lending y c s v
 
-    pub fault-is : k ≡ faultIn C f b
+    pub fault-is : r ≡ faultIn C f b
     unfolding faultOf frameFaultOf frameFault roomFault faultOfRoom
-    fault-is = e ∙ rw (used-is, H .first-is, H .columns-is)
+    fault-is = e ∙ rw (used-is, N)
 
     -- a refusal, of decoding or of a call that refuses as decoding does
-    pub refused-leaves : (call : Read Code → After) → call (bad k) ≡ record { reply = refusal k; buffers = b } → (k ≡ 0 → ⊥) → Leaves (call (admittedUnder (good C) f b)) (refusal k) b
+    pub refused-leaves : (call : Read Code → After) → call (bad r) ≡ record { reply = refusal r; buffers = b } → (r ≡ 0 → ⊥) → Leaves (call (admittedUnder (good C) f b)) (refusal r) b
     refused-leaves call i h =
-        let x : call (admittedUnder (good C) f b) ≡ record { reply = refusal k; buffers = b } = let q : call (admittedUnder (good C) f b) ≡ call (bad k) = by-fault C f b call ∙ rw (← fault-is, ne-eqb k 0 h) in q ∙ i in
+        let x : call (admittedUnder (good C) f b) ≡ record { reply = refusal r; buffers = b } = let q : call (admittedUnder (good C) f b) ≡ call (bad r) = by-fault C f b call ∙ rw (← fault-is, ne-eqb r 0 h) in q ∙ i in
         rw x record { replies = refl; symbols-then = refl; costs-then = refl; store-then = refl; margins-then = refl }
 
     -- no refusal
-    module _ (z : k ≡ 0) where
+    module _ (z : r ≡ 0) where
       pub none : (frameFault C f ≡ 0) × (faultOfRoom C b ≡ 0)
       none = split-fault (frameFault C f) _ (sym fault-is ∙ z)
 
       pub rooms : Room C b
       rooms = room-of C b (none .1)
 
-      pub frame-length : length f ≡ n * sizeOf first
+      pub frame-length : length f ≡ C .columns * size C
       unfolding frameFaultOf frameFault
-      frame-length = rw (H .first-is, H .columns-is) (frame-counted (C .first) (C .columns) f (none .0))
+      frame-length = frame-counted (k .first) (k .columns) f (none .0)
 
       -- the buffers have room
       pub fits : (n ≤ length y) × ((length f ≤ length c) × (n ≤ length v))
-      fits = rw (frame-length, H .first-is, H .columns-is) (rooms .for-symbols, (rooms .for-costs, rooms .for-margins))
+      fits = rw (frame-length, N) (rooms .for-symbols, (rooms .for-costs, rooms .for-margins))
 
       -- the run starts on the frame with no record
-      pub start-room : Below 255 f → (P x : List ℕ) → P ≡ f → length x ≡ n → RunRoom (graph first g (take m ds) cs ws) true P s x
-      start-room d P x i l =
+      pub start-room : Below 255 f → (P x A S : List ℕ) → P ≡ f → length x ≡ n → 2048 ≤ length A → 2048 ≤ length S → RunRoom k ds cs ws true P s x A S
+      start-room d P x A S i l p q =
           record {
-            running = record {
-              code = C;
-              good = H .good;
-              tables = coded-tables;
-              passable = rw i record { ranged = frame-ranged C f (none .0) d; room = rooms .for-store; formed = λ e. absurd (true≢false e) };
+            iterate = record {
+              running = record {
+                coded = T;
+                passable = rw i record { ranged = frame-ranged C f (none .0) d; room = rooms .for-store; formed = λ e. absurd (true≢false e) };
+              };
+              arrived = p;
+              sent = q;
             };
-            symbols = l ∙ H .columns-is;
+            symbols = l ∙ N;
           }
 
-      -- a call that replies r and whose run leaves the costs P and the store u leaves these, and the decisions and margins of P
-      module _ (call : Read Code → After) (r : Reply) (P u x x′ : List ℕ) where
-        pub holds-leaves : call (good C) ≡ record { reply = r; buffers = holding C P u b } → x ≡ decisionsOf (sizeOf first) P n → x′ ≡ marginsOf (sizeOf first) P n
-            → Leaves (call (admittedUnder (good C) f b)) r (lending (x ++ drop n y) (P ++ drop (length f) c) u (x′ ++ drop n v))
+      -- a call that replies o and whose run leaves the costs P and the store u leaves these, and the decisions and margins of P
+      module _ (call : Read Code → After) (o : Reply) (P u x x′ : List ℕ) where
+        pub holds-leaves : call (good C) ≡ record { reply = o; buffers = holding C P u b } → x ≡ symbols C P → x′ ≡ margins C P
+            → Leaves (call (admittedUnder (good C) f b)) o (lending (x ++ drop n y) (P ++ drop (length f) c) u (x′ ++ drop n v))
         holds-leaves i j j′ =
-            let w : length f ≡ C .columns * size C = frame-length ∙ ap₂ (λ a b. a * sizeOf b) (H .columns-is) (H .first-is) in
-            let d : call (admittedUnder (good C) f b) ≡ record { reply = r; buffers = holding C P u b } = let q : call (admittedUnder (good C) f b) ≡ call (good C) = by-fault C f b call ∙ rw (← fault-is, eq-eqb k 0 z) in q ∙ i in
-            rw (d, holds-then P u s y c v x x′ (length f) w j j′) record { replies = refl; symbols-then = refl; costs-then = refl; store-then = refl; margins-then = refl }
+            let d : call (admittedUnder (good C) f b) ≡ record { reply = o; buffers = holding C P u b } = let q : call (admittedUnder (good C) f b) ≡ call (good C) = by-fault C f b call ∙ rw (← fault-is, eq-eqb r 0 z) in q ∙ i in
+            rw (d, holds-then P u s y c v x x′ (length f) frame-length j j′) record { replies = refl; symbols-then = refl; costs-then = refl; store-then = refl; margins-then = refl }
 
-      -- the run of decode
-      module _ (o : Outcome) (P x u x′ : List ℕ) (i : endedIn o (lent P u) ≡ goOn (graph first g (take m ds) cs ws) n limit 0 (lent f s)) where
-        ends : (answerReply (Decoded o) ≡ outcome (run C f .status) (run C f .end .t)) × (lent P u ≡ lent (run C f .end .costs) (storeOf C (run C f .end) s))
-        ends =
-            let a : endedIn o (lent P u) ≡ goLent C (C .limit) 0 (lent f s) =
-            i ∙ ap₂ (λ a b. goOn (graph first g (take m ds) cs ws) a b 0 (lent f s)) (H .columns-is) (H .limit-is) ∙ tables-go C first g (take m ds) cs ws coded-tables (C .limit) 0 (lent f s) in
-            reply-is o (lent P u) _ _ _ (a ∙ run-stands C (H .good) s (rooms .for-store) f)
-
-        pub run-leaves : x ≡ decisionsOf (sizeOf first) P n → x′ ≡ marginsOf (sizeOf first) P n
-            → Leaves (decodingOf C f b) (answerReply (Decoded o)) (lending (x ++ drop n y) (P ++ drop (length f) c) u (x′ ++ drop n v))
-        run-leaves = holds-leaves (λ r. decodingUnder r f b) (answerReply (Decoded o)) P u x x′ (ap₂ (λ r (l : Lent). record { reply = r; buffers = holding C (l .costs) (l .store) b }) (sym (ends .0)) (sym (ends .1)))
-
-      -- the same with the costs copied into the front of the cost buffer
+      -- the costs copied into the front of the cost buffer
       module _ (f′ : List ℕ) (i : f′ ≡ f) where
         pub copied-front : take (length f) (f′ ++ drop (length f) c) ≡ f
         copied-front = ap (λ a. take (length f) (a ++ drop (length f) c)) i ∙ take-at f (drop (length f) c) (length f) refl
@@ -228,58 +211,36 @@ module _ (C : Code) (first n m g limit : ℕ) (ds cs ws : List ℕ) (H : Coded C
         pub copied-rest : drop (length f) (f′ ++ drop (length f) c) ≡ drop (length f) c
         copied-rest = ap (λ a. drop (length f) (a ++ drop (length f) c)) i ∙ drop-at f (drop (length f) c) (length f) refl
 
-        pub copied-room : Below 255 f → (x : List ℕ) → length x ≡ n → RunRoom (graph first g (take m ds) cs ws) true (take (length f) (f′ ++ drop (length f) c)) s x
-        copied-room d x l = start-room d _ x copied-front l
+        pub copied-room : Below 255 f → (x A S : List ℕ) → length x ≡ n → 2048 ≤ length A → 2048 ≤ length S → RunRoom k ds cs ws true (take (length f) (f′ ++ drop (length f) c)) s x A S
+        copied-room d x A S l p q = start-room d _ x A S copied-front l p q
 
-        pub copied-leaves : (o : Outcome) (P x u x′ w w′ : List ℕ) → length w ≡ n → length w′ ≡ n
-            → endedIn o (lent P u) ≡ goOn (graph first g (take m ds) cs ws) (length w) limit 0 (lent (take (length f) (f′ ++ drop (length f) c)) s)
-            → x ≡ decisionsOf (sizeOf first) P (length w) → x′ ≡ marginsOf (sizeOf first) P (length w′)
+        -- the run of decode
+        pub copied-leaves : (o : Outcome) (P x u x′ : List ℕ) → endedIn o (lent P u) ≡ goLent C (k .limit) 0 (lent (take (length f) (f′ ++ drop (length f) c)) s)
+            → x ≡ symbols C P → x′ ≡ margins C P
             → Leaves (decodingOf C f b) (answerReply (Decoded o)) (lending (x ++ drop n y) (P ++ drop (length f) (f′ ++ drop (length f) c)) u (x′ ++ drop n v))
-        copied-leaves o P x u x′ w w′ l l′ a j j′ =
-            rw copied-rest (run-leaves o P x u x′ (a ∙ ap₂ (λ k q. goOn (graph first g (take m ds) cs ws) k limit 0 (lent q s)) l copied-front) (j ∙ ap (decisionsOf (sizeOf first) P) l) (j′ ∙ ap (marginsOf (sizeOf first) P) l′))
+        copied-leaves o P x u x′ a j j′ =
+            let E = reply-is o (lent P u) _ _ _ (a ∙ ap (λ q. goLent C (k .limit) 0 (lent q s)) copied-front ∙ run-stands C (T .good) s (rooms .for-store) f) in
+            rw copied-rest
+            (holds-leaves (λ r. decodingUnder r f b) (answerReply (Decoded o)) P u x x′ (ap₂ (λ r (l : Lent). record { reply = r; buffers = holding C (l .costs) (l .store) b }) (sym (E .0)) (sym (E .1))) j j′)
 
--- what the reader's answer says of the line
-module _ (s₀ : List ℕ) (h : Header) (e : headerNumbers h ≡ numbersOf (parse s₀)) where
-  pub refused-calls : (f : List ℕ) (b : Buffers) (call : Read Code → After) (k : ℕ) → call (bad k) ≡ record { reply = refusal k; buffers = b } → h ≡ HeaderRefused k
+-- a call whose code line is refused, and one whose code line says C
+module _ (s₀ f : List ℕ) (b : Buffers) (call : Read Code → After) where
+  pub refused-calls : (h : Header) → headerNumbers h ≡ numbersOf (parse s₀) → (k : ℕ) → call (bad k) ≡ record { reply = refusal k; buffers = b } → h ≡ HeaderRefused k
       → Leaves (call (admitted s₀ f b)) (refusal k) b
   unfolding admitted
-  refused-calls f b call k o i =
+  refused-calls h e k o i =
       let x : call (admitted s₀ f b) ≡ record { reply = refusal k; buffers = b } = ap (λ r. call (admittedUnder r f b)) (header-refused s₀ h e k i) ∙ o in
       rw x record { replies = refl; symbols-then = refl; costs-then = refl; store-then = refl; margins-then = refl }
 
-  pub refused-decodes : (k : ℕ) → h ≡ HeaderRefused k → (f : List ℕ) (b : Buffers) → Decodes s₀ f b (refusal k) b
+  pub said-calls : (C : Code) → parse s₀ ≡ good C → (r : Reply) (b′ : Buffers) → Leaves (call (admittedUnder (good C) f b)) r b′ → Leaves (call (admitted s₀ f b)) r b′
+  unfolding admitted
+  said-calls C e r b′ L = rw e L
+
+module _ (s₀ f : List ℕ) (b : Buffers) where
+  pub refused-decodes : (h : Header) → headerNumbers h ≡ numbersOf (parse s₀) → (k : ℕ) → h ≡ HeaderRefused k → Decodes s₀ f b (refusal k) b
   unfolding decoding
-  refused-decodes k i f b = refused-calls f b (λ r. decodingUnder r f b) k refl i
+  refused-decodes h e k i = refused-calls s₀ f b (λ r. decodingUnder r f b) h e k refl i
 
-  module _ (first n m g limit : ℕ) (i : h ≡ HeaderRead first n m g limit) where
-    pub read : Accepted s₀ first n m g limit
-    read = header-read s₀ h e first n m g limit i
-
-    -- with the numbers as wider ones
-    module _ (N M G : ℕ) (j : N ≡ n) (k : M ≡ m) (l : G ≡ g) (ds cs ws : List ℕ) (T : (C : Code) → parse s₀ ≡ good C → Tabled C ds cs ws) where
-      pub coded : Coded (read .code) first N M G limit ds cs ws
-      coded =
-          record {
-            good = parse-good s₀ (read .code) (read .parsed);
-            first-is = read .first-is;
-            columns-is = j ∙ read .columns-is;
-            checks-is = k ∙ read .checks-is;
-            scale-is = l ∙ read .scale-is;
-            limit-is = read .limit-is;
-            tabled = T (read .code) (read .parsed);
-          }
-
-      pub coded-room : (A S : List ℕ) → length A ≡ 2048 → length S ≡ 2048 → CodeRoom first N M G limit ds cs ws A S
-      coded-room A S a b = record { code = read .code; coded = coded; arrived = omega arith; sent = omega arith }
-
-      pub coded-calls : (f : List ℕ) (b : Buffers) (call : Read Code → After) (r : Reply) (b′ : Buffers)
-          → ((C : Code) → Coded C first N M G limit ds cs ws → Leaves (call (admittedUnder (good C) f b)) r b′)
-          → Leaves (call (admitted s₀ f b)) r b′
-      unfolding admitted
-      coded-calls f b call r b′ L = rw (read .parsed) (L (read .code) coded)
-
-      pub coded-decodes : (f : List ℕ) (b : Buffers) (r : Reply) (b′ : Buffers)
-          → ((C : Code) → Coded C first N M G limit ds cs ws → Leaves (decodingOf C f b) r b′)
-          → Decodes s₀ f b r b′
-      unfolding decoding
-      coded-decodes f b r b′ L = coded-calls f b (λ r. decodingUnder r f b) r b′ L
+  pub said-decodes : (C : Code) → parse s₀ ≡ good C → (r : Reply) (b′ : Buffers) → Leaves (decodingOf C f b) r b′ → Decodes s₀ f b r b′
+  unfolding decoding
+  said-decodes C e r b′ L = said-calls s₀ f b (λ r. decodingUnder r f b) C e r b′ L

@@ -12,16 +12,29 @@ use lib.ListN.{length, getD}
 use borrow.Author.Tests.{le-leb, lt-leb, le-ltb, lt-ltb, eq-eqb, ne-eqb}
 use Rattle.trellis.specs.Lists.{pick, allTo, part}
 use Rattle.trellis.specs.Record.{groupLength, recordOk}
-use Rattle.trellis.specs.Rules.{powerOf, sizeOf, ruleFor}
+use Rattle.trellis.specs.Rules.{firstOk, powerOf, sizeOf, ruleFor}
+use Rattle.trellis.proofs.Recurrence.{size-64}
+use Rattle.trellis.proofs.Rules.{first-power, most-few}
 use Rattle.trellis.specs.Reply.{Reply, accepted, refusal}
 use Rattle.checknode.specs.Answers.{expandReply}
 use Rattle.machine.specs.CodeLine.{zeroIn}
-use Rattle.machine.specs.inner.Tables.{before}
+use Rattle.machine.specs.inner.Tables.{before, bytesBefore, tableAt}
 use Rattle.machine.proofs.Lists.{all-not}
-use Rattle.layered.specs.inner.Passes.{tableAt, lengthAt, placeAt, recordAt}
-use Rattle.layered.specs.inner.Turns.{Weighed}
-use Rattle.layered.specs.inner.Stages.{lowAt, costsIn, formedAt, recordsIn, resumeFault, FormRoom, StoreRoom}
-use Rattle.layered.proofs.Turns.{weights-pass}
+use Rattle.layered.specs.inner.Updates.{Weighed}
+use Rattle.layered.specs.inner.Stages.{lengthAt, lowAt, costsIn, formedAt, recordsIn, resumeFault, FormRoom, StoreRoom}
+use Rattle.layered.proofs.Updates.{weights-pass}
+
+-- a record has at most 441 bytes behind its shifts
+pub groups-few : (first : ℕ) → firstOk first ≡ true → groupLength (ruleFor first) * (sizeOf first - 1) ≤ 441
+groups-few first h =
+    let k : groupLength (ruleFor first) ≤ 7 = omega (arith, most-few first) in
+    let n : sizeOf first - 1 ≤ 63 = omega (arith, size-64 (powerOf first) (first-power first h .1)) in
+    mul-le-mul k n
+
+-- the next record's place
+pub place-more : (first : ℕ) (ds : List ℕ) (m at d groups : ℕ) → at ≡ bytesBefore first ds m → d ≡ getD ds m 0 → groups ≡ groupLength (ruleFor first) * (sizeOf first - 1) → at + (d + groups) ≡ bytesBefore first ds (m + 1)
+unfolding bytesBefore
+place-more first ds m at d groups e i j = rw (add-one m, e, i, j)
 
 -- a turn of the loop over the costs
 pub low-more : (l : List ℕ) (i : ℕ) → getD l i 0 ≤ 510 → allTo (lowAt l) i ≡ true → allTo (lowAt l) (i + 1) ≡ true
@@ -81,7 +94,7 @@ module _ (first : ℕ) (ws r out : List ℕ) (W : Weighed first ws) (short : len
       go false h = ap (λ (a : Reply). eqb (a .number) 2) h
 
 -- a turn of the loop over the checks, at the places that it carries
-module _ (first : ℕ) (ds ws s : List ℕ) (R : StoreRoom first ds ws s) (m at place d groups : ℕ) (h : m < length ds) (a : at ≡ before ds m) (b : place ≡ placeAt first ds m) (i : d ≡ getD ds m 0) (j : groups ≡ groupLength (ruleFor first) * (sizeOf first - 1)) where
+module _ (first : ℕ) (ds ws s : List ℕ) (R : StoreRoom first ds ws s) (m at place d groups : ℕ) (h : m < length ds) (a : at ≡ before ds m) (b : place ≡ bytesBefore first ds m) (i : d ≡ getD ds m 0) (j : groups ≡ groupLength (ruleFor first) * (sizeOf first - 1)) where
   F : FormRoom first ds ws s m
   F = R .each m h
 
@@ -94,7 +107,7 @@ module _ (first : ℕ) (ds ws s : List ℕ) (R : StoreRoom first ds ws s) (m at 
   weights-are : part ws at (at + d - at) ≡ tableAt ds ws m
   weights-are = let u : at + d - at ≡ d = add-sub-cancel-left at d in rw (u, a, i)
 
-  record-is : part s place (place + (d + groups) - place) ≡ recordAt first ds m s
+  record-is : part s place (place + (d + groups) - place) ≡ part s (bytesBefore first ds m) (lengthAt first ds m)
   record-is = let v : place + (d + groups) - place ≡ d + groups = add-sub-cancel-left place (d + groups) in rw (v, record-end, b)
 
   pub form-asks : Weighed first (part ws at (at + d - at))

@@ -16,17 +16,21 @@ use Rattle.trellis.specs.Lists.{part}
 use Rattle.trellis.specs.Check.{decide}
 use Rattle.trellis.specs.Rules.{powerOf, sizeOf}
 use Rattle.trellis.proofs.Recurrence.{size-64}
-use Rattle.machine.specs.CodeLine.{columnOf}
-use Rattle.machine.specs.inner.Tables.{before}
+use Rattle.machine.specs.CodeLine.{Code, check, edgeAt, columnOf}
+use Rattle.machine.specs.Machine.{symbols, settled}
+use Rattle.machine.specs.inner.Tables.{before, tableAt}
 use Rattle.machine.proofs.Ranges.{column-room}
-use Rattle.machine.proofs.Places.{end-within}
+use Rattle.machine.proofs.InTables.{in-columns, column-in, degree-is}
+use Rattle.codeline.specs.declared.Numbers.{Numbers}
+use Rattle.codeline.specs.Answers.{numbersIn}
+use Rattle.codeline.specs.inner.Coding.{codeOf}
 use Rattle.layered.specs.declared.parity.CheckAt.{CheckAt}
 use Rattle.layered.specs.declared.place.Place.{Place}
-use Rattle.layered.specs.inner.Parity.{decisionsOf, allHold, ParityRoom, FromTo, FirstNot, SomeNot}
-use Rattle.layered.specs.inner.Passes.{tableAt, testOn}
+use Rattle.layered.specs.inner.Parity.{allHold, ParityRoom, FromTo, FirstNot, SomeNot}
 use Rattle.layered.specs.inner.Early.{decidedAgain, AgainRoom, RetestRoom, Retested}
 use Rattle.layered.proofs.Columns.{length-part}
-use Rattle.layered.proofs.Satisfied.{decided-room, all-hold, one-not}
+use Rattle.layered.proofs.Satisfied.{decided-room, settled-by, all-hold, one-not}
+use Rattle.layered.proofs.Runs.{checks-count}
 
 -- what stands at a place put in there again
 set-own : (l : List ℕ) (c : ℕ) → c < length l → set l c (getD l c 0) ≡ l
@@ -58,43 +62,58 @@ unfolding decidedAgain
 again-more q P cs z now now′ k c e o i = i ∙ rw (add-one k, ← e, o)
 
 -- the test from a check on
-module _ (k : ℕ) (ds cs ws z : List ℕ) (from : CheckAt) where
-  module _ (r : CheckAt) (F : FirstNot k ds cs ws z (from .check) (length ds) r) where
-    pub not-behind : (r .check ≡ length ds → ⊥) → SomeNot k ds cs ws z r
-    not-behind n =
+module _ (C : Code) (ds z : List ℕ) (n : ℕ) (all : n ≡ length (C .checks)) (from : CheckAt) where
+  module _ (r : CheckAt) (F : FirstNot C ds z (from .check) n r) where
+    pub not-behind : (r .check ≡ n → ⊥) → SomeNot C ds z r
+    not-behind o =
         record {
           edge-is = F .edge-is;
-          high = F .high;
-          test-is = ne-eqb _ _ n ∙ sym (one-not k ds cs ws z (r .check) (omega (arith, F .high)) (F .not-it (omega (arith, F .high))));
+          high = omega (arith, F .high);
+          test-is = ne-eqb _ _ (λ (i : r .check ≡ length (C .checks)). o (omega arith)) ∙ sym (one-not C z (r .check) (omega (arith, F .high)) (F .not-it (omega (arith, F .high))));
         }
 
-    module _ (h : from .check ≤ length ds) (e : r .check ≡ length ds) (b : CheckAt) (B : FirstNot k ds cs ws z 0 (from .check) b) where
-      pub not-before : (b .check ≡ from .check → ⊥) → SomeNot k ds cs ws z b
-      not-before n =
+    module _ (h : from .check ≤ n) (e : r .check ≡ n) (b : CheckAt) (B : FirstNot C ds z 0 (from .check) b) where
+      pub not-before : (b .check ≡ from .check → ⊥) → SomeNot C ds z b
+      not-before o =
           record {
             edge-is = B .edge-is;
             high = omega (arith, B .high);
-            test-is = ne-eqb _ _ (λ (i : b .check ≡ length ds). n (omega (arith, B .high))) ∙ sym (one-not k ds cs ws z (b .check) (omega (arith, B .high)) (B .not-it (omega (arith, B .high))));
+            test-is = ne-eqb _ _ (λ (i : b .check ≡ length (C .checks)). o (omega (arith, B .high))) ∙ sym (one-not C z (b .check) (omega (arith, B .high)) (B .not-it (omega (arith, B .high))));
           }
 
-      pub none-not : b .check ≡ from .check → SomeNot k ds cs ws z r
+      pub none-not : b .check ≡ from .check → SomeNot C ds z r
       none-not i =
           record {
             edge-is = F .edge-is;
-            high = F .high;
-            test-is = eq-eqb _ _ e ∙ sym (all-hold k ds cs ws z (λ j l. elim (decLt j (from .check)) [
+            high = omega (arith, F .high);
+            test-is = eq-eqb _ _ (e ∙ all) ∙ sym (all-hold C z (λ j l. elim (decLt j (from .check)) [
               | yes u ↦ B .before-it j (omega arith) (omega arith)
               | no u ↦ F .before-it j (omega arith) (omega arith)
             ]));
           }
 
 -- the test after an update of the check that stands at p
-module _ (first : ℕ) (ds cs ws : List ℕ) (p : Place) (from : CheckAt) (P z : List ℕ) (R : RetestRoom first ds cs ws p from P z) where
+module _ (k : Numbers) (ds cs ws : List ℕ) (p : Place) (from : CheckAt) (P z : List ℕ) (R : RetestRoom k ds cs ws p from P z) where
   abbrev m : ℕ
   m = p .check
 
+  abbrev C : Code
+  C = codeOf k ds cs ws
+
+  abbrev hc : before ds (k .checks) ≤ length cs
+  hc = R .settled-room .coded .for-columns
+
+  abbrev hw : before ds (k .checks) ≤ length ws
+  hw = R .settled-room .coded .for-weights
+
+  checks-are : length (C .checks) ≡ k .checks
+  checks-are = checks-count k ds cs ws (R .settled-room .coded)
+
   pub edges-inside : (d : ℕ) → d ≡ getD ds m 0 → p .edge + d ≤ length cs
-  edges-inside d i = omega (arith, end-within ds m (p .edge) d (R .inside) (R .edge-is) i, R .settled .in-columns)
+  edges-inside d i = rw (R .edge-is, i) (in-columns (numbersIn k) ds cs ws hc hw m (R .inside))
+
+  pub check-there : m < length ds
+  check-there = omega (arith, R .inside, R .settled-room .coded .for-degrees)
 
   -- its columns, as the code has them
   module _ (d : ℕ) (i : d ≡ getD ds m 0) where
@@ -105,48 +124,59 @@ module _ (first : ℕ) (ds cs ws : List ℕ) (p : Place) (from : CheckAt) (P z :
     own-is = ap (part cs (p .edge)) (add-sub-cancel-left (p .edge) d) ∙ ap₂ (part cs) (R .edge-is) i
 
     pub own-length : length own ≡ d
-    own-length = ap (λ k. length (part cs (p .edge) k)) (add-sub-cancel-left (p .edge) d) ∙ length-part cs (p .edge) d (edges-inside d i)
+    own-length = ap (λ n. length (part cs (p .edge) n)) (add-sub-cancel-left (p .edge) d) ∙ length-part cs (p .edge) d (edges-inside d i)
 
-    own-at : (k : ℕ) → k < d → getD own k 0 < length z
-    own-at k h =
-        let e : getD own k 0 ≡ getD cs (before ds m + k) 0 =
-        ap (λ n. getD (part cs (p .edge) n) k 0) (add-sub-cancel-left (p .edge) d) ∙ getD-take d (drop (p .edge) cs) k 0 h ∙ getD-drop (p .edge) cs k 0 ∙ ap (λ n. getD cs (n + k) 0) (R .edge-is) in
-        omega (arith, e, R .settled .columns m k (R .inside) (omega arith))
+    own-at : (n : ℕ) → n < d → getD own n 0 < length z
+    own-at n h =
+        let e : getD own n 0 ≡ getD cs (before ds m + n) 0 =
+        ap (λ w. getD (part cs (p .edge) w) n 0) (add-sub-cancel-left (p .edge) d) ∙ getD-take d (drop (p .edge) cs) n 0 h ∙ getD-drop (p .edge) cs n 0 ∙ ap (λ w. getD cs (w + n) 0) (R .edge-is) in
+        let c : getD cs (before ds m + n) 0 ≡ edgeAt (check C m) n .column = column-in (numbersIn k) ds cs ws hc hw m (R .inside) n (omega arith) in
+        let E = R .settled-room .coded .good .each-check m (omega (arith, R .inside, checks-are)) .each-edge n (omega (arith, degree-here)) in
+        omega (arith, e, c, E .column-small, R .settled-room .symbols)
+      where
+        degree-here : length (check C m) ≡ getD ds m 0
+        degree-here = degree-is (numbersIn k) ds cs ws hc hw m (R .inside)
 
-    pub again-asks : (q : ℕ) → q ≡ sizeOf first → AgainRoom q P own z
+    pub again-asks : (q : ℕ) → q ≡ sizeOf (k .first) → AgainRoom q P own z
     again-asks q e =
         record {
-          small = rw e (size-64 (powerOf first) (R .settled .high));
-          in-costs = λ k h. omega (arith, column-room (getD own k 0) (length z) q (own-at k (omega (arith, own-length))), ap (λ n. length z * n) e, R .settled .costs);
-          in-symbols = λ k h. own-at k (omega (arith, own-length));
+          small = rw e (size-64 (powerOf (k .first)) (R .settled-room .coded .good .p-high));
+          in-costs = λ n h.
+              omega (
+                arith,
+                column-room (getD own n 0) (length z) q (own-at n (omega (arith, own-length))),
+                ap₂ (λ a b. a * b) (R .settled-room .symbols) e,
+                R .settled-room .ranged .full,
+              );
+          in-symbols = λ n h. own-at n (omega (arith, own-length));
         }
 
     -- and its symbols
-    module _ (q : ℕ) (e : q ≡ sizeOf first) (y : List ℕ) (o : y ≡ decidedAgain q P own (length own) z) where
-      pub again-decided : y ≡ decisionsOf (sizeOf first) P (length z)
+    module _ (q : ℕ) (e : q ≡ sizeOf (k .first)) (y : List ℕ) (o : y ≡ decidedAgain q P own (length own) z) where
+      pub again-decided : y ≡ symbols C P
       again-decided =
-          o ∙ ap₂ (λ n (l : List ℕ). decidedAgain n P l (length l) z) e own-is ∙ ap (decidedAgain (sizeOf first) P (tableAt ds cs m) (length (tableAt ds cs m))) (R .decided) ∙ R .again
+          o ∙ ap₂ (λ n (l : List ℕ). decidedAgain n P l (length l) z) e own-is ∙ ap (decidedAgain (sizeOf (k .first)) P (tableAt ds cs m) (length (tableAt ds cs m))) (R .decided) ∙ R .again
 
-      pub again-same : y ≡ z → Retested first ds cs ws (length z) P from
+      pub again-same : y ≡ z → Retested C ds P from
       again-same s =
-          let u : decisionsOf (sizeOf first) P (length z) ≡ decisionsOf (sizeOf first) (R .old) (length z) = sym again-decided ∙ s ∙ R .decided in
+          let u : symbols C P ≡ symbols C (R .old) = sym again-decided ∙ s ∙ R .decided in
           record {
             edge-is = R .from-edge;
-            high = omega (arith, R .from-inside);
-            test-is = ne-eqb _ _ (λ (i : from .check ≡ length ds). omega (arith, R .from-inside)) ∙ sym (ap (λ l. allHold (powerOf first) ds cs ws l (length ds)) u ∙ R .unsettled);
+            high = omega (arith, R .from-inside, checks-are);
+            test-is = ne-eqb _ _ (λ (i : from .check ≡ length (C .checks)). omega (arith, R .from-inside, checks-are))
+                ∙ sym (sym (settled-by k ds cs ws P) ∙ ap (allHold C) u ∙ settled-by k ds cs ws (R .old) ∙ R .unsettled);
           }
 
-      module _ (k : ℕ) (j : k ≡ powerOf first) where
-        pub again-room : ParityRoom k ds cs ws y × FromTo ds from (length ds)
-        again-room = (
-          rw j (decided-room (powerOf first) (sizeOf first) ds cs ws P z y (R .settled) refl again-decided),
-          record { edge-is = R .from-edge; ordered = omega (arith, R .from-inside); inside = omega arith },
-        )
+      pub again-room : ParityRoom k ds cs ws y × FromTo k ds from (k .checks)
+      again-room = (
+        decided-room k ds cs ws P z y (R .settled-room) again-decided,
+        record { edge-is = R .from-edge; ordered = omega (arith, R .from-inside); inside = omega arith },
+      )
 
-        pub again-tested : (r : CheckAt) → SomeNot k ds cs ws y r → Retested first ds cs ws (length z) P r
-        again-tested r S =
-            record {
-              edge-is = S .edge-is;
-              high = S .high;
-              test-is = S .test-is ∙ ap₂ (λ a l. allHold a ds cs ws l (length ds)) j again-decided;
-            }
+      pub again-tested : (r : CheckAt) → SomeNot C ds y r → Retested C ds P r
+      again-tested r S =
+          record {
+            edge-is = S .edge-is;
+            high = S .high;
+            test-is = S .test-is ∙ ap (allHold C) again-decided ∙ settled-by k ds cs ws P;
+          }

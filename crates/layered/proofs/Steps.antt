@@ -1,37 +1,44 @@
 -- What a load and an iteration leave is what loading and iterating say: each refusal by its own test, the first test on the frame, and one
 -- iteration from costs and records that passed the tests.
 use mathlib.Core.Path.{_≡_, refl, sym, ap, ap₂, _∙_}
-use mathlib.Core.Bool.{Bool, true, false, _||_}
+use mathlib.Core.Bool.{Bool, true, false, _&&_, _||_}
 use mathlib.Core.List.{List, _++_}
-use Prim.Native.Nat.{ℕ, suc, _+_, _*_, _≤_, _<_}
+use Prim.Native.Nat.{ℕ, zero, suc, _+_, _*_, _≤_, _<_}
 use native.Mathlib.Omega.{arith}
 use lib.Dec.{eqb, leb}
 use borrow.Author.Tests.{eq-eqb, ne-eqb, lt-leb}
-use lib.ListN.{length, take, drop}
-use Rattle.trellis.specs.Lists.{pick, allTo}
-use Rattle.trellis.specs.Rules.{powerOf, sizeOf}
-use Rattle.machine.specs.CodeLine.{Read, good, bad, Code, numbersOf, parse, size}
-use Rattle.machine.specs.Machine.{settled, used}
-use Rattle.machine.specs.Lent.{pass}
+use lib.ListN.{length, getD, take, drop}
+use lib.Seq.{getD-take, length-take-le}
+use Rattle.trellis.specs.Lists.{pick, allTo, part}
+use Rattle.trellis.specs.Rules.{sizeOf}
+use Rattle.machine.specs.CodeLine.{Read, good, bad, Code, numbersOf, parse, size, check, edgeAt}
+use Rattle.machine.specs.Machine.{symbols, margins, settled, place, used}
+use Rattle.machine.specs.Lent.{lent, iterationLent}
 use Rattle.machine.specs.Decoding.{Buffers, lending, holding, admittedUnder, admitted, Room}
 use Rattle.machine.specs.Moments.{Stage as Ends, moment, Moves, loadingUnder, loading, costsOk, storeOk, resumableUnder, resumable, iteratingUnder, iterating, further}
-use Rattle.machine.specs.inner.Tables.{Tabled, tablesOf}
+use Rattle.machine.specs.inner.Tables.{before, bytesBefore, tableAt}
+use Rattle.machine.specs.inner.InRange.{Below}
+use Rattle.machine.proofs.Ranges.{frame-ranged}
 use Rattle.machine.proofs.Lent.{place-suc, place-mono}
-use Rattle.machine.proofs.Places.{count, degree-at, in-weights, weights-length, weight-table}
+use Rattle.machine.proofs.InTables.{in-weights, weights-length, weight-part, degree-is, place-is, before-take, bytes-take}
 use Rattle.machine.proofs.Tested.{tested}
 use Rattle.codeline.specs.declared.Header.{Header}
-use Rattle.codeline.specs.declared.Header.the-variants.{Read as HeaderRead, Refused as HeaderRefused}
-use Rattle.codeline.specs.Answers.{headerNumbers}
+use Rattle.codeline.specs.declared.Header.the-variants.{Refused as HeaderRefused}
+use Rattle.codeline.specs.declared.Numbers.{Numbers}
+use Rattle.codeline.specs.Answers.{numbersIn, headerNumbers}
+use Rattle.codeline.specs.inner.Coding.{codeOf, Coded}
 use Rattle.codeline.proofs.Answered.{header-refused}
-use Rattle.machine.specs.inner.InRange.{Below}
-use Rattle.layered.specs.inner.Parity.{decisionsOf, marginsOf}
-use Rattle.layered.specs.inner.Passes.{Graph, graph, lent, passOver, testOn, Running}
-use Rattle.layered.specs.inner.Frames.{faultOf, Coded}
+use Rattle.layered.specs.inner.Iterations.{Running}
+use Rattle.layered.specs.inner.Frames.{faultOf}
 use Rattle.layered.specs.Answers.{ends}
-use Rattle.layered.specs.inner.Stages.{stageAfter, loadingOf, iteratingOf, costsIn, formedAt, recordsIn, resumeFault, FormRoom, StoreRoom, ResumeRoom, TestRoom, StepRoom, Loaded, LoadRoom}
-use Rattle.layered.proofs.Passes.{place-is, settled-is, tables-pass, all-ext}
-use Rattle.layered.proofs.Runs.{pass-running, running-columns, test-room}
-use Rattle.layered.proofs.Decoded.{by-fault, coded-tables, holds-then, degree-count, fault-is, rooms, frame-length, start-room, copied-front, read, coded}
+use Rattle.layered.specs.inner.Stages.{stageAfter, loadingOf, iteratingOf, costsIn, formedAt, recordsIn, resumeFault, FormRoom, StoreRoom, ResumeRoom, TestRoom, StepRoom}
+use Rattle.layered.proofs.Runs.{checks-count, iteration-running, test-room}
+use Rattle.layered.proofs.Decoded.{by-fault, degrees-there, holds-then, fault-is, none, rooms, frame-length, copied-front}
+
+-- tests that agree one by one
+all-ext : (n : ℕ) (f g : ℕ → Bool) → ((k : ℕ) → k < n → f k ≡ g k) → allTo f n ≡ allTo g n
+all-ext zero f g h = refl
+all-ext (suc n) f g h = ap₂ (λ a b. a && b) (all-ext n f g (λ k i. h k (omega arith))) (h n (omega arith))
 
 -- the three stages that are no refusal
 module _ (t limit : ℕ) where
@@ -44,78 +51,104 @@ module _ (t limit : ℕ) where
   stage-by found e b i = rw (e, i)
 
 -- a running machine has what the test asks
-module _ (first g : ℕ) (ds cs ws P s : List ℕ) (start : Bool) (R : Running (graph first g ds cs ws) start P s) where
-  pub tested-room : (z v : List ℕ) → length z ≡ R .code .columns → length v ≡ length z → TestRoom first ds cs ws P z v
-  tested-room z v e i =
-      record { accepted = rw (R .tables .first-is) (R .good .first); settled = test-room first g ds cs ws P s start R (powerOf first) refl z e; margins = i }
+module _ (k : Numbers) (ds cs ws P s : List ℕ) (start : Bool) (R : Running k ds cs ws start P s) where
+  pub tested-room : (z v : List ℕ) → length z ≡ k .columns → length v ≡ k .columns → TestRoom k ds cs ws P z v
+  tested-room z v e i = record { settled = test-room k ds cs ws P s start R z e; margins = i }
 
-module _ (first g : ℕ) (ds cs ws P s z v A S : List ℕ) (start : Bool) (R : StepRoom (graph first g ds cs ws) start P s z v A S) where
-  -- the test after an iteration
-  pub after-room : (P′ s′ : List ℕ) → lent P′ s′ ≡ passOver (graph first g ds cs ws) start (lent P s) → TestRoom first ds cs ws P′ z v
-  after-room P′ s′ e =
-      tested-room first g ds cs ws P′ s′ false (pass-running first g ds cs ws P s start (R .pass .running) P′ s′ e) z v
-      (R .symbols ∙ sym (running-columns first g ds cs ws P s start (R .pass .running) P′ s′ e)) (R .margins)
+-- the test after an iteration
+pub after-room : (k : Numbers) (ds cs ws P s z v A S : List ℕ) (start : Bool) → StepRoom k ds cs ws start P s z v A S → (P′ s′ z′ v′ : List ℕ)
+    → lent P′ s′ ≡ iterationLent (codeOf k ds cs ws) start (lent P s) → length z′ ≡ length z → length v′ ≡ length v → TestRoom k ds cs ws P′ z′ v′
+after-room k ds cs ws P s z v A S start R P′ s′ z′ v′ e i j =
+    tested-room k ds cs ws P′ s′ false (iteration-running k ds cs ws P s start (R .iterate .running) P′ s′ e) z′ v′ (i ∙ R .symbols) (j ∙ R .margins)
 
-module _ (C : Code) (first n m g limit : ℕ) (ds cs ws : List ℕ) (H : Coded C first n m g limit ds cs ws) where
-  abbrev T : Graph
-  T = graph first g (take m ds) cs ws
+module _ (k : Numbers) (ds cs ws : List ℕ) (T : Coded k ds cs ws) (n m : ℕ) (N : n ≡ k .columns) (M : m ≡ k .checks) where
+  abbrev C : Code
+  C = codeOf k ds cs ws
 
-  pub settled-there : (P : List ℕ) → testOn first (take m ds) cs ws n P ≡ settled C P
-  settled-there P =
-      let E = coded-tables C first n m g limit ds cs ws H in
-      rw (H .columns-is, E .first-is, E .degrees-is) (settled-is C cs ws (H .tabled .columns) (H .tabled .weights) P)
+  abbrev hc : before ds (k .checks) ≤ length cs
+  hc = T .for-columns
+
+  abbrev hw : before ds (k .checks) ≤ length ws
+  hw = T .for-weights
+
+  abbrev own : List ℕ
+  own = take m ds
+
+  -- the degrees, and where a check stands by them
+  module _ (j : ℕ) (h : j < m) where
+    in-code : j < k .checks
+    in-code = omega (arith, M)
+
+    own-degree : getD own j 0 ≡ length (check C j)
+    own-degree = getD-take m ds j 0 h ∙ sym (degree-is (numbersIn k) ds cs ws hc hw j in-code)
+
+    own-table : tableAt own ws j ≡ tableAt ds ws j
+    own-table = ap₂ (part ws) (before-take ds m j (omega arith)) (getD-take m ds j 0 h)
+
+    own-byte : bytesBefore (k .first) own j ≡ place C j
+    own-byte = bytes-take (k .first) ds m j (omega arith) ∙ place-is (numbersIn k) ds cs ws hc hw j (omega (arith, M))
+
+    in-checks : j < length (C .checks)
+    in-checks = omega (arith, M, checks-count k ds cs ws T)
 
   -- every check's record may be tested
-  pub form-room : (s : List ℕ) → used C ≤ length s → StoreRoom first (take m ds) ws s
-  form-room s room = record { accepted = rw (H .first-is) (H .good .first); each = rw (H .first-is, coded-tables C first n m g limit ds cs ws H .degrees-is) at-code }
+  own-length : length own ≡ m
+  own-length = length-take-le m ds (degrees-there k ds cs ws T n m N M)
+
+  pub form-room : (s : List ℕ) → used C ≤ length s → StoreRoom (k .first) own ws s
+  form-room s room = record { accepted = T .good .first; each = at-check }
     where
-      at-code : (k : ℕ) → k < length (tablesOf (C .checks) .degrees) → FormRoom (C .first) (tablesOf (C .checks) .degrees) ws s k
-      at-code k l =
-          let h : k < length (C .checks) = omega (arith, count C cs ws (H .tabled .columns) (H .tabled .weights)) in
-          let G = H .good .each-check k h in
-          let d = weights-length C cs ws (H .tabled .columns) (H .tabled .weights) k h in
+      at-check : (j : ℕ) → j < length own → FormRoom (k .first) own ws s j
+      at-check j l =
+          let h : j < m = omega (arith, own-length) in
+          let G = T .good .each-check j (in-checks j h) in
+          let d : length (check C j) ≡ getD ds j 0 = degree-is (numbersIn k) ds cs ws hc hw j (in-code j h) in
+          let w : length (tableAt own ws j) ≡ length (check C j) = ap length (own-table j h) ∙ weights-length (numbersIn k) ds cs ws hc hw j (in-code j h) ∙ sym d in
+          let t : (i : ℕ) → getD (tableAt own ws j) i 0 ≡ edgeAt (check C j) i .weight = λ i. ap (λ l. getD l i 0) (own-table j h) ∙ weight-part (numbersIn k) ds cs ws hc hw j (in-code j h) i in
           record {
-            weights = in-weights C cs ws (H .tabled .columns) (H .tabled .weights) k h;
-            store = rw (place-is C cs ws (H .tabled .columns) (H .tabled .weights) k, degree-at C cs ws (H .tabled .columns) (H .tabled .weights) k) (omega (arith, place-suc C k, place-mono C (suc k) (length (C .checks)) h));
+            weights = rw (before-take ds m j (omega arith), own-degree j h, d) (in-weights (numbersIn k) ds cs ws hc hw j (in-code j h));
+            store = rw (own-byte j h, own-degree j h) (omega (arith, place-suc C j, place-mono C (suc j) (length (C .checks)) (in-checks j h)));
             weighed = record {
-              accepted = H .good .first;
-              two = omega (arith, G .low);
-              few = omega (arith, G .high);
-              some = λ i u. rw (weight-table C cs ws (H .tabled .columns) (H .tabled .weights) k h i) (G .each-edge i (omega arith) .weight-some);
-              small = λ i u. rw (weight-table C cs ws (H .tabled .columns) (H .tabled .weights) k h i) (G .each-edge i (omega arith) .weight-small);
+              accepted = T .good .first;
+              two = omega (arith, G .low, w);
+              few = omega (arith, G .high, w);
+              some = λ i u. rw (t i) (G .each-edge i (omega (arith, w)) .weight-some);
+              small = λ i u. rw (t i) (G .each-edge i (omega (arith, w)) .weight-small);
             };
-            degree = d ∙ sym (degree-at C cs ws (H .tabled .columns) (H .tabled .weights) k);
+            degree = w ∙ sym (own-degree j h);
           }
 
   -- the tests are the definition's
-  costs-there : (c : List ℕ) → costsIn (sizeOf first) n c ≡ costsOk C c
+  costs-there : (c : List ℕ) → costsIn (sizeOf (k .first)) n c ≡ costsOk C c
   unfolding costsIn costsOk
-  costs-there c = rw (H .first-is, H .columns-is)
+  costs-there c = rw N
 
-  store-there : (s : List ℕ) → allTo (formedAt first (take m ds) s) (length (take m ds)) ≡ storeOk C s
+  store-there : (s : List ℕ) → allTo (formedAt (k .first) own s) (length own) ≡ storeOk C s
   unfolding storeOk
   store-there s =
-      rw (degree-count C first n m g limit ds cs ws H, H .first-is, coded-tables C first n m g limit ds cs ws H .degrees-is)
-      (all-ext (length (C .checks)) _ _ (λ k h. rw (degree-at C cs ws (H .tabled .columns) (H .tabled .weights) k, place-is C cs ws (H .tabled .columns) (H .tabled .weights) k)))
+      ap (allTo (formedAt (k .first) own s)) (own-length ∙ M ∙ sym (checks-count k ds cs ws T))
+      ∙ all-ext (length (C .checks)) _ _ (λ j h.
+      let i : j < m = omega (arith, M, checks-count k ds cs ws T) in
+      rw (own-degree j i, own-byte j i))
 
-  records-there : (t : ℕ) (s : List ℕ) → recordsIn first (take m ds) t s ≡ (eqb t 0 || storeOk C s)
+  records-there : (t : ℕ) (s : List ℕ) → recordsIn (k .first) own t s ≡ (eqb t 0 || storeOk C s)
   unfolding recordsIn
   records-there t s = ap (λ b. eqb t 0 || b) (store-there s)
 
   -- by the number of the test that fails, 0 for none
-  resumes : (t : ℕ) (b : Buffers) (k : ℕ) → k ≡ resumeFault first n (take m ds) t (b .costs) (b .store)
-      → resumableUnder (good C) t b ≡ pick (eqb k 0) (good C) (bad k)
+  resumes : (t : ℕ) (b : Buffers) (r : ℕ) → r ≡ resumeFault (k .first) n own t (b .costs) (b .store)
+      → resumableUnder (good C) t b ≡ pick (eqb r 0) (good C) (bad r)
   unfolding resumeFault
-  resumes t b k e = rw (e, costs-there (b .costs), records-there t (b .store)) (go (costsOk C (b .costs)) (eqb t 0 || storeOk C (b .store)))
+  resumes t b r e = rw (e, costs-there (b .costs), records-there t (b .store)) (go (costsOk C (b .costs)) (eqb t 0 || storeOk C (b .store)))
     where
       go : (i j : Bool) → pick i (pick j (good C) (bad 16)) (bad 13) ≡ pick (eqb (pick i (pick j 0 16) 13) 0) (good C) (bad (pick i (pick j 0 16) 13))
       go true true = refl
       go true false = refl
       go false j = refl
 
-  passes : (t : ℕ) (b : Buffers) → resumeFault first n (take m ds) t (b .costs) (b .store) ≡ 0 → (costsOk C (b .costs) ≡ true) × ((eqb t 0 || storeOk C (b .store)) ≡ true)
+  passes : (t : ℕ) (b : Buffers) → resumeFault (k .first) n own t (b .costs) (b .store) ≡ 0 → (costsOk C (b .costs) ≡ true) × ((eqb t 0 || storeOk C (b .store)) ≡ true)
   unfolding resumeFault
-  passes t b h = go (costsIn (sizeOf first) n (b .costs)) (costs-there (b .costs)) (recordsIn first (take m ds) t (b .store)) (records-there t (b .store)) h
+  passes t b h = go (costsIn (sizeOf (k .first)) n (b .costs)) (costs-there (b .costs)) (recordsIn (k .first) own t (b .store)) (records-there t (b .store)) h
     where
       go : (i : Bool) → i ≡ costsOk C (b .costs) → (j : Bool) → j ≡ (eqb t 0 || storeOk C (b .store)) → _≡_ {A = ℕ} (pick i (pick j 0 16) 13) 0
           → (costsOk C (b .costs) ≡ true) × ((eqb t 0 || storeOk C (b .store)) ≡ true)
@@ -123,144 +156,121 @@ module _ (C : Code) (first n m g limit : ℕ) (ds cs ws : List ℕ) (H : Coded C
       go true e false i h = absurd (omega arith)
       go false e j i h = absurd (omega arith)
 
-  module _ (f y c s v : List ℕ) (k : ℕ) (e : k ≡ faultOf first n (take m ds) f (length y) (length c) (length s) (length v)) where
+  module _ (f y c s v : List ℕ) (r : ℕ) (e : r ≡ faultOf (k .first) n own f (length y) (length c) (length s) (length v)) where
     abbrev b : Buffers
     b = lending y c s v
 
-    admits-by : {A : Type 0} (h : Read Code → A) → h (admittedUnder (good C) f b) ≡ pick (eqb k 0) (h (good C)) (h (bad k))
-    admits-by {A} h = by-fault C f b h ∙ rw (← fault-is C first n m g limit ds cs ws H f y c s v k e)
+    admits-by : {A : Type 0} (h : Read Code → A) → h (admittedUnder (good C) f b) ≡ pick (eqb r 0) (h (good C)) (h (bad r))
+    admits-by {A} h = by-fault C f b h ∙ rw (← fault-is k ds cs ws T n m N M f y c s v r e)
 
     -- refused as decoding is
-    pub load-refused : (k ≡ 0 → ⊥) → Moves (loadingOf C f b) (ends 4 k) b
+    pub load-refused : (r ≡ 0 → ⊥) → Moves (loadingOf C f b) (ends 4 r) b
     load-refused z =
-        let x : loadingOf C f b ≡ moment 4 k 0 b = admits-by (λ r. loadingUnder r f b) ∙ rw (ne-eqb k 0 z) in
+        let x : loadingOf C f b ≡ moment 4 r 0 b = admits-by (λ r. loadingUnder r f b) ∙ rw (ne-eqb r 0 z) in
         rw x record { staged = refl; symbols-then = refl; costs-then = refl; store-then = refl; margins-then = refl }
 
-    pub step-refused : (k ≡ 0 → ⊥) → (t : ℕ) → Moves (iteratingOf C f t b) (ends 4 k) b
+    pub step-refused : (r ≡ 0 → ⊥) → (t : ℕ) → Moves (iteratingOf C f t b) (ends 4 r) b
     step-refused z t =
-        let x : iteratingOf C f t b ≡ moment 4 k 0 b = admits-by (λ r. iteratingUnder (resumableUnder r t b) t b) ∙ rw (ne-eqb k 0 z) in
+        let x : iteratingOf C f t b ≡ moment 4 r 0 b = admits-by (λ r. iteratingUnder (resumableUnder r t b) t b) ∙ rw (ne-eqb r 0 z) in
         rw x record { staged = refl; symbols-then = refl; costs-then = refl; store-then = refl; margins-then = refl }
 
-    module _ (z : k ≡ 0) where
+    module _ (z : r ≡ 0) where
       R : Room C b
-      R = rooms C first n m g limit ds cs ws H f y c s v k e z
+      R = rooms k ds cs ws T n m N M f y c s v r e z
 
       width : length f ≡ C .columns * size C
-      width = frame-length C first n m g limit ds cs ws H f y c s v k e z ∙ ap₂ (λ a b. a * sizeOf b) (H .columns-is) (H .first-is)
+      width = frame-length k ds cs ws T n m N M f y c s v r e z
 
       -- a load: the test on the frame in the front of the cost buffer
       module _ (f′ : List ℕ) (i : f′ ≡ f) where
         front : take (length f) (f′ ++ drop (length f) c) ≡ f
-        front = copied-front C first n m g limit ds cs ws H f y c s v k e z f′ i
+        front = copied-front k ds cs ws T n m N M f y c s v r e z f′ i
 
-        pub first-room : Below 255 f → (x x′ : List ℕ) → length x ≡ n → length x′ ≡ n → TestRoom first (take m ds) cs ws (take (length f) (f′ ++ drop (length f) c)) x x′
+        pub first-room : Below 255 f → (x x′ : List ℕ) → length x ≡ n → length x′ ≡ n → TestRoom k ds cs ws (take (length f) (f′ ++ drop (length f) c)) x x′
         first-room d x x′ l l′ =
-            let r = start-room C first n m g limit ds cs ws H f y c s v k e z d _ x front l in
-            tested-room first g (take m ds) cs ws _ s true (r .running) x x′ (r .symbols) (l′ ∙ sym l)
+            rw front
+            record {
+              settled = record { coded = T; ranged = frame-ranged C f (none k ds cs ws T n m N M f y c s v r e z .0) d; symbols = l ∙ N };
+              margins = l′ ∙ N;
+            }
 
-        pub load-leaves : (found : Bool) (x x′ w w′ : List ℕ) → length w ≡ n → length w′ ≡ n
-            → found ≡ testOn first (take m ds) cs ws (length w) (take (length f) (f′ ++ drop (length f) c))
-            → x ≡ decisionsOf (sizeOf first) (take (length f) (f′ ++ drop (length f) c)) (length w)
-            → x′ ≡ marginsOf (sizeOf first) (take (length f) (f′ ++ drop (length f) c)) (length w′)
-            → (r : Ends) → r ≡ stageAfter found 0 limit
-            → Moves (loadingOf C f b) r (lending (x ++ drop n y) (f′ ++ drop (length f) c) s (x′ ++ drop n v))
+        pub load-leaves : (found : Bool) (x x′ : List ℕ) → found ≡ settled C (take (length f) (f′ ++ drop (length f) c))
+            → x ≡ symbols C (take (length f) (f′ ++ drop (length f) c)) → x′ ≡ margins C (take (length f) (f′ ++ drop (length f) c))
+            → (q : Ends) → q ≡ stageAfter found 0 (k .limit)
+            → Moves (loadingOf C f b) q (lending (x ++ drop n y) (f′ ++ drop (length f) c) s (x′ ++ drop n v))
         unfolding stageAfter
-        load-leaves found x x′ w w′ l l′ o p p′ r q =
-            let a : loadingOf C f b ≡ moment (pick (settled C f) 2 1) 0 0 (holding C f s b) = admits-by (λ r. loadingUnder r f b) ∙ rw (eq-eqb k 0 z) in
-            let t : found ≡ settled C f = o ∙ rw (front, l) (settled-there f) in
-            let u : leb limit 0 ≡ false = rw (H .limit-is) (lt-leb (C .limit) 0 (H .good .limit-low)) in
+        load-leaves found x x′ o p p′ q w =
+            let a : loadingOf C f b ≡ moment (pick (settled C f) 2 1) 0 0 (holding C f s b) = admits-by (λ r. loadingUnder r f b) ∙ rw (eq-eqb r 0 z) in
+            let t : found ≡ settled C f = o ∙ ap (settled C) front in
+            let u : leb (k .limit) 0 ≡ false = lt-leb (k .limit) 0 (T .good .limit-low) in
             let h : lending (x ++ drop n y) (f′ ++ drop (length f) c) s (x′ ++ drop n v) ≡ holding C f s b =
-            rw i (holds-then C first n m g limit ds cs ws H f s s y c v x x′ (length f) width (p ∙ rw (front, l)) (p′ ∙ rw (front, l′))) in
-            rw (a, h) record { staged = q ∙ rw (t, u); symbols-then = refl; costs-then = refl; store-then = refl; margins-then = refl }
+            rw i (holds-then k ds cs ws T n m N M f s s y c v x x′ (length f) width (p ∙ ap (symbols C) front) (p′ ∙ ap (margins C) front)) in
+            rw (a, h) record { staged = w ∙ rw (t, u); symbols-then = refl; costs-then = refl; store-then = refl; margins-then = refl }
 
-      pub resume-room : ResumeRoom first n (take m ds) ws c s
+      pub resume-room : ResumeRoom (k .first) n own ws c s
       resume-room =
           record {
-            columns = rw (H .columns-is) (H .good .columns-high);
-            costs = rw (H .columns-is, H .first-is) (R .for-costs);
+            columns = omega (arith, T .good .columns-high);
+            costs = rw N (R .for-costs);
             store = form-room s (R .for-store);
           }
 
-      module _ (t j : ℕ) (o : j ≡ resumeFault first n (take m ds) t c s) where
+      module _ (t j : ℕ) (o : j ≡ resumeFault (k .first) n own t c s) where
         -- refused by 13 or 16
         pub resume-refused : (j ≡ 0 → ⊥) → Moves (iteratingOf C f t b) (ends 4 j) b
         resume-refused h =
             let x : iteratingOf C f t b ≡ moment 4 j 0 b =
-            admits-by (λ r. iteratingUnder (resumableUnder r t b) t b) ∙ rw (eq-eqb k 0 z) (ap (λ r. iteratingUnder r t b) (resumes t b j o) ∙ rw (ne-eqb j 0 h)) in
+            admits-by (λ r. iteratingUnder (resumableUnder r t b) t b) ∙ rw (eq-eqb r 0 z) (ap (λ r. iteratingUnder r t b) (resumes t b j o) ∙ rw (ne-eqb j 0 h)) in
             rw x record { staged = refl; symbols-then = refl; costs-then = refl; store-then = refl; margins-then = refl }
 
         module _ (h : j ≡ 0) where
           -- or it goes on
-          pub step-room : (x x′ A S : List ℕ) → length x ≡ n → length x′ ≡ n → 2048 ≤ length A → 2048 ≤ length S → StepRoom T (eqb t 0) (take (length f) c) s x x′ A S
+          pub step-room : (x x′ A S : List ℕ) → length x ≡ n → length x′ ≡ n → 2048 ≤ length A → 2048 ≤ length S → StepRoom k ds cs ws (eqb t 0) (take (length f) c) s x x′ A S
           step-room x x′ A S l l′ a b =
               let u = passes t (lending y c s v) (sym o ∙ h) in
               record {
-                pass = record {
-                  running = record {
-                    code = C;
-                    good = H .good;
-                    tables = coded-tables C first n m g limit ds cs ws H;
-                    passable = rw width (tested C (H .good) c s t (R .for-costs) (R .for-store) (u .0) (u .1));
-                  };
+                iterate = record {
+                  running = record { coded = T; passable = rw width (tested C (T .good) c s t (R .for-costs) (R .for-store) (u .0) (u .1)) };
                   arrived = a;
                   sent = b;
                 };
-                symbols = l ∙ H .columns-is;
-                margins = l′ ∙ sym l;
+                symbols = l ∙ N;
+                margins = l′ ∙ N;
               }
 
-          pub step-leaves : (found : Bool) (P u x x′ w w′ : List ℕ) → length w ≡ n → length w′ ≡ n
-              → found ≡ testOn first (take m ds) cs ws (length w) P
-              → lent P u ≡ passOver T (eqb t 0) (lent (take (length f) c) s)
-              → x ≡ decisionsOf (sizeOf first) P (length w) → x′ ≡ marginsOf (sizeOf first) P (length w′)
-              → (r : Ends) → r ≡ stageAfter found (t + 1) limit
-              → Moves (iteratingOf C f t b) r (lending (x ++ drop n y) (P ++ drop (length f) c) u (x′ ++ drop n v))
+          pub step-leaves : (found : Bool) (P u x x′ : List ℕ) → found ≡ settled C P → lent P u ≡ iterationLent C (eqb t 0) (lent (take (length f) c) s)
+              → x ≡ symbols C P → x′ ≡ margins C P
+              → (q : Ends) → q ≡ stageAfter found (t + 1) (k .limit)
+              → Moves (iteratingOf C f t b) q (lending (x ++ drop n y) (P ++ drop (length f) c) u (x′ ++ drop n v))
           unfolding stageAfter
-          step-leaves found P u x x′ w w′ l l′ i p q q′ r d =
+          step-leaves found P u x x′ i p d d′ q w =
               let a : iteratingOf C f t b ≡ iteratingUnder (good C) t b =
-              admits-by (λ r. iteratingUnder (resumableUnder r t b) t b) ∙ rw (eq-eqb k 0 z) (ap (λ r. iteratingUnder r t b) (resumes t b j o) ∙ rw (eq-eqb j 0 h)) in
-              let g₁ : lent P u ≡ further C t b =
-              p ∙ tables-pass C first g (take m ds) cs ws (coded-tables C first n m g limit ds cs ws H) (eqb t 0) (lent (take (length f) c) s) ∙ ap (λ k. pass C (eqb t 0) (lent (take k c) s)) width in
-              let t₁ : found ≡ settled C P = i ∙ rw l (settled-there P) in
-              let e₁ : lending (x ++ drop n y) (P ++ drop (length f) c) u (x′ ++ drop n v) ≡ holding C P u b =
-              holds-then C first n m g limit ds cs ws H P u s y c v x x′ (length f) width (q ∙ rw l) (q′ ∙ rw l′) in
-              rw (a, ← g₁, e₁) record { staged = d ∙ rw (t₁, H .limit-is); symbols-then = refl; costs-then = refl; store-then = refl; margins-then = refl }
+              admits-by (λ r. iteratingUnder (resumableUnder r t b) t b) ∙ rw (eq-eqb r 0 z) (ap (λ r. iteratingUnder r t b) (resumes t b j o) ∙ rw (eq-eqb j 0 h)) in
+              let g : lent P u ≡ further C t b = p ∙ ap (λ k. iterationLent C (eqb t 0) (lent (take k c) s)) width in
+              let l : lending (x ++ drop n y) (P ++ drop (length f) c) u (x′ ++ drop n v) ≡ holding C P u b =
+              holds-then k ds cs ws T n m N M P u s y c v x x′ (length f) width d d′ in
+              rw (a, ← g, l) record { staged = w ∙ rw i; symbols-then = refl; costs-then = refl; store-then = refl; margins-then = refl }
 
--- what the reader's answer says of the line
-module _ (s₀ : List ℕ) (h : Header) (e : headerNumbers h ≡ numbersOf (parse s₀)) (f : List ℕ) (b : Buffers) where
-  pub refused-loads : (k : ℕ) → h ≡ HeaderRefused k → Moves (loading s₀ f b) (ends 4 k) b
-  unfolding loading admitted
-  refused-loads k i =
-      let x : loading s₀ f b ≡ moment 4 k 0 b = ap (λ r. loadingUnder (admittedUnder r f b) f b) (header-refused s₀ h e k i) in
-      rw x record { staged = refl; symbols-then = refl; costs-then = refl; store-then = refl; margins-then = refl }
-
-  pub refused-steps : (k : ℕ) → h ≡ HeaderRefused k → (t : ℕ) → Moves (iterating s₀ f t b) (ends 4 k) b
-  unfolding iterating resumable admitted
-  refused-steps k i t =
-      let x : iterating s₀ f t b ≡ moment 4 k 0 b = ap (λ r. iteratingUnder (resumableUnder (admittedUnder r f b) t b) t b) (header-refused s₀ h e k i) in
-      rw x record { staged = refl; symbols-then = refl; costs-then = refl; store-then = refl; margins-then = refl }
-
-  -- with the numbers as wider ones
-  module _ (first n m g limit : ℕ) (i : h ≡ HeaderRead first n m g limit) (N M : ℕ) (j : N ≡ n) (k : M ≡ m) (ds cs ws : List ℕ) (T : (C : Code) → parse s₀ ≡ good C → Tabled C ds cs ws) where
-    abbrev C : Code
-    C = read s₀ h e first n m g limit i .code
-
-    loaded : Loaded C first N M limit ds cs ws
-    loaded = coded s₀ h e first n m g limit i N M (C .scale) j k (sym (read s₀ h e first n m g limit i .scale-is)) ds cs ws T
-
-    pub load-room : LoadRoom first N M limit ds cs ws
-    load-room = record { code = C; coded = loaded }
-
-    pub coded-loads : (r : Ends) (b′ : Buffers) → ((C : Code) → Loaded C first N M limit ds cs ws → Moves (loadingOf C f b) r b′) → Moves (loading s₀ f b) r b′
+-- a code line that is refused, and one that says C
+module _ (s₀ f : List ℕ) (b : Buffers) where
+  module _ (h : Header) (e : headerNumbers h ≡ numbersOf (parse s₀)) (k : ℕ) (i : h ≡ HeaderRefused k) where
+    pub refused-loads : Moves (loading s₀ f b) (ends 4 k) b
     unfolding loading admitted
-    coded-loads r b′ L =
-        let x : loading s₀ f b ≡ loadingOf C f b = ap (λ a. loadingUnder (admittedUnder a f b) f b) (read s₀ h e first n m g limit i .parsed) in
-        rw x (L C loaded)
+    refused-loads =
+        let x : loading s₀ f b ≡ moment 4 k 0 b = ap (λ r. loadingUnder (admittedUnder r f b) f b) (header-refused s₀ h e k i) in
+        rw x record { staged = refl; symbols-then = refl; costs-then = refl; store-then = refl; margins-then = refl }
 
-    pub coded-steps : (G : ℕ) → G ≡ g → (t : ℕ) (r : Ends) (b′ : Buffers) → ((C : Code) → Coded C first N M G limit ds cs ws → Moves (iteratingOf C f t b) r b′)
-        → Moves (iterating s₀ f t b) r b′
+    pub refused-steps : (t : ℕ) → Moves (iterating s₀ f t b) (ends 4 k) b
     unfolding iterating resumable admitted
-    coded-steps G l t r b′ L =
-        let x : iterating s₀ f t b ≡ iteratingOf C f t b =
-        ap (λ a. iteratingUnder (resumableUnder (admittedUnder a f b) t b) t b) (read s₀ h e first n m g limit i .parsed) in
-        rw x (L C (coded s₀ h e first n m g limit i N M G j k l ds cs ws T))
+    refused-steps t =
+        let x : iterating s₀ f t b ≡ moment 4 k 0 b = ap (λ r. iteratingUnder (resumableUnder (admittedUnder r f b) t b) t b) (header-refused s₀ h e k i) in
+        rw x record { staged = refl; symbols-then = refl; costs-then = refl; store-then = refl; margins-then = refl }
+
+  module _ (C : Code) (e : parse s₀ ≡ good C) (q : Ends) (b′ : Buffers) where
+    pub said-loads : Moves (loadingOf C f b) q b′ → Moves (loading s₀ f b) q b′
+    unfolding loading admitted
+    said-loads L = rw e L
+
+    pub said-steps : (t : ℕ) → Moves (iteratingOf C f t b) q b′ → Moves (iterating s₀ f t b) q b′
+    unfolding iterating resumable admitted
+    said-steps t L = rw e L

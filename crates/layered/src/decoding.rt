@@ -5,20 +5,18 @@ use crate::frame;
 use crate::iterate;
 use crate::num;
 use codeline::Header;
+use codeline::Numbers;
 ghost use mathlib.Core.Path.{_≡_};
 ghost use Prim.Native.Nat.{_≤_};
-ghost use Rattle.machine.specs.CodeLine.{Code, parse, numbersOf, columnsRead};
+ghost use Rattle.machine.specs.CodeLine.{parse, numbersOf, columnsRead};
 ghost use Rattle.machine.specs.Decoding.{lending, Leaves, Decodes};
 ghost use Rattle.layered.specs.Answers.{answerReply};
-ghost use Rattle.layered.specs.inner.Frames.{decodingOf, Coded, CodeRoom};
+ghost use Rattle.codeline.specs.inner.Coding.{codeOf};
+ghost use Rattle.layered.specs.inner.Frames.{decodingOf, CodeRoom};
 
 // "Decode: code, 12, 13, 2, 3, 4.", 19. Nothing is written before the last refusal has been tested.
 fn under_code(
-    first: u8,
-    n: usize,
-    m: usize,
-    g: u16,
-    limit: u8,
+    numbers: Numbers,
     degrees: &[u8],
     columns: &[u16],
     weights: &[u8],
@@ -30,11 +28,17 @@ fn under_code(
     arrived: &mut [u8],
     sent: &mut [u8],
 ) -> Answer
-    requires { ⌜ CodeRoom first n m g limit (now degrees) (now columns) (now weights) (now arrived) (now sent) ⌝ }
-    ensures { λ r. ⌜ ((C : Code) → Coded C first n m g limit (now (degrees .entry)) (now (columns .entry)) (now (weights .entry)) → Leaves (decodingOf C (now (frame .entry)) (lending (now (symbols .entry)) (now (costs .entry)) (now (store .entry)) (now (margins .entry)))) (answerReply r) (lending (now (symbols .exit)) (now (costs .exit)) (now (store .exit)) (now (margins .exit)))) ⌝ }
+    requires { ⌜ CodeRoom numbers (now degrees) (now columns) (now weights) (now arrived) (now sent) ⌝ }
+    ensures { λ r. ⌜ Leaves
+        (decodingOf (codeOf numbers (now (degrees .entry)) (now (columns .entry)) (now (weights .entry)))
+        (now (frame .entry)) (lending (now (symbols .entry)) (now (costs .entry)) (now (store .entry)) (now (margins .entry))))
+        (answerReply r)
+        (lending (now (symbols .exit)) (now (costs .exit)) (now (store .exit)) (now (margins .exit))) ⌝ }
 {
+    let n = num::long(numbers.columns);
+    let m = num::index(numbers.checks);
     let k = frame::fault(
-        first,
+        numbers.first,
         n,
         &degrees[..m],
         frame,
@@ -49,10 +53,8 @@ fn under_code(
     let w = frame.len();
     frame::copy(frame, &mut costs[..w]);
     let o = iterate::run_to_margins(
-        first,
-        g,
-        limit,
-        &degrees[..m],
+        numbers,
+        degrees,
         columns,
         weights,
         &mut symbols[..n],
@@ -87,22 +89,9 @@ pub fn decode_in(
             answer: Answer::Refused(k),
             columns: 0,
         },
-        Header::Read {
-            first,
-            columns: n,
-            checks: m,
-            scale: g,
-            limit,
-        } => {
-            let n = num::long(n);
-            let m = num::index(m);
-            let g = num::wide(g);
+        Header::Read(numbers) => {
             let answer = under_code(
-                first,
-                n,
-                m,
-                g,
-                limit,
+                numbers,
                 degrees,
                 columns,
                 weights,
@@ -114,7 +103,10 @@ pub fn decode_in(
                 arrived,
                 sent,
             );
-            Counted { answer, columns: n }
+            Counted {
+                answer,
+                columns: num::long(numbers.columns),
+            }
         }
     }
 }

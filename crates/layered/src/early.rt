@@ -6,16 +6,20 @@ use crate::parity;
 use crate::parity::CheckAt;
 use crate::place;
 use crate::place::Place;
+use codeline::Numbers;
 ghost use mathlib.Core.Path.{_≡_};
 ghost use mathlib.Core.Bool.{true};
 ghost use Prim.Native.Nat.{_+_, _*_, _≤_, _<_};
 ghost use lib.ListN.{length, set};
 ghost use Rattle.trellis.specs.Check.{decide as decideOf};
-ghost use Rattle.trellis.specs.Rules.{sizeOf};
 ghost use Rattle.machine.specs.CodeLine.{columnOf};
-ghost use Rattle.layered.specs.inner.Parity.{decisionsOf, marginsOf, ParityRoom, FromTo, SomeNot};
-ghost use Rattle.layered.specs.inner.Passes.{graph, lent, testOn, RunRoom};
-ghost use Rattle.layered.specs.inner.Early.{decidedAgain, AgainRoom, RetestRoom, Retested, stopOn, haltedIn, GoRoom};
+ghost use Rattle.machine.specs.Machine.{symbols as symbolsOf, margins as marginsOf};
+ghost use Rattle.machine.specs.Lent.{lent};
+ghost use Rattle.machine.specs.inner.LentEarly.{stopLent};
+ghost use Rattle.codeline.specs.inner.Coding.{codeOf};
+ghost use Rattle.layered.specs.inner.Parity.{ParityRoom, FromTo, SomeNot};
+ghost use Rattle.layered.specs.inner.Iterations.{RunRoom};
+ghost use Rattle.layered.specs.inner.Early.{decidedAgain, AgainRoom, RetestRoom, Retested, haltedIn, GoRoom};
 
 // Decides column c again; 1 where its symbol is another one now, else 0.
 fn decide_at(costs: &[u16], q: usize, c: usize, symbols: &mut [u8]) -> usize
@@ -52,23 +56,33 @@ fn decide_again(costs: &[u16], q: usize, columns: &[u16], symbols: &mut [u8]) ->
 // The test from a check on that the symbols did not satisfy before: a check that they do not satisfy, found behind it or else before it; the number
 // of checks where there is none.
 fn unsatisfied_from(
-    p: u8,
+    numbers: Numbers,
     from: CheckAt,
     degrees: &[u8],
     columns: &[u16],
     weights: &[u8],
     symbols: &[u8],
 ) -> CheckAt
-    requires { ⌜ ParityRoom p (now degrees) (now columns) (now weights) (now symbols) × FromTo (now degrees) from (length (now degrees)) ⌝ }
-    ensures { λ r. ⌜ SomeNot p (now (degrees .entry)) (now (columns .entry)) (now (weights .entry)) (now (symbols .entry)) r ⌝ }
+    requires { ⌜ ParityRoom numbers (now degrees) (now columns) (now weights) (now symbols)
+        × FromTo numbers (now degrees) from (numbers .checks) ⌝ }
+    ensures { λ r. ⌜ SomeNot (codeOf numbers (now (degrees .entry)) (now (columns .entry)) (now (weights .entry)))
+        (now (degrees .entry)) (now (symbols .entry)) r ⌝ }
 {
-    let count = degrees.len();
-    let behind = parity::unsatisfied(p, from, count, degrees, columns, weights, symbols);
+    let count = num::index(numbers.checks);
+    let behind = parity::unsatisfied(numbers, from, count, degrees, columns, weights, symbols);
     if behind.check != count {
         return behind;
     }
     let first = CheckAt { check: 0, edge: 0 };
-    let before = parity::unsatisfied(p, first, from.check, degrees, columns, weights, symbols);
+    let before = parity::unsatisfied(
+        numbers,
+        first,
+        from.check,
+        degrees,
+        columns,
+        weights,
+        symbols,
+    );
     if before.check != from.check {
         return before;
     }
@@ -78,7 +92,7 @@ fn unsatisfied_from(
 // The decisions after an update of the check that stands here, and a check that they do not satisfy, or the number of checks. They did not satisfy `from`
 // before it, and its columns alone have other costs now: where none of their symbols changed they still do not.
 fn tested_again(
-    first: u8,
+    numbers: Numbers,
     here: Place,
     from: CheckAt,
     degrees: &[u8],
@@ -87,31 +101,28 @@ fn tested_again(
     costs: &[u16],
     symbols: &mut [u8],
 ) -> CheckAt
-    requires { ⌜ RetestRoom first (now degrees) (now columns) (now weights) here from (now costs) (now symbols) ⌝ }
-    ensures { λ r. ⌜ Retested first (now (degrees .entry)) (now (columns .entry)) (now (weights .entry)) (length (now (symbols .entry))) (now (costs .entry)) r ⌝ }
-    ensures { λ _. ⌜ now (symbols .exit) ≡ decisionsOf (sizeOf first) (now (costs .entry)) (length (now (symbols .entry))) ⌝ }
+    requires { ⌜ RetestRoom numbers (now degrees) (now columns) (now weights) here from
+        (now costs) (now symbols) ⌝ }
+    ensures { λ r. ⌜ Retested (codeOf numbers (now (degrees .entry)) (now (columns .entry)) (now (weights .entry)))
+        (now (degrees .entry)) (now (costs .entry)) r ⌝ }
+    ensures { λ _. ⌜ now (symbols .exit)
+        ≡ symbolsOf (codeOf numbers (now (degrees .entry)) (now (columns .entry)) (now (weights .entry)))
+        (now (costs .entry)) ⌝ }
 {
     let m = here.check;
     let at = here.edge;
     let d = num::index(degrees[m]);
     let e = at + d;
-    if decide_again(costs, rules::size(first), &columns[at..e], symbols) == 0 {
+    let q = rules::size(numbers.first);
+    if decide_again(costs, q, &columns[at..e], symbols) == 0 {
         return from;
     }
-    unsatisfied_from(
-        rules::power(first),
-        from,
-        degrees,
-        columns,
-        weights,
-        symbols,
-    )
+    unsatisfied_from(numbers, from, degrees, columns, weights, symbols)
 }
 
 // The updates one after the other, at most `most` of them, from decisions that do not satisfy every check.
 fn go_on(
-    first: u8,
-    g: u16,
+    numbers: Numbers,
     most: u16,
     degrees: &[u8],
     columns: &[u16],
@@ -122,11 +133,16 @@ fn go_on(
     arrived: &mut [u8],
     sent: &mut [u8],
 ) -> Stopped
-    requires { ⌜ GoRoom (graph first g (now degrees) (now columns) (now weights)) (now costs) (now store) (now symbols) (now arrived) (now sent) ⌝ }
-    ensures { λ r. ⌜ haltedIn r (lent (now (costs .exit)) (now (store .exit))) ≡ stopOn (graph first g (now (degrees .entry)) (now (columns .entry)) (now (weights .entry))) (length (now (symbols .entry))) most 0 (lent (now (costs .entry)) (now (store .entry))) ⌝ }
-    ensures { λ _. ⌜ now (symbols .exit) ≡ decisionsOf (sizeOf first) (now (costs .exit)) (length (now (symbols .entry))) ⌝ }
+    requires { ⌜ GoRoom numbers (now degrees) (now columns) (now weights)
+        (now costs) (now store) (now symbols) (now arrived) (now sent) ⌝ }
+    ensures { λ r. ⌜ haltedIn r (lent (now (costs .exit)) (now (store .exit)))
+        ≡ stopLent (codeOf numbers (now (degrees .entry)) (now (columns .entry)) (now (weights .entry)))
+        most 0 (lent (now (costs .entry)) (now (store .entry))) ⌝ }
+    ensures { λ _. ⌜ now (symbols .exit)
+        ≡ symbolsOf (codeOf numbers (now (degrees .entry)) (now (columns .entry)) (now (weights .entry)))
+        (now (costs .exit)) ⌝ }
 {
-    let count = degrees.len();
+    let count = num::index(numbers.checks);
     let mut here = Place {
         check: 0,
         edge: 0,
@@ -139,8 +155,7 @@ fn go_on(
             return Stopped::NotFound(u);
         }
         let next = place::update_at(
-            first,
-            g,
+            numbers,
             num::long(u) < count,
             here,
             degrees,
@@ -152,7 +167,16 @@ fn go_on(
             sent,
         );
         u += 1;
-        from = tested_again(first, here, from, degrees, columns, weights, costs, symbols);
+        from = tested_again(
+            numbers,
+            here,
+            from,
+            degrees,
+            columns,
+            weights,
+            costs,
+            symbols,
+        );
         if from.check == count {
             return Stopped::Found(u);
         }
@@ -161,18 +185,15 @@ fn go_on(
 }
 
 // "M times I".
-fn most_updates(count: usize, limit: u8) -> u16
-    requires { ⌜ count ≤ 128 ⌝ }
-    ensures { λ r. ⌜ r ≡ count * limit ⌝ }
+fn most_updates(numbers: Numbers) -> u16
+    ensures { λ r. ⌜ r ≡ numbers .checks * numbers .limit ⌝ }
 {
-    (count as u16) * num::wide(limit)
+    num::wide(numbers.checks) * num::wide(numbers.limit)
 }
 
 // The machine on the costs in `costs`, "tested at the start and after each check update".
 fn run(
-    first: u8,
-    g: u16,
-    limit: u8,
+    numbers: Numbers,
     degrees: &[u8],
     columns: &[u16],
     weights: &[u8],
@@ -182,18 +203,21 @@ fn run(
     arrived: &mut [u8],
     sent: &mut [u8],
 ) -> Stopped
-    requires { ⌜ RunRoom (graph first g (now degrees) (now columns) (now weights)) true (now costs) (now store) (now symbols) × ((2048 ≤ length (now arrived)) × (2048 ≤ length (now sent))) ⌝ }
-    ensures { λ r. ⌜ haltedIn r (lent (now (costs .exit)) (now (store .exit))) ≡ stopOn (graph first g (now (degrees .entry)) (now (columns .entry)) (now (weights .entry))) (length (now (symbols .entry))) (length (now (degrees .entry)) * limit) 0 (lent (now (costs .entry)) (now (store .entry))) ⌝ }
-    ensures { λ _. ⌜ now (symbols .exit) ≡ decisionsOf (sizeOf first) (now (costs .exit)) (length (now (symbols .entry))) ⌝ }
+    requires { ⌜ RunRoom numbers (now degrees) (now columns) (now weights) true
+        (now costs) (now store) (now symbols) (now arrived) (now sent) ⌝ }
+    ensures { λ r. ⌜ haltedIn r (lent (now (costs .exit)) (now (store .exit)))
+        ≡ stopLent (codeOf numbers (now (degrees .entry)) (now (columns .entry)) (now (weights .entry)))
+        (numbers .checks * numbers .limit) 0 (lent (now (costs .entry)) (now (store .entry))) ⌝ }
+    ensures { λ _. ⌜ now (symbols .exit)
+        ≡ symbolsOf (codeOf numbers (now (degrees .entry)) (now (columns .entry)) (now (weights .entry)))
+        (now (costs .exit)) ⌝ }
 {
-    let p = rules::power(first);
-    if parity::settled(p, degrees, columns, weights, costs, symbols) {
+    if parity::settled(numbers, degrees, columns, weights, costs, symbols) {
         return Stopped::Found(0);
     }
-    let most = most_updates(degrees.len(), limit);
+    let most = most_updates(numbers);
     go_on(
-        first,
-        g,
+        numbers,
         most,
         degrees,
         columns,
@@ -208,9 +232,7 @@ fn run(
 
 // The same, with the margins of the last decisions.
 pub fn run_to_margins(
-    first: u8,
-    g: u16,
-    limit: u8,
+    numbers: Numbers,
     degrees: &[u8],
     columns: &[u16],
     weights: &[u8],
@@ -221,16 +243,21 @@ pub fn run_to_margins(
     arrived: &mut [u8],
     sent: &mut [u8],
 ) -> Stopped
-    requires { ⌜ RunRoom (graph first g (now degrees) (now columns) (now weights)) true (now costs) (now store) (now symbols) × ((2048 ≤ length (now arrived)) × (2048 ≤ length (now sent))) ⌝ }
-    requires { ⌜ length (now margins) ≡ length (now symbols) ⌝ }
-    ensures { λ r. ⌜ haltedIn r (lent (now (costs .exit)) (now (store .exit))) ≡ stopOn (graph first g (now (degrees .entry)) (now (columns .entry)) (now (weights .entry))) (length (now (symbols .entry))) (length (now (degrees .entry)) * limit) 0 (lent (now (costs .entry)) (now (store .entry))) ⌝ }
-    ensures { λ _. ⌜ now (symbols .exit) ≡ decisionsOf (sizeOf first) (now (costs .exit)) (length (now (symbols .entry))) ⌝ }
-    ensures { λ _. ⌜ now (margins .exit) ≡ marginsOf (sizeOf first) (now (costs .exit)) (length (now (margins .entry))) ⌝ }
+    requires { ⌜ RunRoom numbers (now degrees) (now columns) (now weights) true
+        (now costs) (now store) (now symbols) (now arrived) (now sent)
+        × (length (now margins) ≡ numbers .columns) ⌝ }
+    ensures { λ r. ⌜ haltedIn r (lent (now (costs .exit)) (now (store .exit)))
+        ≡ stopLent (codeOf numbers (now (degrees .entry)) (now (columns .entry)) (now (weights .entry)))
+        (numbers .checks * numbers .limit) 0 (lent (now (costs .entry)) (now (store .entry))) ⌝ }
+    ensures { λ _. ⌜ now (symbols .exit)
+        ≡ symbolsOf (codeOf numbers (now (degrees .entry)) (now (columns .entry)) (now (weights .entry)))
+        (now (costs .exit)) ⌝ }
+    ensures { λ _. ⌜ now (margins .exit)
+        ≡ marginsOf (codeOf numbers (now (degrees .entry)) (now (columns .entry)) (now (weights .entry)))
+        (now (costs .exit)) ⌝ }
 {
     let o = run(
-        first,
-        g,
-        limit,
+        numbers,
         degrees,
         columns,
         weights,
@@ -240,6 +267,6 @@ pub fn run_to_margins(
         arrived,
         sent,
     );
-    parity::margins(costs, rules::size(first), margins);
+    parity::margins(costs, rules::size(numbers.first), margins);
     o
 }

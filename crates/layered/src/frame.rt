@@ -7,7 +7,7 @@ ghost use lib.ListN.{length};
 ghost use Rattle.trellis.specs.Lists.{allTo};
 ghost use Rattle.trellis.specs.Rules.{firstOk};
 ghost use Rattle.machine.specs.CodeLine.{zeroIn};
-ghost use Rattle.layered.specs.inner.Passes.{placeAt};
+ghost use Rattle.machine.specs.inner.Tables.{bytesBefore};
 ghost use Rattle.layered.specs.inner.Frames.{frameFaultOf, roomFault, faultOf};
 
 // Whether each of n columns of q costs has a cost of 0.
@@ -45,7 +45,7 @@ pub fn frame_fault(first: u8, n: usize, frame: &[u8]) -> u8
 // "as many bytes as the M record lengths add up to".
 pub fn used(first: u8, degrees: &[u8]) -> usize
     requires { ⌜ (firstOk first ≡ true) × (length (now degrees) ≤ 128) ⌝ }
-    ensures { λ r. ⌜ r ≡ placeAt first (now (degrees .entry)) (length (now (degrees .entry))) ⌝ }
+    ensures { λ r. ⌜ r ≡ bytesBefore first (now (degrees .entry)) (length (now (degrees .entry))) ⌝ }
 {
     let groups = rules::groups(first);
     let mut sum = 0;

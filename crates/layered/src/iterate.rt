@@ -1,20 +1,21 @@
 // One iteration and the run, over the lent buffers and the tables of a code.
 use crate::Outcome;
+use crate::num;
 use crate::parity;
 use crate::place;
 use crate::place::Place;
+use codeline::Numbers;
 ghost use mathlib.Core.Path.{_≡_};
 ghost use mathlib.Core.Bool.{true};
-ghost use Prim.Native.Nat.{_≤_};
 ghost use lib.ListN.{length};
-ghost use Rattle.trellis.specs.Rules.{sizeOf};
-ghost use Rattle.layered.specs.inner.Parity.{decisionsOf, marginsOf};
-ghost use Rattle.layered.specs.inner.Passes.{graph, lent, passOver, goOn, endedIn, PassRoom, RunRoom};
+ghost use Rattle.machine.specs.Machine.{symbols as symbolsOf, margins as marginsOf};
+ghost use Rattle.machine.specs.Lent.{lent, iterationLent, goLent};
+ghost use Rattle.codeline.specs.inner.Coding.{codeOf};
+ghost use Rattle.layered.specs.inner.Iterations.{endedIn, IterateRoom, RunRoom};
 
 // "An iteration .. takes the checks in code order."
-pub fn pass(
-    first: u8,
-    g: u16,
+pub fn iterate(
+    numbers: Numbers,
     start: bool,
     degrees: &[u8],
     columns: &[u16],
@@ -24,18 +25,21 @@ pub fn pass(
     arrived: &mut [u8],
     sent: &mut [u8],
 )
-    requires { ⌜ PassRoom (graph first g (now degrees) (now columns) (now weights)) start (now costs) (now store) (now arrived) (now sent) ⌝ }
-    ensures { λ _. ⌜ lent (now (costs .exit)) (now (store .exit)) ≡ passOver (graph first g (now (degrees .entry)) (now (columns .entry)) (now (weights .entry))) start (lent (now (costs .entry)) (now (store .entry))) ⌝ }
+    requires { ⌜ IterateRoom numbers (now degrees) (now columns) (now weights) start
+        (now costs) (now store) (now arrived) (now sent) ⌝ }
+    ensures { λ _. ⌜ lent (now (costs .exit)) (now (store .exit))
+        ≡ iterationLent (codeOf numbers (now (degrees .entry)) (now (columns .entry)) (now (weights .entry)))
+        start (lent (now (costs .entry)) (now (store .entry))) ⌝ }
 {
+    let count = num::index(numbers.checks);
     let mut here = Place {
         check: 0,
         edge: 0,
         byte: 0,
     };
-    while here.check < degrees.len() {
+    while here.check < count {
         here = place::update_at(
-            first,
-            g,
+            numbers,
             start,
             here,
             degrees,
@@ -49,11 +53,9 @@ pub fn pass(
     }
 }
 
-// The machine on the costs in `costs`, at most `limit` iterations: "all checks satisfied means found. Otherwise, if t = I, not found."
+// The machine on the costs in `costs`: "all checks satisfied means found. Otherwise, if t = I, not found."
 fn run(
-    first: u8,
-    g: u16,
-    limit: u8,
+    numbers: Numbers,
     degrees: &[u8],
     columns: &[u16],
     weights: &[u8],
@@ -63,22 +65,25 @@ fn run(
     arrived: &mut [u8],
     sent: &mut [u8],
 ) -> Outcome
-    requires { ⌜ RunRoom (graph first g (now degrees) (now columns) (now weights)) true (now costs) (now store) (now symbols) × ((2048 ≤ length (now arrived)) × (2048 ≤ length (now sent))) ⌝ }
-    ensures { λ r. ⌜ endedIn r (lent (now (costs .exit)) (now (store .exit))) ≡ goOn (graph first g (now (degrees .entry)) (now (columns .entry)) (now (weights .entry))) (length (now (symbols .entry))) limit 0 (lent (now (costs .entry)) (now (store .entry))) ⌝ }
-    ensures { λ _. ⌜ now (symbols .exit) ≡ decisionsOf (sizeOf first) (now (costs .exit)) (length (now (symbols .entry))) ⌝ }
+    requires { ⌜ RunRoom numbers (now degrees) (now columns) (now weights) true
+        (now costs) (now store) (now symbols) (now arrived) (now sent) ⌝ }
+    ensures { λ r. ⌜ endedIn r (lent (now (costs .exit)) (now (store .exit)))
+        ≡ goLent (codeOf numbers (now (degrees .entry)) (now (columns .entry)) (now (weights .entry)))
+        (numbers .limit) 0 (lent (now (costs .entry)) (now (store .entry))) ⌝ }
+    ensures { λ _. ⌜ now (symbols .exit)
+        ≡ symbolsOf (codeOf numbers (now (degrees .entry)) (now (columns .entry)) (now (weights .entry)))
+        (now (costs .exit)) ⌝ }
 {
-    let p = rules::power(first);
     let mut t: u8 = 0;
     loop {
-        if parity::settled(p, degrees, columns, weights, costs, symbols) {
+        if parity::settled(numbers, degrees, columns, weights, costs, symbols) {
             return Outcome::Found(t);
         }
-        if t == limit {
+        if t == numbers.limit {
             return Outcome::NotFound(t);
         }
-        pass(
-            first,
-            g,
+        iterate(
+            numbers,
             t == 0,
             degrees,
             columns,
@@ -94,9 +99,7 @@ fn run(
 
 // The same, with the margins of the last decisions.
 pub fn run_to_margins(
-    first: u8,
-    g: u16,
-    limit: u8,
+    numbers: Numbers,
     degrees: &[u8],
     columns: &[u16],
     weights: &[u8],
@@ -107,16 +110,21 @@ pub fn run_to_margins(
     arrived: &mut [u8],
     sent: &mut [u8],
 ) -> Outcome
-    requires { ⌜ RunRoom (graph first g (now degrees) (now columns) (now weights)) true (now costs) (now store) (now symbols) × ((2048 ≤ length (now arrived)) × (2048 ≤ length (now sent))) ⌝ }
-    requires { ⌜ length (now margins) ≡ length (now symbols) ⌝ }
-    ensures { λ r. ⌜ endedIn r (lent (now (costs .exit)) (now (store .exit))) ≡ goOn (graph first g (now (degrees .entry)) (now (columns .entry)) (now (weights .entry))) (length (now (symbols .entry))) limit 0 (lent (now (costs .entry)) (now (store .entry))) ⌝ }
-    ensures { λ _. ⌜ now (symbols .exit) ≡ decisionsOf (sizeOf first) (now (costs .exit)) (length (now (symbols .entry))) ⌝ }
-    ensures { λ _. ⌜ now (margins .exit) ≡ marginsOf (sizeOf first) (now (costs .exit)) (length (now (margins .entry))) ⌝ }
+    requires { ⌜ RunRoom numbers (now degrees) (now columns) (now weights) true
+        (now costs) (now store) (now symbols) (now arrived) (now sent)
+        × (length (now margins) ≡ numbers .columns) ⌝ }
+    ensures { λ r. ⌜ endedIn r (lent (now (costs .exit)) (now (store .exit)))
+        ≡ goLent (codeOf numbers (now (degrees .entry)) (now (columns .entry)) (now (weights .entry)))
+        (numbers .limit) 0 (lent (now (costs .entry)) (now (store .entry))) ⌝ }
+    ensures { λ _. ⌜ now (symbols .exit)
+        ≡ symbolsOf (codeOf numbers (now (degrees .entry)) (now (columns .entry)) (now (weights .entry)))
+        (now (costs .exit)) ⌝ }
+    ensures { λ _. ⌜ now (margins .exit)
+        ≡ marginsOf (codeOf numbers (now (degrees .entry)) (now (columns .entry)) (now (weights .entry)))
+        (now (costs .exit)) ⌝ }
 {
     let o = run(
-        first,
-        g,
-        limit,
+        numbers,
         degrees,
         columns,
         weights,
@@ -126,6 +134,6 @@ pub fn run_to_margins(
         arrived,
         sent,
     );
-    parity::margins(costs, rules::size(first), margins);
+    parity::margins(costs, rules::size(numbers.first), margins);
     o
 }

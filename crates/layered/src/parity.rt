@@ -2,16 +2,21 @@
 use crate::num;
 use checknode::Decision;
 use checknode::Element;
+use codeline::Numbers;
 ghost use mathlib.Core.Path.{_≡_};
 ghost use Prim.Native.Nat.{_*_, _^_, _≤_, _<_};
 ghost use lib.Dec.{eqb};
 ghost use lib.ListN.{length};
-ghost use Rattle.trellis.specs.Lists.{pick};
+ghost use Rattle.trellis.specs.Lists.{pick, tab};
 ghost use Rattle.trellis.specs.Check.{decide as decideOf};
 ghost use Rattle.trellis.specs.inner.Margins.{leastBut, marginAt};
 ghost use Rattle.trellis.specs.Field.{product};
+ghost use Rattle.trellis.specs.Rules.{powerOf};
 ghost use Rattle.machine.specs.inner.Tables.{term};
-ghost use Rattle.layered.specs.inner.Parity.{decisionsOf, marginsOf, EdgeRoom, ParityRoom, FromTo, FirstNot, allHold, SettledRoom};
+ghost use Rattle.machine.specs.CodeLine.{columnOf};
+ghost use Rattle.machine.specs.Machine.{settled as settledOf, symbols as symbolsOf};
+ghost use Rattle.codeline.specs.inner.Coding.{codeOf};
+ghost use Rattle.layered.specs.inner.Parity.{allHold, EdgeRoom, ParityRoom, FromTo, FirstNot, SettledRoom};
 
 // The cost of symbol x; where x is z, no cost is greater.
 fn but(cost: u16, x: usize, z: usize) -> u16
@@ -68,7 +73,7 @@ pub fn decide(costs: &[u16]) -> Decision
 // The decision of each column of q costs.
 fn decisions(costs: &[u16], q: usize, symbols: &mut [u8])
     requires { ⌜ (length (now symbols) * q ≤ length (now costs)) × (q ≤ 64) ⌝ }
-    ensures { λ _. ⌜ now (symbols .exit) ≡ decisionsOf q (now (costs .entry)) (length (now (symbols .entry))) ⌝ }
+    ensures { λ _. ⌜ now (symbols .exit) ≡ tab (λ c. decideOf (columnOf q (now (costs .entry)) c) .symbol) (length (now (symbols .entry))) ⌝ }
 {
     let mut c = 0;
     while c < symbols.len() {
@@ -83,7 +88,7 @@ fn decisions(costs: &[u16], q: usize, symbols: &mut [u8])
 // The margin of each column's decision.
 pub fn margins(costs: &[u16], q: usize, margins: &mut [u16])
     requires { ⌜ length (now margins) * q ≤ length (now costs) ⌝ }
-    ensures { λ _. ⌜ now (margins .exit) ≡ marginsOf q (now (costs .entry)) (length (now (margins .entry))) ⌝ }
+    ensures { λ _. ⌜ now (margins .exit) ≡ tab (λ c. decideOf (columnOf q (now (costs .entry)) c) .margin) (length (now (margins .entry))) ⌝ }
 {
     let mut c = 0;
     while c < margins.len() {
@@ -106,12 +111,12 @@ fn times(p: u8, a: u8, b: u8) -> u8
 }
 
 // What edge k adds to its check's sum.
-fn term_at(p: u8, columns: &[u16], weights: &[u8], symbols: &[u8], k: usize) -> u8
-    requires { ⌜ EdgeRoom p (now columns) (now weights) (now symbols) k ⌝ }
-    ensures { λ r. ⌜ r ≡ term p (now (columns .entry)) (now (weights .entry)) (now (symbols .entry)) k ⌝ }
+fn term_at(numbers: Numbers, columns: &[u16], weights: &[u8], symbols: &[u8], k: usize) -> u8
+    requires { ⌜ EdgeRoom (powerOf (numbers .first)) (now columns) (now weights) (now symbols) k ⌝ }
+    ensures { λ r. ⌜ r ≡ term (powerOf (numbers .first)) (now (columns .entry)) (now (weights .entry)) (now (symbols .entry)) k ⌝ }
 {
     let c = num::long(columns[k]);
-    times(p, weights[k], symbols[c])
+    times(rules::power(numbers.first), weights[k], symbols[c])
 }
 
 // A check by its number, with its first edge in the tables.
@@ -122,7 +127,7 @@ pub struct CheckAt {
 
 // The first check from `from` on and before `to` that the symbols do not satisfy, "the sum of h_n times x_n is 0"; `to` where they satisfy them all.
 pub fn unsatisfied(
-    p: u8,
+    numbers: Numbers,
     from: CheckAt,
     to: usize,
     degrees: &[u8],
@@ -130,8 +135,10 @@ pub fn unsatisfied(
     weights: &[u8],
     symbols: &[u8],
 ) -> CheckAt
-    requires { ⌜ ParityRoom p (now degrees) (now columns) (now weights) (now symbols) × FromTo (now degrees) from to ⌝ }
-    ensures { λ r. ⌜ FirstNot p (now (degrees .entry)) (now (columns .entry)) (now (weights .entry)) (now (symbols .entry)) (from .check) to r ⌝ }
+    requires { ⌜ ParityRoom numbers (now degrees) (now columns) (now weights) (now symbols)
+        × FromTo numbers (now degrees) from to ⌝ }
+    ensures { λ r. ⌜ FirstNot (codeOf numbers (now (degrees .entry)) (now (columns .entry)) (now (weights .entry)))
+        (now (degrees .entry)) (now (symbols .entry)) (from .check) to r ⌝ }
 {
     let mut m = from.check;
     let mut at = from.edge;
@@ -149,7 +156,7 @@ pub fn unsatisfied(
                 }
                 break;
             }
-            sum = sum ^ term_at(p, columns, weights, symbols, at + n);
+            sum = sum ^ term_at(numbers, columns, weights, symbols, at + n);
             n += 1;
         }
         at += d;
@@ -158,29 +165,32 @@ pub fn unsatisfied(
 }
 
 // Whether the symbols satisfy every check.
-fn holds(p: u8, degrees: &[u8], columns: &[u16], weights: &[u8], symbols: &[u8]) -> bool
-    requires { ⌜ ParityRoom p (now degrees) (now columns) (now weights) (now symbols) ⌝ }
-    ensures { λ r. ⌜ r ≡ allHold p (now (degrees .entry)) (now (columns .entry)) (now (weights .entry)) (now (symbols .entry)) (length (now (degrees .entry))) ⌝ }
+fn holds(numbers: Numbers, degrees: &[u8], columns: &[u16], weights: &[u8], symbols: &[u8]) -> bool
+    requires { ⌜ ParityRoom numbers (now degrees) (now columns) (now weights) (now symbols) ⌝ }
+    ensures { λ r. ⌜ r ≡ allHold (codeOf numbers (now (degrees .entry)) (now (columns .entry)) (now (weights .entry)))
+        (now (symbols .entry)) ⌝ }
 {
-    let count = degrees.len();
+    let count = num::index(numbers.checks);
     let from = CheckAt { check: 0, edge: 0 };
-    unsatisfied(p, from, count, degrees, columns, weights, symbols).check == count
+    unsatisfied(numbers, from, count, degrees, columns, weights, symbols).check == count
 }
 
 // The decisions into the symbol buffer, and whether they satisfy every check.
 pub fn settled(
-    p: u8,
+    numbers: Numbers,
     degrees: &[u8],
     columns: &[u16],
     weights: &[u8],
     costs: &[u16],
     symbols: &mut [u8],
 ) -> bool
-    requires { ⌜ SettledRoom p (now degrees) (now columns) (now weights) (now costs) (now symbols) ⌝ }
-    ensures { λ r. ⌜ r ≡ allHold p (now (degrees .entry)) (now (columns .entry)) (now (weights .entry)) (decisionsOf (2 ^ p) (now (costs .entry)) (length (now (symbols .entry)))) (length (now (degrees .entry))) ⌝ }
-    ensures { λ _. ⌜ now (symbols .exit) ≡ decisionsOf (2 ^ p) (now (costs .entry)) (length (now (symbols .entry))) ⌝ }
+    requires { ⌜ SettledRoom numbers (now degrees) (now columns) (now weights) (now costs) (now symbols) ⌝ }
+    ensures { λ r. ⌜ r ≡ settledOf (codeOf numbers (now (degrees .entry)) (now (columns .entry)) (now (weights .entry)))
+        (now (costs .entry)) ⌝ }
+    ensures { λ _. ⌜ now (symbols .exit)
+        ≡ symbolsOf (codeOf numbers (now (degrees .entry)) (now (columns .entry)) (now (weights .entry)))
+        (now (costs .entry)) ⌝ }
 {
-    let q = num::size(p);
-    decisions(costs, q, symbols);
-    holds(p, degrees, columns, weights, symbols)
+    decisions(costs, rules::size(numbers.first), symbols);
+    holds(numbers, degrees, columns, weights, symbols)
 }

@@ -1,11 +1,13 @@
 // A check in the tables and the store: where it stands, one update of it, and the check behind it.
 use crate::num;
 use crate::update;
+use codeline::Numbers;
 ghost use mathlib.Core.Path.{_≡_};
 ghost use Prim.Native.Nat.{_+_};
 ghost use lib.Dec.{eqb};
 ghost use Rattle.trellis.specs.Lists.{pick};
-ghost use Rattle.layered.specs.inner.Passes.{graph, lent, turnAt};
+ghost use Rattle.machine.specs.Lent.{lent, updateLent};
+ghost use Rattle.codeline.specs.inner.Coding.{codeOf};
 ghost use Rattle.layered.specs.inner.Places.{Stands, Around, PlaceRoom};
 
 // The check's number, its first edge in the tables, its record's first byte in the store.
@@ -17,8 +19,7 @@ pub struct Place {
 
 // One update of the check that stands here; answers where the next one stands.
 pub fn update_at(
-    first: u8,
-    g: u16,
+    numbers: Numbers,
     start: bool,
     here: Place,
     degrees: &[u8],
@@ -29,22 +30,24 @@ pub fn update_at(
     arrived: &mut [u8],
     sent: &mut [u8],
 ) -> Place
-    requires { ⌜ PlaceRoom (graph first g (now degrees) (now columns) (now weights)) start here (now costs) (now store) (now arrived) (now sent) ⌝ }
-    ensures { λ _. ⌜ lent (now (costs .exit)) (now (store .exit)) ≡ turnAt (graph first g (now (degrees .entry)) (now (columns .entry)) (now (weights .entry))) start (here .check) (lent (now (costs .entry)) (now (store .entry))) ⌝ }
-    ensures { λ r. ⌜ Stands first (now (degrees .entry)) (here .check + 1) r ⌝ }
+    requires { ⌜ PlaceRoom numbers (now degrees) (now columns) (now weights) start here
+        (now costs) (now store) (now arrived) (now sent) ⌝ }
+    ensures { λ _. ⌜ lent (now (costs .exit)) (now (store .exit))
+        ≡ updateLent (codeOf numbers (now (degrees .entry)) (now (columns .entry)) (now (weights .entry)))
+        start (here .check) (lent (now (costs .entry)) (now (store .entry))) ⌝ }
+    ensures { λ r. ⌜ Stands (numbers .first) (now (degrees .entry)) (here .check + 1) r ⌝ }
 {
     let m = here.check;
     let at = here.edge;
     let place = here.byte;
-    let q = rules::size(first);
-    let groups = rules::groups(first);
+    let q = rules::size(numbers.first);
+    let groups = rules::groups(numbers.first);
     let d = num::index(degrees[m]);
     let n = d * q;
     let e = at + d;
     let f = place + (d + groups);
     update::update(
-        first,
-        g,
+        numbers,
         start,
         &columns[at..e],
         &weights[at..e],

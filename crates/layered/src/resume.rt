@@ -9,7 +9,7 @@ ghost use Rattle.trellis.specs.Lists.{allTo};
 ghost use Rattle.trellis.specs.Record.{recordOk};
 ghost use Rattle.trellis.specs.Rules.{ruleFor};
 ghost use Rattle.machine.specs.CodeLine.{zeroIn};
-ghost use Rattle.layered.specs.inner.Turns.{Weighed};
+ghost use Rattle.layered.specs.inner.Updates.{Weighed};
 ghost use Rattle.layered.specs.inner.Stages.{lowAt, costsIn, formedAt, recordsIn, resumeFault, StoreRoom, ResumeRoom};
 
 // Whether none of the first w costs is above 510.

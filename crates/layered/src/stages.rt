@@ -6,17 +6,16 @@ use crate::num;
 use crate::parity;
 use crate::resume;
 use codeline::Header;
+use codeline::Numbers;
 ghost use mathlib.Core.Path.{_≡_};
-ghost use lib.ListN.{length};
-ghost use Rattle.trellis.specs.Rules.{sizeOf};
-ghost use Rattle.machine.specs.CodeLine.{Code};
+ghost use Rattle.machine.specs.Machine.{settled, symbols as symbolsOf, margins as marginsOf};
+ghost use Rattle.machine.specs.Lent.{lent, iterationLent};
 ghost use Rattle.machine.specs.Decoding.{lending};
 ghost use Rattle.machine.specs.Moments.{Moves, loading, iterating};
-ghost use Rattle.layered.specs.inner.Parity.{decisionsOf, marginsOf};
-ghost use Rattle.layered.specs.inner.Passes.{graph, lent, passOver, testOn};
-ghost use Rattle.layered.specs.inner.Frames.{Coded, CodeRoom};
+ghost use Rattle.layered.specs.inner.Frames.{CodeRoom};
+ghost use Rattle.codeline.specs.inner.Coding.{codeOf, Coded};
 ghost use Rattle.layered.specs.Answers.{stageOf};
-ghost use Rattle.layered.specs.inner.Stages.{stageAfter, loadingOf, iteratingOf, TestRoom, StepRoom, Loaded, LoadRoom};
+ghost use Rattle.layered.specs.inner.Stages.{stageAfter, loadingOf, iteratingOf, TestRoom, StepRoom};
 
 // "2 if the test holds, else 3 if t is I or more, else 1".
 pub fn stage_after(found: bool, t: u16, limit: u8) -> Stage
@@ -33,7 +32,7 @@ pub fn stage_after(found: bool, t: u16, limit: u8) -> Stage
 
 // The decisions with their margins, and whether they satisfy every check.
 pub fn tested(
-    first: u8,
+    numbers: Numbers,
     degrees: &[u8],
     columns: &[u16],
     weights: &[u8],
@@ -41,21 +40,24 @@ pub fn tested(
     symbols: &mut [u8],
     margins: &mut [u16],
 ) -> bool
-    requires { ⌜ TestRoom first (now degrees) (now columns) (now weights) (now costs) (now symbols) (now margins) ⌝ }
-    ensures { λ r. ⌜ r ≡ testOn first (now (degrees .entry)) (now (columns .entry)) (now (weights .entry)) (length (now (symbols .entry))) (now (costs .entry)) ⌝ }
-    ensures { λ _. ⌜ now (symbols .exit) ≡ decisionsOf (sizeOf first) (now (costs .entry)) (length (now (symbols .entry))) ⌝ }
-    ensures { λ _. ⌜ now (margins .exit) ≡ marginsOf (sizeOf first) (now (costs .entry)) (length (now (margins .entry))) ⌝ }
+    requires { ⌜ TestRoom numbers (now degrees) (now columns) (now weights)
+        (now costs) (now symbols) (now margins) ⌝ }
+    ensures { λ r. ⌜ r ≡ settled (codeOf numbers (now (degrees .entry)) (now (columns .entry)) (now (weights .entry)))
+        (now (costs .entry)) ⌝ }
+    ensures { λ _. ⌜ now (symbols .exit)
+        ≡ symbolsOf (codeOf numbers (now (degrees .entry)) (now (columns .entry)) (now (weights .entry)))
+        (now (costs .entry)) ⌝ }
+    ensures { λ _. ⌜ now (margins .exit)
+        ≡ marginsOf (codeOf numbers (now (degrees .entry)) (now (columns .entry)) (now (weights .entry)))
+        (now (costs .entry)) ⌝ }
 {
-    let q = rules::size(first);
-    let p = rules::power(first);
-    parity::margins(costs, q, margins);
-    parity::settled(p, degrees, columns, weights, costs, symbols)
+    parity::margins(costs, rules::size(numbers.first), margins);
+    parity::settled(numbers, degrees, columns, weights, costs, symbols)
 }
 
 // One iteration, and the test after it.
 pub fn iterated(
-    first: u8,
-    g: u16,
+    numbers: Numbers,
     start: bool,
     degrees: &[u8],
     columns: &[u16],
@@ -67,15 +69,22 @@ pub fn iterated(
     arrived: &mut [u8],
     sent: &mut [u8],
 ) -> bool
-    requires { ⌜ StepRoom (graph first g (now degrees) (now columns) (now weights)) start (now costs) (now store) (now symbols) (now margins) (now arrived) (now sent) ⌝ }
-    ensures { λ r. ⌜ r ≡ testOn first (now (degrees .entry)) (now (columns .entry)) (now (weights .entry)) (length (now (symbols .entry))) (now (costs .exit)) ⌝ }
-    ensures { λ _. ⌜ lent (now (costs .exit)) (now (store .exit)) ≡ passOver (graph first g (now (degrees .entry)) (now (columns .entry)) (now (weights .entry))) start (lent (now (costs .entry)) (now (store .entry))) ⌝ }
-    ensures { λ _. ⌜ now (symbols .exit) ≡ decisionsOf (sizeOf first) (now (costs .exit)) (length (now (symbols .entry))) ⌝ }
-    ensures { λ _. ⌜ now (margins .exit) ≡ marginsOf (sizeOf first) (now (costs .exit)) (length (now (margins .entry))) ⌝ }
+    requires { ⌜ StepRoom numbers (now degrees) (now columns) (now weights) start
+        (now costs) (now store) (now symbols) (now margins) (now arrived) (now sent) ⌝ }
+    ensures { λ r. ⌜ r ≡ settled (codeOf numbers (now (degrees .entry)) (now (columns .entry)) (now (weights .entry)))
+        (now (costs .exit)) ⌝ }
+    ensures { λ _. ⌜ lent (now (costs .exit)) (now (store .exit))
+        ≡ iterationLent (codeOf numbers (now (degrees .entry)) (now (columns .entry)) (now (weights .entry)))
+        start (lent (now (costs .entry)) (now (store .entry))) ⌝ }
+    ensures { λ _. ⌜ now (symbols .exit)
+        ≡ symbolsOf (codeOf numbers (now (degrees .entry)) (now (columns .entry)) (now (weights .entry)))
+        (now (costs .exit)) ⌝ }
+    ensures { λ _. ⌜ now (margins .exit)
+        ≡ marginsOf (codeOf numbers (now (degrees .entry)) (now (columns .entry)) (now (weights .entry)))
+        (now (costs .exit)) ⌝ }
 {
-    iterate::pass(
-        first,
-        g,
+    iterate::iterate(
+        numbers,
         start,
         degrees,
         columns,
@@ -85,15 +94,12 @@ pub fn iterated(
         arrived,
         sent,
     );
-    tested(first, degrees, columns, weights, costs, symbols, margins)
+    tested(numbers, degrees, columns, weights, costs, symbols, margins)
 }
 
 // "After a load the state is 4 if decoding would refuse, else 2 if the test holds, else 1."
 fn load_under(
-    first: u8,
-    n: usize,
-    m: usize,
-    limit: u8,
+    numbers: Numbers,
     degrees: &[u8],
     columns: &[u16],
     weights: &[u8],
@@ -103,11 +109,17 @@ fn load_under(
     store: &[u8],
     margins: &mut [u16],
 ) -> Stage
-    requires { ⌜ LoadRoom first n m limit (now degrees) (now columns) (now weights) ⌝ }
-    ensures { λ r. ⌜ ((C : Code) → Loaded C first n m limit (now (degrees .entry)) (now (columns .entry)) (now (weights .entry)) → Moves (loadingOf C (now (frame .entry)) (lending (now (symbols .entry)) (now (costs .entry)) (now (store .entry)) (now (margins .entry)))) (stageOf r) (lending (now (symbols .exit)) (now (costs .exit)) (now (store .entry)) (now (margins .exit)))) ⌝ }
+    requires { ⌜ Coded numbers (now degrees) (now columns) (now weights) ⌝ }
+    ensures { λ r. ⌜ Moves
+        (loadingOf (codeOf numbers (now (degrees .entry)) (now (columns .entry)) (now (weights .entry)))
+        (now (frame .entry)) (lending (now (symbols .entry)) (now (costs .entry)) (now (store .entry)) (now (margins .entry))))
+        (stageOf r)
+        (lending (now (symbols .exit)) (now (costs .exit)) (now (store .entry)) (now (margins .exit))) ⌝ }
 {
+    let n = num::long(numbers.columns);
+    let m = num::index(numbers.checks);
     let k = frame::fault(
-        first,
+        numbers.first,
         n,
         &degrees[..m],
         frame,
@@ -122,24 +134,20 @@ fn load_under(
     let w = frame.len();
     frame::copy(frame, &mut costs[..w]);
     let found = tested(
-        first,
-        &degrees[..m],
+        numbers,
+        degrees,
         columns,
         weights,
         &costs[..w],
         &mut symbols[..n],
         &mut margins[..n],
     );
-    stage_after(found, 0, limit)
+    stage_after(found, 0, numbers.limit)
 }
 
 // "While running, command 2 first tests decoding's refusals, then 13 .. then, if t is not 0, 16"; then it "goes on from the lent costs and records".
 fn step_under(
-    first: u8,
-    n: usize,
-    m: usize,
-    g: u16,
-    limit: u8,
+    numbers: Numbers,
     t: u8,
     degrees: &[u8],
     columns: &[u16],
@@ -152,11 +160,17 @@ fn step_under(
     arrived: &mut [u8],
     sent: &mut [u8],
 ) -> Stage
-    requires { ⌜ CodeRoom first n m g limit (now degrees) (now columns) (now weights) (now arrived) (now sent) ⌝ }
-    ensures { λ r. ⌜ ((C : Code) → Coded C first n m g limit (now (degrees .entry)) (now (columns .entry)) (now (weights .entry)) → Moves (iteratingOf C (now (frame .entry)) t (lending (now (symbols .entry)) (now (costs .entry)) (now (store .entry)) (now (margins .entry)))) (stageOf r) (lending (now (symbols .exit)) (now (costs .exit)) (now (store .exit)) (now (margins .exit)))) ⌝ }
+    requires { ⌜ CodeRoom numbers (now degrees) (now columns) (now weights) (now arrived) (now sent) ⌝ }
+    ensures { λ r. ⌜ Moves
+        (iteratingOf (codeOf numbers (now (degrees .entry)) (now (columns .entry)) (now (weights .entry)))
+        (now (frame .entry)) t (lending (now (symbols .entry)) (now (costs .entry)) (now (store .entry)) (now (margins .entry))))
+        (stageOf r)
+        (lending (now (symbols .exit)) (now (costs .exit)) (now (store .exit)) (now (margins .exit))) ⌝ }
 {
+    let n = num::long(numbers.columns);
+    let m = num::index(numbers.checks);
     let k = frame::fault(
-        first,
+        numbers.first,
         n,
         &degrees[..m],
         frame,
@@ -168,16 +182,15 @@ fn step_under(
     if k != 0 {
         return Stage::Refused(k);
     }
-    let l = resume::fault(first, n, t, &degrees[..m], weights, costs, store);
+    let l = resume::fault(numbers.first, n, t, &degrees[..m], weights, costs, store);
     if l != 0 {
         return Stage::Refused(l);
     }
     let w = frame.len();
     let found = iterated(
-        first,
-        g,
+        numbers,
         t == 0,
-        &degrees[..m],
+        degrees,
         columns,
         weights,
         &mut symbols[..n],
@@ -187,7 +200,7 @@ fn step_under(
         arrived,
         sent,
     );
-    stage_after(found, num::wide(t) + 1, limit)
+    stage_after(found, num::wide(t) + 1, numbers.limit)
 }
 
 // Over the tables of load.
@@ -206,30 +219,17 @@ pub fn load_in(
 {
     match codeline::code_tables(code, degrees, columns, weights) {
         Header::Refused(k) => Stage::Refused(k),
-        Header::Read {
-            first,
-            columns: n,
-            checks: m,
-            scale: _,
-            limit,
-        } => {
-            let n = num::long(n);
-            let m = num::index(m);
-            load_under(
-                first,
-                n,
-                m,
-                limit,
-                degrees,
-                columns,
-                weights,
-                frame,
-                symbols,
-                costs,
-                store,
-                margins,
-            )
-        }
+        Header::Read(numbers) => load_under(
+            numbers,
+            degrees,
+            columns,
+            weights,
+            frame,
+            symbols,
+            costs,
+            store,
+            margins,
+        ),
     }
 }
 
@@ -252,34 +252,19 @@ pub fn step_in(
 {
     match codeline::code_tables(code, degrees, columns, weights) {
         Header::Refused(k) => Stage::Refused(k),
-        Header::Read {
-            first,
-            columns: n,
-            checks: m,
-            scale: g,
-            limit,
-        } => {
-            let n = num::long(n);
-            let m = num::index(m);
-            let g = num::wide(g);
-            step_under(
-                first,
-                n,
-                m,
-                g,
-                limit,
-                t,
-                degrees,
-                columns,
-                weights,
-                frame,
-                symbols,
-                costs,
-                store,
-                margins,
-                arrived,
-                sent,
-            )
-        }
+        Header::Read(numbers) => step_under(
+            numbers,
+            t,
+            degrees,
+            columns,
+            weights,
+            frame,
+            symbols,
+            costs,
+            store,
+            margins,
+            arrived,
+            sent,
+        ),
     }
 }

@@ -4,20 +4,17 @@ use crate::early;
 use crate::frame;
 use crate::num;
 use codeline::Header;
+use codeline::Numbers;
 ghost use mathlib.Core.Path.{_≡_};
-ghost use Rattle.machine.specs.CodeLine.{Code};
 ghost use Rattle.machine.specs.Decoding.{lending, Leaves};
 ghost use Rattle.machine.specs.Early.{DecodesEarly};
 ghost use Rattle.layered.specs.Answers.{earlyReply};
-ghost use Rattle.layered.specs.inner.Frames.{earlyOf, Coded, CodeRoom};
+ghost use Rattle.codeline.specs.inner.Coding.{codeOf};
+ghost use Rattle.layered.specs.inner.Frames.{earlyOf, CodeRoom};
 
 // "It refuses as decoding does." Nothing is written before the last refusal has been tested.
 fn under_code(
-    first: u8,
-    n: usize,
-    m: usize,
-    g: u16,
-    limit: u8,
+    numbers: Numbers,
     degrees: &[u8],
     columns: &[u16],
     weights: &[u8],
@@ -29,11 +26,17 @@ fn under_code(
     arrived: &mut [u8],
     sent: &mut [u8],
 ) -> EarlyAnswer
-    requires { ⌜ CodeRoom first n m g limit (now degrees) (now columns) (now weights) (now arrived) (now sent) ⌝ }
-    ensures { λ r. ⌜ ((C : Code) → Coded C first n m g limit (now (degrees .entry)) (now (columns .entry)) (now (weights .entry)) → Leaves (earlyOf C (now (frame .entry)) (lending (now (symbols .entry)) (now (costs .entry)) (now (store .entry)) (now (margins .entry)))) (earlyReply r) (lending (now (symbols .exit)) (now (costs .exit)) (now (store .exit)) (now (margins .exit)))) ⌝ }
+    requires { ⌜ CodeRoom numbers (now degrees) (now columns) (now weights) (now arrived) (now sent) ⌝ }
+    ensures { λ r. ⌜ Leaves
+        (earlyOf (codeOf numbers (now (degrees .entry)) (now (columns .entry)) (now (weights .entry)))
+        (now (frame .entry)) (lending (now (symbols .entry)) (now (costs .entry)) (now (store .entry)) (now (margins .entry))))
+        (earlyReply r)
+        (lending (now (symbols .exit)) (now (costs .exit)) (now (store .exit)) (now (margins .exit))) ⌝ }
 {
+    let n = num::long(numbers.columns);
+    let m = num::index(numbers.checks);
     let k = frame::fault(
-        first,
+        numbers.first,
         n,
         &degrees[..m],
         frame,
@@ -48,10 +51,8 @@ fn under_code(
     let w = frame.len();
     frame::copy(frame, &mut costs[..w]);
     let o = early::run_to_margins(
-        first,
-        g,
-        limit,
-        &degrees[..m],
+        numbers,
+        degrees,
         columns,
         weights,
         &mut symbols[..n],
@@ -82,33 +83,18 @@ pub fn decode_early_in(
 {
     match codeline::code_tables(code, degrees, columns, weights) {
         Header::Refused(k) => EarlyAnswer::Refused(k),
-        Header::Read {
-            first,
-            columns: n,
-            checks: m,
-            scale: g,
-            limit,
-        } => {
-            let n = num::long(n);
-            let m = num::index(m);
-            let g = num::wide(g);
-            under_code(
-                first,
-                n,
-                m,
-                g,
-                limit,
-                degrees,
-                columns,
-                weights,
-                frame,
-                symbols,
-                costs,
-                store,
-                margins,
-                arrived,
-                sent,
-            )
-        }
+        Header::Read(numbers) => under_code(
+            numbers,
+            degrees,
+            columns,
+            weights,
+            frame,
+            symbols,
+            costs,
+            store,
+            margins,
+            arrived,
+            sent,
+        ),
     }
 }

@@ -1,12 +1,16 @@
 // One update of a check: Q from the costs and the old record, the new record, and the costs again.
 use crate::column;
+use crate::num;
+use codeline::Numbers;
 ghost use mathlib.Core.Path.{_≡_};
 ghost use lib.ListN.{length};
 ghost use Rattle.trellis.specs.Lists.{tab};
 ghost use Rattle.trellis.specs.Check.{allSent};
 ghost use Rattle.trellis.specs.Record.{recordOf};
 ghost use Rattle.trellis.specs.Rules.{ruleFor, sizeOf, columnsOf};
-ghost use Rattle.layered.specs.inner.Turns.{oldCosts, RecallRoom, SendRoom, UpdateRoom, recordNow, costsNow};
+ghost use Rattle.machine.specs.Lent.{costsLent, recordLent};
+ghost use Rattle.machine.specs.inner.Tables.{edgesOf};
+ghost use Rattle.layered.specs.inner.Updates.{oldCosts, RecallRoom, SendRoom, UpdateRoom};
 
 fn clear(out: &mut [u8])
     ensures { λ _. ⌜ now (out .exit) ≡ tab (λ x. 0) (length (now (out .entry))) ⌝ }
@@ -41,8 +45,7 @@ fn send(first: u8, weights: &[u8], costs: &[u8], bytes: &mut [u8], out: &mut [u8
 
 // "This is one update of the check", whose record stands in `bytes`; `arrived` and `sent` are room to work in.
 pub fn update(
-    first: u8,
-    g: u16,
+    numbers: Numbers,
     start: bool,
     columns: &[u16],
     weights: &[u8],
@@ -51,13 +54,19 @@ pub fn update(
     arrived: &mut [u8],
     sent: &mut [u8],
 )
-    requires { ⌜ UpdateRoom first g start (now columns) (now weights) (now costs) (now bytes) (now arrived) (now sent) ⌝ }
-    ensures { λ _. ⌜ now (costs .exit) ≡ costsNow first g start (now (columns .entry)) (now (weights .entry)) (now (bytes .entry)) (now (costs .entry)) ⌝ }
-    ensures { λ _. ⌜ now (bytes .exit) ≡ recordNow first g start (now (columns .entry)) (now (weights .entry)) (now (bytes .entry)) (now (costs .entry)) ⌝ }
+    requires { ⌜ UpdateRoom (numbers .first) (numbers .scale) start
+        (now columns) (now weights) (now costs) (now bytes) (now arrived) (now sent) ⌝ }
+    ensures { λ _. ⌜ now (costs .exit)
+        ≡ costsLent (ruleFor (numbers .first)) (numbers .scale) start
+        (edgesOf (now (columns .entry)) (now (weights .entry))) (now (bytes .entry)) (now (costs .entry)) ⌝ }
+    ensures { λ _. ⌜ now (bytes .exit)
+        ≡ recordLent (ruleFor (numbers .first)) (numbers .scale) start
+        (edgesOf (now (columns .entry)) (now (weights .entry))) (now (bytes .entry)) (now (costs .entry)) ⌝ }
 {
-    let q = rules::size(first);
-    recall(first, start, weights, bytes, sent);
+    let q = rules::size(numbers.first);
+    let g = num::wide(numbers.scale);
+    recall(numbers.first, start, weights, bytes, sent);
     column::gather(costs, columns, sent, g, q, arrived);
-    send(first, weights, arrived, bytes, sent);
+    send(numbers.first, weights, arrived, bytes, sent);
     column::scatter(arrived, sent, columns, g, q, costs);
 }

@@ -15,13 +15,13 @@ use Rattle.trellis.proofs.Places.{length-count}
 use Rattle.trellis.proofs.Loops.{length-tab, getD-tab}
 use Rattle.machine.specs.CodeLine.{Edge, Code, size, rule, check, edgeAt, columnOf}
 use Rattle.machine.specs.Machine.{made, State, lastOf, decisionAt, symbols, margins, message, arriving, outgoing, spread, update, used}
-use Rattle.machine.specs.Lent.{Lent, turn}
+use Rattle.machine.specs.Lent.{Lent, updateLent}
 use Rattle.machine.proofs.Lists.{at-upTo}
 use Rattle.machine.specs.inner.Accepted.{GoodCheck, GoodCode}
 use Rattle.machine.proofs.Updates.{size-some}
 use Rattle.machine.specs.inner.InRange.{Ranged}
 use Rattle.machine.proofs.Ranges.{length-outgoing, length-patch, part-before, part-after, column-room}
-use Rattle.machine.proofs.Passing.{turn-costs}
+use Rattle.machine.proofs.Passing.{update-costs}
 
 -- a list of values put in at the places cols 0, .., cols (d - 1)
 module _ (g cols : ℕ → ℕ) where
@@ -106,9 +106,9 @@ redecided C G v m h s full =
 
 -- and over the buffers'
 pub redecided-lent : (C : Code) (G : GoodCode C) (v : List ℕ → ℕ) (start : Bool) (l : Lent) (R : Ranged C (l .costs)) → used C ≤ length (l .store) → (m : ℕ) → m < length (C .checks)
-    → redone (λ c. v (columnOf (size C) (turn C start m l .costs) c)) (λ k. edgeAt (check C m) k .column) (length (check C m)) (tab (λ c. v (columnOf (size C) (l .costs) c)) (C .columns))
-    ≡ tab (λ c. v (columnOf (size C) (turn C start m l .costs) c)) (C .columns)
-redecided-lent C G v start l R room m h = respread C G v m h (l .costs) (R .full) _ _ _ (turn-costs C G start l R room m h)
+    → redone (λ c. v (columnOf (size C) (updateLent C start m l .costs) c)) (λ k. edgeAt (check C m) k .column) (length (check C m)) (tab (λ c. v (columnOf (size C) (l .costs) c)) (C .columns))
+    ≡ tab (λ c. v (columnOf (size C) (updateLent C start m l .costs) c)) (C .columns)
+redecided-lent C G v start l R room m h = respread C G v m h (l .costs) (R .full) _ _ _ (update-costs C G start l R room m h)
 
 -- the machine's own symbols and margins
 list-of : (f : ℕ → ℕ) (n : ℕ) → map f (upTo n) ≡ tab f n

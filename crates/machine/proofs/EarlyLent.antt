@@ -13,14 +13,14 @@ use Rattle.trellis.specs.Lists.{pick}
 use Rattle.machine.specs.CodeLine.{Code, frameFault}
 use Rattle.machine.specs.Machine.{none, lastOf, start, found, notFound, used, held}
 use Rattle.machine.specs.Lent.{Lent}
-use Rattle.machine.specs.inner.LentEarly.{Halted, halted, turnNext, stopLent}
+use Rattle.machine.specs.inner.LentEarly.{Halted, halted, nextLent, stopLent}
 use Rattle.machine.specs.Early.{momentAfter, testAfter, firstFrom, mostUpdates, updates, stateEarly, statusEarly}
 use Rattle.machine.specs.inner.Accepted.{GoodCode}
 use Rattle.machine.specs.inner.InRange.{Below, Ranged}
 use Rattle.machine.proofs.Ranges.{update-ranged, frame-ranged}
-use Rattle.machine.proofs.Lent.{lentOf, When, length-held, held-none, turn-stands}
+use Rattle.machine.proofs.Lent.{lentOf, When, length-held, held-none, update-stands}
 use Rattle.machine.proofs.Early.{moment-suc, moment-start}
-use Rattle.machine.proofs.EarlyStores.{turn-small, moment-kept, none-yet, made-then}
+use Rattle.machine.proofs.EarlyStores.{update-small, moment-kept, none-yet, made-then}
 
 module _ (C : Code) (G : GoodCode C) (s₀ : List ℕ) (room : used C ≤ length s₀) (f : List ℕ) where
   -- the buffers after u updates
@@ -31,15 +31,15 @@ module _ (C : Code) (G : GoodCode C) (s₀ : List ℕ) (room : used C ≤ length
   pub when-next : (u : ℕ) → When C (ltb u (length (C .checks))) (lastOf (momentAfter C f u) (u % length (C .checks)))
   when-next u =
       elim (decLt u (length (C .checks))) [
-        | yes h ↦ rw (lt-ltb u (length (C .checks)) h) (none-yet C G f u (u % length (C .checks)) (turn-small C G f u) (omega (arith, mod-eq-of-lt h)))
-        | no h ↦ rw (le-ltb u (length (C .checks)) (omega arith)) (made-then C G f u (u % length (C .checks)) (turn-small C G f u) (omega (arith, turn-small C G f u)))
+        | yes h ↦ rw (lt-ltb u (length (C .checks)) h) (none-yet C G f u (u % length (C .checks)) (update-small C G f u) (omega (arith, mod-eq-of-lt h)))
+        | no h ↦ rw (le-ltb u (length (C .checks)) (omega arith)) (made-then C G f u (u % length (C .checks)) (update-small C G f u) (omega (arith, update-small C G f u)))
       ]
 
   -- one update
-  pub lent-suc : (u : ℕ) → turnNext C u (lentAfter u) ≡ lentAfter (suc u)
+  pub lent-suc : (u : ℕ) → nextLent C u (lentAfter u) ≡ lentAfter (suc u)
   unfolding lentAfter
   lent-suc u =
-      turn-stands C G s₀ room (ltb u (length (C .checks))) (momentAfter C f u) (moment-kept C G f u) (u % length (C .checks)) (turn-small C G f u) (when-next u)
+      update-stands C G s₀ room (ltb u (length (C .checks))) (momentAfter C f u) (moment-kept C G f u) (u % length (C .checks)) (update-small C G f u) (when-next u)
       ∙ ap (lentOf C s₀) (sym (moment-suc C f u))
 
   -- at the start the frame and the store as it was
@@ -62,11 +62,11 @@ module _ (C : Code) (G : GoodCode C) (s₀ : List ℕ) (room : used C ≤ length
       by false = refl
   stop-stands (suc n) u = by (testAfter C f u) refl (stop-stands n (suc u))
     where
-      next : stopLent C n (u + 1) (turnNext C u (lentAfter u)) ≡ stopLent C n (suc u) (lentAfter (suc u))
+      next : stopLent C n (u + 1) (nextLent C u (lentAfter u)) ≡ stopLent C n (suc u) (lentAfter (suc u))
       next = let e : u + 1 ≡ suc u = omega arith in ap₂ (stopLent C n) e (lent-suc u)
 
       by : (b : Bool) → testAfter C f u ≡ b → stopLent C n (suc u) (lentAfter (suc u)) ≡ endingAt (firstFrom (testAfter C f) n (suc u))
-          → pick b (halted found u (lentAfter u)) (stopLent C n (u + 1) (turnNext C u (lentAfter u))) ≡ endingAt (pick b u (firstFrom (testAfter C f) n (suc u)))
+          → pick b (halted found u (lentAfter u)) (stopLent C n (u + 1) (nextLent C u (lentAfter u))) ≡ endingAt (pick b u (firstFrom (testAfter C f) n (suc u)))
       by true e i = ap (λ b. halted (pick b found notFound) u (lentAfter u)) (sym e)
       by false e i = next ∙ i
 
@@ -84,4 +84,4 @@ module _ (C : Code) (G : GoodCode C) (s₀ : List ℕ) (room : used C ≤ length
 pub moment-ranged : (C : Code) → GoodCode C → (f : List ℕ) → frameFault C f ≡ 0 → Below 255 f → (u : ℕ) → Ranged C (momentAfter C f u .costs)
 moment-ranged C G f h b zero = rw (moment-start C f) (frame-ranged C f h b)
 moment-ranged C G f h b (suc u) =
-    rw (moment-suc C f u) (update-ranged C G (u % length (C .checks)) (turn-small C G f u) (momentAfter C f u) (moment-ranged C G f h b u))
+    rw (moment-suc C f u) (update-ranged C G (u % length (C .checks)) (update-small C G f u) (momentAfter C f u) (moment-ranged C G f h b u))

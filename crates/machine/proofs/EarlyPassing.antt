@@ -15,10 +15,10 @@ use Rattle.trellis.specs.Lists.{pick}
 use Rattle.machine.specs.CodeLine.{Code}
 use Rattle.machine.specs.Machine.{used}
 use Rattle.machine.specs.Lent.{Lent}
-use Rattle.machine.specs.inner.LentEarly.{turnNext}
+use Rattle.machine.specs.inner.LentEarly.{nextLent}
 use Rattle.machine.specs.inner.Accepted.{GoodCode}
 use Rattle.machine.specs.inner.InRange.{Advancing, Ranged, Formed}
-use Rattle.machine.proofs.Passing.{turn-ranged, turn-length, turn-formed, turn-others}
+use Rattle.machine.proofs.Passing.{lent-ranged, update-length, update-formed, update-others}
 
 -- the check after check u mod M: the next, or the first again
 pub next-check : (u M : ℕ) → 0 < M → suc u % M ≡ pick (eqb (u % M + 1) M) 0 (u % M + 1)
@@ -46,17 +46,17 @@ module _ (C : Code) (G : GoodCode C) where
   advancing-start l R r = record { ranged = R; room = r; done = λ m h i. absurd (not-suc-le-zero i) }
 
   -- one update more
-  pub advanced : (u : ℕ) (l : Lent) → Advancing C G u l → Advancing C G (suc u) (turnNext C u l)
+  pub advanced : (u : ℕ) (l : Lent) → Advancing C G u l → Advancing C G (suc u) (nextLent C u l)
   advanced u l A =
       let k = check-small u in
       record {
-        ranged = turn-ranged C G (ltb u M) l (A .ranged) (A .room) (u % M) k;
-        room = omega (arith, A .room, turn-length C G (ltb u M) l (A .ranged) (A .room) (u % M) k);
+        ranged = lent-ranged C G (ltb u M) l (A .ranged) (A .room) (u % M) k;
+        room = omega (arith, A .room, update-length C G (ltb u M) l (A .ranged) (A .room) (u % M) k);
         done = λ m h i. elim (ℕ-discrete m (u % M)) [
-          | yes e ↦ rw e (turn-formed C G (ltb u M) l (A .ranged) (A .room) (u % M) k)
+          | yes e ↦ rw e (update-formed C G (ltb u M) l (A .ranged) (A .room) (u % M) k)
           | no e ↦
               let n : m ≢ u = λ (j : m ≡ u). e (j ∙ sym (mod-eq-of-lt (rw j at h))) in
-              rw (turn-others C G (ltb u M) l (A .ranged) (A .room) (u % M) k m h e) (A .done m h (omega arith))
+              rw (update-others C G (ltb u M) l (A .ranged) (A .room) (u % M) k m h e) (A .done m h (omega arith))
         ];
       }
 

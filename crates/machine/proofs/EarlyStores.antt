@@ -30,29 +30,29 @@ module _ (C : Code) (G : GoodCode C) (f : List ℕ) where
   abbrev M : ℕ
   M = length (C .checks)
 
-  pub turn-small : (u : ℕ) → u % M < M
-  turn-small u = mod-lt u (G .checks-low)
+  pub update-small : (u : ℕ) → u % M < M
+  update-small u = mod-lt u (G .checks-low)
 
   pub moment-kept : (u : ℕ) → Kept C (momentAfter C f u)
   moment-kept zero = rw (moment-start C f) (record { full = length-replicate M none; fine = λ m h. rw (getD-replicate M m none none h) tt })
-  moment-kept (suc u) = rw (moment-suc C f u) (update-kept C G (momentAfter C f u) (moment-kept u) (u % M) (turn-small u))
+  moment-kept (suc u) = rw (moment-suc C f u) (update-kept C G (momentAfter C f u) (moment-kept u) (u % M) (update-small u))
 
   -- check m has no record before more than m updates, and has one then
   pub none-yet : (u m : ℕ) → m < M → u ≤ m → lastOf (momentAfter C f u) m ≡ none
   none-yet zero m h k = rw (moment-start C f) (getD-replicate M m none none h)
   none-yet (suc u) m h k =
       rw (moment-suc C f u)
-      (last-other C G (momentAfter C f u) (moment-kept u) (u % M) (turn-small u) m (λ (e : m ≡ u % M). omega (arith, mod-le u M)) ∙ none-yet u m h (omega arith))
+      (last-other C G (momentAfter C f u) (moment-kept u) (u % M) (update-small u) m (λ (e : m ≡ u % M). omega (arith, mod-le u M)) ∙ none-yet u m h (omega arith))
 
   pub made-then : (u m : ℕ) → m < M → m < u → IsMade (lastOf (momentAfter C f u) m)
   made-then zero m h k = absurd (not-suc-le-zero k)
   made-then (suc u) m h k =
       rw (moment-suc C f u)
       (elim (ℕ-discrete m (u % M)) [
-        | yes e ↦ rw (e, last-same C G (momentAfter C f u) (moment-kept u) (u % M) (turn-small u)) tt
+        | yes e ↦ rw (e, last-same C G (momentAfter C f u) (moment-kept u) (u % M) (update-small u)) tt
         | no e ↦
             let i : m ≢ u = λ (i : m ≡ u). e (i ∙ sym (mod-eq-of-lt (rw i at h))) in
-            rw (last-other C G (momentAfter C f u) (moment-kept u) (u % M) (turn-small u) m e) (made-then u m h (omega arith))
+            rw (last-other C G (momentAfter C f u) (moment-kept u) (u % M) (update-small u) m e) (made-then u m h (omega arith))
       ])
 
   -- at the end

@@ -16,7 +16,7 @@ use Rattle.trellis.specs.Check.{Column}
 use Rattle.trellis.specs.Record.{recordLength, recordOf}
 use Rattle.machine.specs.CodeLine.{Edge, Code, size, rule, check}
 use Rattle.machine.specs.Machine.{Last, none, made, State, lastOf, scaled, message, arriving, spread, update, iteration, start, Result, result, go, run, settled, found, notFound, place, used, recordIn, records, pieceOf, held}
-use Rattle.machine.specs.Lent.{Lent, weightsOf, heard, gathered, turn, pass, Ended, ended, goLent}
+use Rattle.machine.specs.Lent.{Lent, weightsOf, messageLent, arrivingLent, costsLent, recordLent, updateLent, iterationLent, Ended, ended, goLent}
 use Rattle.trellis.proofs.Lists.{of-upTo}
 use Rattle.trellis.proofs.Places.{map-ext}
 use Rattle.trellis.proofs.Records.{expand-record}
@@ -118,27 +118,27 @@ module _ (C : Code) (G : GoodCode C) (s₀ : List ℕ) (room : used C ≤ length
           ∙ patch-at (blocks (λ m. pieceOf C s₀ m (lastOf s m)) m) (pieceOf C s₀ m (lastOf s m)) (b .0) (recordOf (rule C) cs) _ _ (length-front m (omega arith)) (length-piece m h (lastOf s m) (K .fine m h)))
 
   -- what a record's expansion says is what its columns were sent
-  pub heard-made : (es : List Edge) → GoodCheck (C .columns) (size C) es → (cs : List Column) → Made C es cs → (n : ℕ) → n < length es
-      → heard (rule C) (C .scale) false (weightsOf es) (recordOf (rule C) cs) n ≡ message (rule C) (C .scale) (made cs) n
-  unfolding heard message
-  heard-made es H cs M n h =
+  pub message-made : (es : List Edge) → GoodCheck (C .columns) (size C) es → (cs : List Column) → Made C es cs → (n : ℕ) → n < length es
+      → messageLent (rule C) (C .scale) false (weightsOf es) (recordOf (rule C) cs) n ≡ message (rule C) (C .scale) (made cs) n
+  unfolding messageLent message
+  message-made es H cs M n h =
       rw (← M .same) (map-ext (λ x i. ap (scaled (C .scale)) (expand-record (rule C) cs (made-proper C G es H cs M) n x (omega (arith, M .count)) (of-upTo i))))
 
-  heard-message : (es : List Edge) → GoodCheck (C .columns) (size C) es → (start : Bool) (m : ℕ) (l : Last) → Fine C es l → When C start l → (n : ℕ) → n < length es
-      → heard (rule C) (C .scale) start (weightsOf es) (pieceOf C s₀ m l) n ≡ message (rule C) (C .scale) l n
-  unfolding heard message
-  heard-message es H true m none f w n h = refl
-  heard-message es H true m (made cs) f w n h = let z : _≡_ {A = ℕ} 0 1 = cc in absurd (omega arith)
-  heard-message es H false m none f w n h = absurd w
-  heard-message es H false m (made cs) f w n h = heard-made es H cs f n h
+  message-lent : (es : List Edge) → GoodCheck (C .columns) (size C) es → (start : Bool) (m : ℕ) (l : Last) → Fine C es l → When C start l → (n : ℕ) → n < length es
+      → messageLent (rule C) (C .scale) start (weightsOf es) (pieceOf C s₀ m l) n ≡ message (rule C) (C .scale) l n
+  unfolding messageLent message
+  message-lent es H true m none f w n h = refl
+  message-lent es H true m (made cs) f w n h = let z : _≡_ {A = ℕ} 0 1 = cc in absurd (omega arith)
+  message-lent es H false m none f w n h = absurd w
+  message-lent es H false m (made cs) f w n h = message-made es H cs f n h
 
-  pub turn-stands : (start : Bool) (s : State) → Kept C s → (m : ℕ) → m < length (C .checks) → When C start (lastOf s m)
-      → turn C start m (lentOf C s₀ s) ≡ lentOf C s₀ (update C m s)
-  unfolding turn update
-  turn-stands start s K m h w =
+  pub update-stands : (start : Bool) (s : State) → Kept C s → (m : ℕ) → m < length (C .checks) → When C start (lastOf s m)
+      → updateLent C start m (lentOf C s₀ s) ≡ lentOf C s₀ (update C m s)
+  unfolding updateLent costsLent recordLent update
+  update-stands start s K m h w =
       ap₂ (λ a b. record { costs = a; store = b })
-      (ap (λ cs. spread (size C) es cs (heard (rule C) (C .scale) false (weightsOf es) (recordOf (rule C) cs)) (s .costs)) same
-      ∙ spread-ext (size C) es now _ _ (s .costs) (heard-made es H now M))
+      (ap (λ cs. spread (size C) es cs (messageLent (rule C) (C .scale) false (weightsOf es) (recordOf (rule C) cs)) (s .costs)) same
+      ∙ spread-ext (size C) es now _ _ (s .costs) (message-made es H now M))
       (ap (λ cs. patch (held C s₀ s) (place C m) (len C m) (recordOf (rule C) cs)) same ∙ sym (held-update s K m h (update C m s) now (last-same C G s K m h) (last-other C G s K m h)))
     where
       es : List Edge
@@ -153,10 +153,10 @@ module _ (C : Code) (G : GoodCode C) (s₀ : List ℕ) (room : used C ≤ length
       M : Made C es now
       M = arriving-made C es H _ (s .costs)
 
-      same : gathered (rule C) (C .scale) start es (part (held C s₀ s) (place C m) (len C m)) (s .costs) ≡ now
+      same : arrivingLent (rule C) (C .scale) start es (part (held C s₀ s) (place C m) (len C m)) (s .costs) ≡ now
       same =
           rw (held-part s K m h)
-          (arriving-ext (size C) es _ _ (s .costs) (heard-message es H start m (lastOf s m) (K .fine m h) w))
+          (arriving-ext (size C) es _ _ (s .costs) (message-lent es H start m (lastOf s m) (K .fine m h) w))
 
   -- the checks from k on are as they were
   pub untouched : (s : State) → Kept C s → (k : ℕ) → k ≤ length (C .checks) → (j : ℕ) → k ≤ j → lastOf (upto (update C) k s) j ≡ lastOf s j
@@ -164,17 +164,17 @@ module _ (C : Code) (G : GoodCode C) (s₀ : List ℕ) (room : used C ≤ length
   untouched s K (suc k) h j i =
       last-other C G (upto (update C) k s) (updates-kept C G s K k (omega arith) .0) k h j (omega arith) ∙ untouched s K k (omega arith) j (omega arith)
 
-  pub turns-stand : (start : Bool) (s : State) → Kept C s → ((m : ℕ) → m < length (C .checks) → When C start (lastOf s m)) → (k : ℕ) → k ≤ length (C .checks)
-      → upto (turn C start) k (lentOf C s₀ s) ≡ lentOf C s₀ (upto (update C) k s)
-  turns-stand start s K w zero h = refl
-  turns-stand start s K w (suc k) h =
-      ap (turn C start k) (turns-stand start s K w k (omega arith))
-      ∙ turn-stands start (upto (update C) k s) (updates-kept C G s K k (omega arith) .0) k h (rw (untouched s K k (omega arith) k (omega arith)) (w k h))
+  pub updates-stand : (start : Bool) (s : State) → Kept C s → ((m : ℕ) → m < length (C .checks) → When C start (lastOf s m)) → (k : ℕ) → k ≤ length (C .checks)
+      → upto (updateLent C start) k (lentOf C s₀ s) ≡ lentOf C s₀ (upto (update C) k s)
+  updates-stand start s K w zero h = refl
+  updates-stand start s K w (suc k) h =
+      ap (updateLent C start k) (updates-stand start s K w k (omega arith))
+      ∙ update-stands start (upto (update C) k s) (updates-kept C G s K k (omega arith) .0) k h (rw (untouched s K k (omega arith) k (omega arith)) (w k h))
 
-  pub pass-stands : (start : Bool) (s : State) → Kept C s → ((m : ℕ) → m < length (C .checks) → When C start (lastOf s m))
-      → pass C start (lentOf C s₀ s) ≡ lentOf C s₀ (iteration C s)
-  unfolding pass iteration held
-  pass-stands start s K w = turns-stand start (record { costs = s .costs; last = s .last; t = s .t + 1 }) (record { full = K .full; fine = K .fine }) w (length (C .checks)) (omega arith)
+  pub iteration-stands : (start : Bool) (s : State) → Kept C s → ((m : ℕ) → m < length (C .checks) → When C start (lastOf s m))
+      → iterationLent C start (lentOf C s₀ s) ≡ lentOf C s₀ (iteration C s)
+  unfolding iterationLent iteration held
+  iteration-stands start s K w = updates-stand start (record { costs = s .costs; last = s .last; t = s .t + 1 }) (record { full = K .full; fine = K .fine }) w (length (C .checks)) (omega arith)
 
   pub iteration-t : (s : State) → iteration C s .t ≡ s .t + 1
   unfolding iteration update
@@ -209,11 +209,11 @@ module _ (C : Code) (G : GoodCode C) (s₀ : List ℕ) (room : used C ≤ length
       at false = (refl, R)
   go-stands (suc n) s R = at (settled C (s .costs)) (go-stands n (iteration C s) (iteration-ready s R))
     where
-      step : goLent C n (s .t + 1) (pass C (eqb (s .t) 0) (lentOf C s₀ s)) ≡ goLent C n (iteration C s .t) (lentOf C s₀ (iteration C s))
-      step = ap₂ (goLent C n) (sym (iteration-t s)) (pass-stands (eqb (s .t) 0) s (R .kept) (R .when))
+      step : goLent C n (s .t + 1) (iterationLent C (eqb (s .t) 0) (lentOf C s₀ s)) ≡ goLent C n (iteration C s .t) (lentOf C s₀ (iteration C s))
+      step = ap₂ (goLent C n) (sym (iteration-t s)) (iteration-stands (eqb (s .t) 0) s (R .kept) (R .when))
 
       at : (b : Bool) → (goLent C n (iteration C s .t) (lentOf C s₀ (iteration C s)) ≡ endedOf (go C n (iteration C s))) × Ready (go C n (iteration C s) .end)
-          → (pick b (ended found (s .t) (lentOf C s₀ s)) (goLent C n (s .t + 1) (pass C (eqb (s .t) 0) (lentOf C s₀ s))) ≡ endedOf (pick b (result found s) (go C n (iteration C s))))
+          → (pick b (ended found (s .t) (lentOf C s₀ s)) (goLent C n (s .t + 1) (iterationLent C (eqb (s .t) 0) (lentOf C s₀ s))) ≡ endedOf (pick b (result found s) (go C n (iteration C s))))
           × Ready (pick b (result found s) (go C n (iteration C s)) .end)
       at true i = (refl, R)
       at false i = (step ∙ i .0, i .1)

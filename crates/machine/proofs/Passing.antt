@@ -16,12 +16,12 @@ use Rattle.trellis.specs.Record.{recordLength, recordOf, recordOk}
 use Rattle.trellis.proofs.Form.{record-length, record-ok}
 use Rattle.machine.specs.CodeLine.{Edge, Code, size, rule, check}
 use Rattle.machine.specs.Machine.{made, message, arriving, spread, place, used}
-use Rattle.machine.specs.Lent.{Lent, weightsOf, heard, gathered, turn, pass}
+use Rattle.machine.specs.Lent.{Lent, weightsOf, messageLent, arrivingLent, costsLent, recordLent, updateLent, iterationLent}
 use Rattle.machine.specs.inner.Accepted.{GoodCheck, GoodCode}
 use Rattle.machine.specs.inner.InRange.{pieceIn, Formed, Passable, Ranged}
 use Rattle.machine.proofs.Updates.{Made, made-proper, arriving-made}
 use Rattle.machine.proofs.Ranges.{part-front, length-patch, part-patch, spread-ranged}
-use Rattle.machine.proofs.Lent.{len, place-suc, place-mono, spread-ext, heard-made}
+use Rattle.machine.proofs.Lent.{len, place-suc, place-mono, spread-ext, message-made}
 
 -- a part that does not meet the patched one is as it was
 module _ (l s : List ℕ) (a n : ℕ) (fits : a + n ≤ length l) (full : length s ≡ n) where
@@ -56,7 +56,7 @@ module _ (C : Code) (G : GoodCode C) where
     es = check C m
 
     pub cs : List Column
-    cs = gathered (rule C) (C .scale) start (check C m) (pieceIn C G l m) (l .costs)
+    cs = arrivingLent (rule C) (C .scale) start (check C m) (pieceIn C G l m) (l .costs)
 
     H : GoodCheck (C .columns) (size C) (check C m)
     H = G .each-check m h
@@ -72,30 +72,30 @@ module _ (C : Code) (G : GoodCode C) where
     long = record-length (rule C) cs (made-proper C G (check C m) H cs M) ∙ ap (recordLength (rule C)) (M .count)
 
     -- the costs sent are those of this Q, as the machine has them
-    pub turn-costs : turn C start m l .costs ≡ spread (size C) (check C m) cs (message (rule C) (C .scale) (made cs)) (l .costs)
-    unfolding turn cs
-    turn-costs = spread-ext (size C) (check C m) cs _ _ (l .costs) (heard-made C G (l .store) room (check C m) H cs M)
+    pub update-costs : updateLent C start m l .costs ≡ spread (size C) (check C m) cs (message (rule C) (C .scale) (made cs)) (l .costs)
+    unfolding updateLent costsLent recordLent cs
+    update-costs = spread-ext (size C) (check C m) cs _ _ (l .costs) (message-made C G (l .store) room (check C m) H cs M)
 
-    turn-store : turn C start m l .store ≡ patch (l .store) (place C m) (len C m) (recordOf (rule C) cs)
-    unfolding turn cs
-    turn-store = refl
+    update-store : updateLent C start m l .store ≡ patch (l .store) (place C m) (len C m) (recordOf (rule C) cs)
+    unfolding updateLent costsLent recordLent cs
+    update-store = refl
 
-    pub turn-ranged : Ranged C (turn C start m l .costs)
-    turn-ranged = rw turn-costs (spread-ranged C G (check C m) H cs M (l .costs) R)
+    pub lent-ranged : Ranged C (updateLent C start m l .costs)
+    lent-ranged = rw update-costs (spread-ranged C G (check C m) H cs M (l .costs) R)
 
-    pub turn-length : length (turn C start m l .store) ≡ length (l .store)
-    turn-length = rw turn-store (length-patch (l .store) (recordOf (rule C) cs) (place C m) (len C m) in-store long)
+    pub update-length : length (updateLent C start m l .store) ≡ length (l .store)
+    update-length = rw update-store (length-patch (l .store) (recordOf (rule C) cs) (place C m) (len C m) in-store long)
 
     -- its record is of accepted form
-    pub turn-formed : Formed C G (turn C start m l) m
-    turn-formed =
-        rw (turn-store, part-patch (l .store) (recordOf (rule C) cs) (place C m) (len C m) in-store long, ← M .count)
+    pub update-formed : Formed C G (updateLent C start m l) m
+    update-formed =
+        rw (update-store, part-patch (l .store) (recordOf (rule C) cs) (place C m) (len C m) in-store long, ← M .count)
         (record-ok (rule C) cs (made-proper C G (check C m) H cs M))
 
     -- the others are as they were
-    pub turn-others : (j : ℕ) → j < length (C .checks) → j ≢ m → pieceIn C G (turn C start m l) j ≡ pieceIn C G l j
-    turn-others j k n =
-        rw turn-store
+    pub update-others : (j : ℕ) → j < length (C .checks) → j ≢ m → pieceIn C G (updateLent C start m l) j ≡ pieceIn C G l j
+    update-others j k n =
+        rw update-store
         (elim (decLt j m) [
           | yes e ↦ part-below (l .store) (recordOf (rule C) cs) (place C m) (len C m) in-store long (place C j) (len C j) (omega (arith, place-suc C j, place-mono C (suc j) m e))
           | no e ↦ part-above (l .store) (recordOf (rule C) cs) (place C m) (len C m) in-store long (place C j) (len C j) (omega (arith, place-suc C m, place-mono C (suc m) j (omega arith)))
@@ -103,33 +103,33 @@ module _ (C : Code) (G : GoodCode C) where
 
   -- before check k of a pass
   pub record Before (start : Bool) (l : Lent) (k : ℕ) : Type 0 where
-    pub ranged : Ranged C (upto (turn C start) k l .costs)
-    pub room : length (upto (turn C start) k l .store) ≡ length (l .store)
-    pub done : (m : ℕ) → m < k → Formed C G (upto (turn C start) k l) m
-    pub waiting : (m : ℕ) → k ≤ m → m < length (C .checks) → pieceIn C G (upto (turn C start) k l) m ≡ pieceIn C G l m
+    pub ranged : Ranged C (upto (updateLent C start) k l .costs)
+    pub room : length (upto (updateLent C start) k l .store) ≡ length (l .store)
+    pub done : (m : ℕ) → m < k → Formed C G (upto (updateLent C start) k l) m
+    pub waiting : (m : ℕ) → k ≤ m → m < length (C .checks) → pieceIn C G (upto (updateLent C start) k l) m ≡ pieceIn C G l m
 
-  pub turns-before : (start : Bool) (l : Lent) → Ranged C (l .costs) → used C ≤ length (l .store) → (k : ℕ) → k ≤ length (C .checks) → Before start l k
-  turns-before start l R room zero h = record { ranged = R; room = refl; done = λ m i. absurd (not-suc-le-zero i); waiting = λ m i j. refl }
-  turns-before start l R room (suc k) h =
-      let B = turns-before start l R room k (omega arith) in
-      let now : Lent = upto (turn C start) k l in
+  pub updates-before : (start : Bool) (l : Lent) → Ranged C (l .costs) → used C ≤ length (l .store) → (k : ℕ) → k ≤ length (C .checks) → Before start l k
+  updates-before start l R room zero h = record { ranged = R; room = refl; done = λ m i. absurd (not-suc-le-zero i); waiting = λ m i j. refl }
+  updates-before start l R room (suc k) h =
+      let B = updates-before start l R room k (omega arith) in
+      let now : Lent = upto (updateLent C start) k l in
       let r : used C ≤ length (now .store) = omega (arith, B .room) in
       record {
-        ranged = turn-ranged start now (B .ranged) r k h;
-        room = turn-length start now (B .ranged) r k h ∙ B .room;
+        ranged = lent-ranged start now (B .ranged) r k h;
+        room = update-length start now (B .ranged) r k h ∙ B .room;
         done = λ m i. elim (ℕ-discrete m k) [
-          | yes e ↦ rw e (turn-formed start now (B .ranged) r k h)
-          | no e ↦ rw (turn-others start now (B .ranged) r k h m (omega arith) e) (B .done m (omega arith))
+          | yes e ↦ rw e (update-formed start now (B .ranged) r k h)
+          | no e ↦ rw (update-others start now (B .ranged) r k h m (omega arith) e) (B .done m (omega arith))
         ];
-        waiting = λ m i j. turn-others start now (B .ranged) r k h m j (omega arith) ∙ B .waiting m (omega arith) j;
+        waiting = λ m i j. update-others start now (B .ranged) r k h m j (omega arith) ∙ B .waiting m (omega arith) j;
       }
 
   -- so each turn finds the record it needs, and after a pass the next one may follow
-  pub turn-needs : (start : Bool) (l : Lent) → Passable C G start l → (k : ℕ) → k < length (C .checks) → start ≡ false → Formed C G (upto (turn C start) k l) k
-  turn-needs start l P k h e = rw (turns-before start l (P .ranged) (P .room) k (omega arith) .waiting k (omega arith) h) (P .formed e k h)
+  pub update-needs : (start : Bool) (l : Lent) → Passable C G start l → (k : ℕ) → k < length (C .checks) → start ≡ false → Formed C G (upto (updateLent C start) k l) k
+  update-needs start l P k h e = rw (updates-before start l (P .ranged) (P .room) k (omega arith) .waiting k (omega arith) h) (P .formed e k h)
 
-  pub pass-passable : (start : Bool) (l : Lent) → Ranged C (l .costs) → used C ≤ length (l .store) → Passable C G false (pass C start l)
-  unfolding pass
-  pass-passable start l R room =
-      let B = turns-before start l R room (length (C .checks)) (omega arith) in
+  pub iteration-passable : (start : Bool) (l : Lent) → Ranged C (l .costs) → used C ≤ length (l .store) → Passable C G false (iterationLent C start l)
+  unfolding iterationLent
+  iteration-passable start l R room =
+      let B = updates-before start l R room (length (C .checks)) (omega arith) in
       record { ranged = B .ranged; room = omega (arith, B .room); formed = λ e m h. B .done m h }

@@ -17,12 +17,12 @@ use Rattle.trellis.proofs.Form.{record-ok}
 use Rattle.trellis.proofs.Instances.{first-zero}
 use Rattle.machine.specs.CodeLine.{good, bad, Edge, Code, size, rule, check, columnOf, zeroIn, parse, frameFault}
 use Rattle.machine.specs.Machine.{Last, none, made, State, lastOf, iteration, settled, place, held, pieceOf}
-use Rattle.machine.specs.Lent.{Lent, pass}
+use Rattle.machine.specs.Lent.{Lent, iterationLent}
 use Rattle.machine.specs.inner.Accepted.{GoodCode}
 use Rattle.machine.proofs.Updates.{Fine, IsMade, made-proper}
 use Rattle.machine.specs.inner.InRange.{Ranged}
 use Rattle.machine.proofs.Ranges.{part-front, column-room, iteration-ranged}
-use Rattle.machine.proofs.Lent.{len, lentOf, When, length-held, held-part, pass-stands, Ready, iteration-ready}
+use Rattle.machine.proofs.Lent.{len, lentOf, When, length-held, held-part, iteration-stands, Ready, iteration-ready}
 use Rattle.machine.specs.Decoding.{Buffers, holding, admitted, Room}
 use Rattle.machine.proofs.Buffers.{holding-again, holding-room, admits}
 use Rattle.machine.specs.Moments.{Moment, moment, costsOk, storeOk, resumable, further, stateAfter, gone, iteratingUnder, iterating}
@@ -79,9 +79,9 @@ module _ (C : Code) (G : GoodCode C) (b₀ : Buffers) (room : Room C b₀) where
 
     pub further-at : (s : State) → Sound s → further C (s .t) (at s) ≡ lentOf C (b₀ .store) (iteration C s)
     further-at s S =
-        ap (λ P. pass C (eqb (s .t) 0) (record { costs = P; store = held C (b₀ .store) s }))
+        ap (λ P. iterationLent C (eqb (s .t) 0) (record { costs = P; store = held C (b₀ .store) s }))
         (take-at (s .costs) (drop (C .columns * size C) (b₀ .costs)) (C .columns * size C) (S .ranged .full))
-        ∙ pass-stands C G (b₀ .store) (room .for-store) (eqb (s .t) 0) s (S .ready .kept) (S .ready .when)
+        ∙ iteration-stands C G (b₀ .store) (room .for-store) (eqb (s .t) 0) s (S .ready .kept) (S .ready .when)
 
     -- one iteration
     pub iterating-at : (s : State) → Sound s → iterating code f (s .t) (at s) ≡ moment (stateAfter C (s .t + 1) (iteration C s .costs)) 0 (s .t + 1) (at (iteration C s))

@@ -10,7 +10,7 @@ use Rattle.trellis.specs.Refusals.{unless, refusedBy}
 use Rattle.trellis.specs.Record.{recordLength, recordOk}
 use Rattle.machine.specs.CodeLine.{Read, good, bad, Code, size, rule, check, zeroIn}
 use Rattle.machine.specs.Machine.{Status, found, notFound, run, settled, place}
-use Rattle.machine.specs.Lent.{Lent, pass}
+use Rattle.machine.specs.Lent.{Lent, iterationLent}
 use Rattle.machine.specs.Decoding.{Buffers, holding, admitted, decoding, Accepts, Room}
 
 -- where a load or an iteration ends: 1 running, 2 found, 3 not found, 4 refused, with the refusal's number
@@ -67,7 +67,7 @@ resumable code f t b = resumableUnder (admitted code f b) t b
 
 -- "An iteration goes on from the lent costs and records, with t in byte 3": with none at t = 0
 abbrev pub further : Code → ℕ → Buffers → Lent
-further C t b = pass C (eqb t 0) (record { costs = take (C .columns * size C) (b .costs); store = b .store })
+further C t b = iterationLent C (eqb t 0) (record { costs = take (C .columns * size C) (b .costs); store = b .store })
 
 -- "after it the state is 2 if the test holds, else 3 if t is I or more, else 1"
 abbrev pub stateAfter : Code → ℕ → List ℕ → ℕ

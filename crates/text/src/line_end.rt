@@ -60,7 +60,7 @@ fn accepted(code: &[u8]) -> bool
     ensures { λ r. ⌜ r ≡ accepts (now (code .entry)) ⌝ }
 {
     match codeline::code_line(code) {
-        Header::Read { .. } => true,
+        Header::Read(_) => true,
         Header::Refused(_) => false,
     }
 }

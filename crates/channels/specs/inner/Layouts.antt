@@ -1,22 +1,24 @@
 -- What the functions ask and leave: the struct that a call answers by, the numbers and lengths that a channel needs, and room for each loop.
 use mathlib.Core.Path.{_≡_}
-use mathlib.Core.Bool.{_||_}
+use mathlib.Core.Bool.{true, _||_}
 use mathlib.Core.List.{List, map, _++_, [], _∷_}
 use Prim.Native.Nat.{ℕ, _+_, _-_, _*_, _≤_, _<_}
 use lib.Dec.{eqb, ltb}
 use lib.ListN.{length, take, replicate}
 use Rattle.trellis.specs.Lists.{pick}
 use Rattle.trellis.specs.Refusals.{unless, refusedBy, faultBy}
-use Rattle.trellis.specs.Rules.{sizeOf}
+use Rattle.trellis.specs.Rules.{firstOk, sizeOf}
 use Rattle.trellis.specs.Reply.{Reply}
 use Rattle.machine.specs.CodeLine.{good, Code, size, parse}
 use Rattle.machine.specs.Machine.{used}
 use Rattle.machine.specs.Decoding.{Buffers}
 use Rattle.machine.specs.Moments.{Moment}
+use Rattle.machine.specs.inner.Tables.{bytesBefore}
 use Rattle.machine.specs.inner.Accepted.{GoodCode}
 use Rattle.machine.specs.inner.InRange.{Passable}
 use Rattle.layered.specs.inner.Frames.{roomFault}
-use Rattle.layered.specs.inner.Passes.{graph, placeAt, Tables}
+use Rattle.codeline.specs.declared.Numbers.{Numbers}
+use Rattle.codeline.specs.inner.Coding.{codeOf, Coded}
 use Rattle.channels.specs.declared.service.Layout.{Layout}
 use Rattle.channels.specs.Channels.{Results, ownOf, countTests}
 use Rattle.channels.specs.inner.Rounds.{Standing, Serves, lentIn, statusOf, patchAt}
@@ -25,14 +27,19 @@ use Rattle.channels.specs.inner.Rounds.{Standing, Serves, lentIn, status
 unfoldable pub countFault : ℕ → ℕ → ℕ
 countFault n A = faultBy (countTests n A)
 
+-- the numbers and degrees of an accepted code
+pub record LayoutRoom (k : Numbers) (ds : List ℕ) : Type 0 where
+  pub accepted : firstOk (k .first) ≡ true
+  pub columns : k .columns ≤ 256
+  pub checks : k .checks ≤ 128
+  pub degrees : k .checks ≤ length ds
+
 -- a layout by its numbers
-pub record LaidOut (first scale limit columns : ℕ) (ds : List ℕ) (z : Layout) : Type 0 where
-  pub first-is : z .first ≡ first
-  pub scale-is : z .scale ≡ scale
-  pub limit-is : z .limit ≡ limit
-  pub columns-is : z .columns ≡ columns
-  pub costs-is : z .costs ≡ columns * sizeOf first
-  pub store-is : z .store ≡ placeAt first ds (length ds)
+pub record LaidOut (k : Numbers) (ds : List ℕ) (z : Layout) : Type 0 where
+  pub numbers-is : z .numbers ≡ k
+  pub columns-is : z .columns ≡ k .columns
+  pub costs-is : z .costs ≡ k .columns * sizeOf (k .first)
+  pub store-is : z .store ≡ bytesBefore (k .first) (take (k .checks) ds) (length (take (k .checks) ds))
 
 -- 12, 2, 3, 4, 19 by the lengths; 0 for none
 unfoldable pub faultFor : ℕ → Layout → ℕ → ℕ → ℕ → ℕ → ℕ → ℕ
@@ -45,12 +52,12 @@ pub record FaultRoom (n : ℕ) (z : Layout) : Type 0 where
   pub costs : z .costs ≤ 16384
   pub store : z .store ≤ 65535
 
--- the layout and the tables of an accepted code; the degrees are just those of its checks
+-- the layout and the tables of an accepted code
 pub record Shaped (C : Code) (z : Layout) (ds cs ws : List ℕ) : Type 0 where
+  pub coded : Coded (z .numbers) ds cs ws
+  pub code-is : codeOf (z .numbers) ds cs ws ≡ C
   pub good : GoodCode C
-  pub tables : Tables C (graph (z .first) (z .scale) ds cs ws)
   pub columns-is : z .columns ≡ C .columns
-  pub limit-is : z .limit ≡ C .limit
   pub costs-is : z .costs ≡ C .columns * size C
   pub store-is : z .store ≡ used C
 
@@ -114,12 +121,11 @@ pub record OneRoom (c : ℕ) (z : Layout) (ds cs ws : List ℕ) (l : Standing) (
   pub room : ServeRoom count z ds cs ws l A S
 
 -- under a code that is read
-pub record UnderRoom (n A : ℕ) (z : Layout) (m : ℕ) (ds cs ws Q S : List ℕ) : Type 0 where
+pub record UnderRoom (n A : ℕ) (z : Layout) (ds cs ws Q S : List ℕ) : Type 0 where
   pub code : Code
   pub line : List ℕ
   pub parsed : parse line ≡ good code
-  pub checks : m ≤ length ds
-  pub shaped : Shaped code z (take m ds) cs ws
+  pub shaped : Shaped code z ds cs ws
   pub low : 1 ≤ n
   pub high : n ≤ 8
   pub some : 0 < A

@@ -1,13 +1,12 @@
 -- What the readers of the code line answer, in the terms of the definitions.
 use mathlib.Core.Path.{_≡_}
-use mathlib.Core.Bool.{Bool, _||_, not}
+use mathlib.Core.Bool.{Bool, _||_}
 use mathlib.Core.List.{List, _++_}
 use Prim.Native.Nat.{ℕ, _+_, _*_, _≤_, _<_}
 use lib.Dec.{ltb}
 use lib.ListN.{length, take, drop, getD}
-use Rattle.trellis.specs.Lists.{pick}
-use Rattle.trellis.specs.Rules.{firstOk}
-use Rattle.machine.specs.CodeLine.{Read, good, bad, Code, Edge as Pair, edge, wordAt, Numbers}
+use Rattle.trellis.specs.Refusals.{refusedBy}
+use Rattle.machine.specs.CodeLine.{Read, good, bad, Code, Edge as Pair, edge, wordAt, headTests, Numbers}
 use Rattle.machine.specs.inner.Tables.{Flat, flat, Tables, tables}
 use Rattle.codeline.specs.Answers.{degreesOf, columnsOf, weightsOf}
 use Rattle.codeline.specs.declared.Header.{Header}
@@ -75,43 +74,29 @@ pub record Filled (C : Code) (ds cs ws : List ℕ) (edges : ℕ) : Type 0 where
 
 -- there is room for as many
 abbrev pub CountFits : Header → ℕ → Type 0
-CountFits (HeaderRead f n m g i) edges = (m ≤ 128) × (edges ≤ 1024)
+CountFits (HeaderRead k) edges = (k .checks ≤ 128) × (edges ≤ 1024)
 CountFits (HeaderRefused k) edges = Unit {0}
 
 abbrev pub checksIn : Header → ℕ
-checksIn (HeaderRead f n m g i) = m
+checksIn (HeaderRead k) = k .checks
 checksIn (HeaderRefused k) = 0
 
 -- count entries handed over, where the line is accepted
 abbrev pub handed : Header → ℕ → List ℕ → List ℕ → List ℕ
-handed (HeaderRead f n m g i) count from to = take count from ++ drop count to
+handed (HeaderRead k) count from to = take count from ++ drop count to
 handed (HeaderRefused k) count from to = to
 
 abbrev pub isOutside : ℕ → ℕ → ℕ → Bool
 isOutside x low high = ltb x low || ltb high x
 
--- the line before its checks, in its order, a stage for each number: "p", with k in the first byte; "N as two bytes, high first (1 to 256);
--- M (1 to 128); scale g (1 to 16); iteration limit I (1 to 255)"; "5 if under six bytes, 6, 7, 8"
-abbrev pub fromLimit : List ℕ → Read Numbers
-fromLimit s =
-    pick (ltb (getD s 5 0) 1) (bad 8) (good (record { first = getD s 0 0; columns = wordAt s 1; checks = getD s 3 0; scale = getD s 4 0; limit = getD s 5 0 }))
-
-abbrev pub fromScale : List ℕ → Read Numbers
-fromScale s = pick (isOutside (getD s 4 0) 1 16) (bad 8) (fromLimit s)
-
-abbrev pub fromChecks : List ℕ → Read Numbers
-fromChecks s = pick (isOutside (getD s 3 0) 1 128) (bad 7) (fromScale s)
-
-abbrev pub fromColumns : List ℕ → Read Numbers
-fromColumns s = pick (isOutside (wordAt s 1) 1 256) (bad 7) (fromChecks s)
-
-abbrev pub fromFirst : List ℕ → Read Numbers
-fromFirst s = pick (not (firstOk (getD s 0 0))) (bad 6) (fromColumns s)
+-- the numbers as they stand before the checks, and the line's tests up to there
+abbrev pub numbersAt : List ℕ → Numbers
+numbersAt s = record { first = getD s 0 0; columns = wordAt s 1; checks = getD s 3 0; scale = getD s 4 0; limit = getD s 5 0 }
 
 unfoldable pub headOf : List ℕ → Read Numbers
-headOf s = pick (ltb (length s) 6) (bad 5) (fromFirst s)
+headOf s = refusedBy (headTests s) bad (good (numbersAt s))
 
 -- how many checks there are at most, and the place behind the numbers
 abbrev pub HeadFits : Header → ℕ → List ℕ → Type 0
-HeadFits (HeaderRead f n m g i) next s = (m ≤ 128) × ((next ≡ 6) × (next ≤ length s))
+HeadFits (HeaderRead k) next s = (k .checks ≤ 128) × ((next ≡ 6) × (next ≤ length s))
 HeadFits (HeaderRefused k) next s = Unit {0}

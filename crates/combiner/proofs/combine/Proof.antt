@@ -12,8 +12,8 @@ code-line-requires c κs = search needs
 enum-known-k : tie.Need-enum-known-k
 enum-known-k c = search needs
 
-enum-known-byte : tie.Need-enum-known-byte
-enum-known-byte c = search needs
+enum-known-numbers : tie.Need-enum-known-numbers
+enum-known-numbers c = search needs
 
 long-requires : tie.Need-long-requires
 long-requires c κs = search needs
@@ -21,10 +21,10 @@ long-requires c κs = search needs
 under-code-requires : tie.Need-under-code-requires
 under-code-requires c κs =
     let w = c .before .long in
-    let v = c .before .before .before .byte .given in
+    let v = c .before .before .before .numbers .given in
     let r = c .before .before .before .before .before .code-line in
     let a = c .before .before .before .before .before .before .before .before .before .before .args in
-    line-asks (a .code .now) (r .result) (r .ensures) (a .first .now) (a .second .now) (a .out .now) (v .0 .0) (v .0 .1 .0) (v .0 .1 .1 .0) (v .0 .1 .1 .1 .0) (v .0 .1 .1 .1 .1 .0) (v .1) (w .result) (w .ensures .0)
+    line-asks (a .code .now) (r .result) (r .ensures) (a .first .now) (a .second .now) (a .out .now) (v .0 .0) (v .1) (w .result) (w .ensures .0)
 
 returns : tie.Need-returns
 returns c =
@@ -39,10 +39,10 @@ returns-2 : tie.Need-returns-2
 returns-2 c =
     let o = c .before .before .under-code in
     let w = c .before .before .before .before .long in
-    let v = c .before .before .before .before .before .before .byte .given in
+    let v = c .before .before .before .before .before .before .numbers .given in
     let r = c .before .before .before .before .before .before .before .before .code-line in
     let a = c .before .before .before .before .before .before .before .before .before .before .before .before .before .args in
-    let e = line-is (a .code .now) (r .result) (r .ensures) (a .first .now) (a .second .now) (a .out .now) (v .0 .0) (v .0 .1 .0) (v .0 .1 .1 .0) (v .0 .1 .1 .1 .0) (v .0 .1 .1 .1 .1 .0) (v .1) (w .result) (w .ensures .0) in
+    let e = line-is (a .code .now) (r .result) (r .ensures) (a .first .now) (a .second .now) (a .out .now) (v .0 .0) (v .1) (w .result) (w .ensures .0) in
     (o .ensures .0 ∙ ap (λ (w : Wrote). w .reply) e, o .ensures .1 ∙ ap (λ (w : Wrote). w .out) e)
 
 pub combine-spec : {M : Type 1} → statement M
@@ -51,7 +51,7 @@ combine-spec =
     (tie.spec
     code-line-requires
     enum-known-k
-    enum-known-byte
+    enum-known-numbers
     long-requires
     under-code-requires
     returns

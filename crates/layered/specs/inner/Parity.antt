@@ -1,30 +1,26 @@
--- The decisions and the test of every check, over the tables of degrees, columns and weights. proofs/Satisfied.antt shows that this is settled.
+-- The search for a check that the symbols do not satisfy, over the tables of a code, and what the functions of the parity test ask.
 use mathlib.Core.Path.{_≡_}
 use mathlib.Core.Bool.{Bool, true, false}
 use mathlib.Core.List.{List}
-use Prim.Native.Nat.{ℕ, _+_, _*_, _^_, _≤_, _<_}
+use Prim.Native.Nat.{ℕ, _^_, _≤_, _<_}
 use lib.Dec.{eqb}
 use lib.ListN.{length, getD}
-use Rattle.trellis.specs.Lists.{tab, allTo}
-use Rattle.trellis.specs.Check.{firstZero, decide}
-use Rattle.machine.specs.CodeLine.{columnOf}
-use Rattle.machine.specs.inner.Tables.{before, sumFrom}
+use Rattle.trellis.specs.Lists.{allTo}
+use Rattle.trellis.specs.Rules.{sizeOf}
+use Rattle.machine.specs.CodeLine.{Code, power, check}
+use Rattle.machine.specs.Machine.{satisfied}
+use Rattle.machine.specs.inner.Tables.{before}
+use Rattle.machine.specs.inner.InRange.{Ranged}
+use Rattle.codeline.specs.declared.Numbers.{Numbers}
+use Rattle.codeline.specs.inner.Coding.{codeOf, Coded}
 use Rattle.layered.specs.declared.parity.CheckAt.{CheckAt}
 
--- the decisions of n columns of q costs, and their margins
-unfoldable pub decisionsOf : ℕ → List ℕ → ℕ → List ℕ
-decisionsOf q P n = tab (λ c. decide (columnOf q P c) .symbol) n
+-- the symbols z satisfy check m; every check
+abbrev pub holdsAt : Code → List ℕ → ℕ → Bool
+holdsAt C z m = satisfied (power C) (check C m) z
 
-unfoldable pub marginsOf : ℕ → List ℕ → ℕ → List ℕ
-marginsOf q P n = tab (λ c. decide (columnOf q P c) .margin) n
-
--- check j is satisfied
-unfoldable pub holdsAt : ℕ → List ℕ → List ℕ → List ℕ → List ℕ → ℕ → Bool
-holdsAt p ds cs ws z j = eqb (sumFrom p cs ws z (before ds j) (getD ds j 0)) 0
-
--- the first m checks are
-unfoldable pub allHold : ℕ → List ℕ → List ℕ → List ℕ → List ℕ → ℕ → Bool
-allHold p ds cs ws z m = allTo (holdsAt p ds cs ws z) m
+unfoldable pub allHold : Code → List ℕ → Bool
+allHold C z = allTo (holdsAt C z) (length (C .checks))
 
 -- edge k has a column with a symbol, and two elements to multiply
 pub record EdgeRoom (p : ℕ) (cs ws z : List ℕ) (k : ℕ) : Type 0 where
@@ -36,42 +32,38 @@ pub record EdgeRoom (p : ℕ) (cs ws z : List ℕ) (k : ℕ) : Type 0 where
   pub weight : getD ws k 0 < 2 ^ p
   pub symbol : getD z (getD cs k 0) 0 < 2 ^ p
 
--- and so has each edge n of each check m
-pub record ParityRoom (p : ℕ) (ds cs ws z : List ℕ) : Type 0 where
-  pub each-edge : (m n : ℕ) → m < length ds → n < getD ds m 0 → EdgeRoom p cs ws z (before ds m + n)
-  pub in-columns : before ds (length ds) ≤ length cs
+-- a symbol of the field for each column of the code
+pub record ParityRoom (k : Numbers) (ds cs ws z : List ℕ) : Type 0 where
+  pub coded : Coded k ds cs ws
+  pub symbols : length z ≡ k .columns
+  pub small : (c : ℕ) → c < k .columns → getD z c 0 < sizeOf (k .first)
 
 -- the first edge of a check
 abbrev pub EdgeOf : List ℕ → CheckAt → Type 0
 EdgeOf ds c = c .edge ≡ before ds (c .check)
 
 -- some of the checks
-pub record FromTo (ds : List ℕ) (from : CheckAt) (to : ℕ) : Type 0 where
+pub record FromTo (k : Numbers) (ds : List ℕ) (from : CheckAt) (to : ℕ) : Type 0 where
   pub edge-is : EdgeOf ds from
   pub ordered : from .check ≤ to
-  pub inside : to ≤ length ds
+  pub inside : to ≤ k .checks
 
 -- of the checks from `from` on and before `to` r is the first that is not satisfied, or `to`
-pub record FirstNot (p : ℕ) (ds cs ws z : List ℕ) (from to : ℕ) (r : CheckAt) : Type 0 where
+pub record FirstNot (C : Code) (ds z : List ℕ) (from to : ℕ) (r : CheckAt) : Type 0 where
   pub edge-is : EdgeOf ds r
   pub low : from ≤ r .check
   pub high : r .check ≤ to
-  pub before-it : (j : ℕ) → from ≤ j → j < r .check → holdsAt p ds cs ws z j ≡ true
-  pub not-it : r .check < to → holdsAt p ds cs ws z (r .check) ≡ false
+  pub before-it : (j : ℕ) → from ≤ j → j < r .check → holdsAt C z j ≡ true
+  pub not-it : r .check < to → holdsAt C z (r .check) ≡ false
 
 -- r is a check that is not satisfied; the number of checks where every one is
-pub record SomeNot (p : ℕ) (ds cs ws z : List ℕ) (r : CheckAt) : Type 0 where
+pub record SomeNot (C : Code) (ds z : List ℕ) (r : CheckAt) : Type 0 where
   pub edge-is : EdgeOf ds r
-  pub high : r .check ≤ length ds
-  pub test-is : eqb (r .check) (length ds) ≡ allHold p ds cs ws z (length ds)
+  pub high : r .check ≤ length (C .checks)
+  pub test-is : eqb (r .check) (length (C .checks)) ≡ allHold C z
 
--- before the decisions: each of the columns has a cost of 0
-pub record SettledRoom (p : ℕ) (ds cs ws P z : List ℕ) : Type 0 where
-  pub low : 2 ≤ p
-  pub high : p ≤ 6
-  pub costs : length z * 2 ^ p ≤ length P
-  pub zeros : (c : ℕ) → c < length z → firstZero (columnOf (2 ^ p) P c) < 2 ^ p
-  pub in-columns : before ds (length ds) ≤ length cs
-  pub in-weights : before ds (length ds) ≤ length ws
-  pub columns : (m n : ℕ) → m < length ds → n < getD ds m 0 → getD cs (before ds m + n) 0 < length z
-  pub weights : (m n : ℕ) → m < length ds → n < getD ds m 0 → getD ws (before ds m + n) 0 < 2 ^ p
+-- before the decisions: costs in range, and room for a symbol of each column
+pub record SettledRoom (k : Numbers) (ds cs ws P z : List ℕ) : Type 0 where
+  pub coded : Coded k ds cs ws
+  pub ranged : Ranged (codeOf k ds cs ws) P
+  pub symbols : length z ≡ k .columns

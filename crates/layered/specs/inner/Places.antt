@@ -6,19 +6,19 @@ use Prim.Native.Nat.{ℕ, _≤_, _<_}
 use lib.Dec.{eqb}
 use lib.ListN.{length}
 use Rattle.trellis.specs.Lists.{pick}
-use Rattle.machine.specs.CodeLine.{Code}
 use Rattle.machine.specs.Machine.{used}
-use Rattle.machine.specs.inner.Tables.{before}
-use Rattle.machine.specs.inner.Accepted.{GoodCode}
+use Rattle.machine.specs.Lent.{lent}
+use Rattle.machine.specs.inner.Tables.{before, bytesBefore}
 use Rattle.machine.specs.inner.InRange.{Ranged, Formed}
+use Rattle.codeline.specs.declared.Numbers.{Numbers}
+use Rattle.codeline.specs.inner.Coding.{codeOf, Coded}
 use Rattle.layered.specs.declared.place.Place.{Place}
-use Rattle.layered.specs.inner.Passes.{Graph, lent, placeAt, Tables}
 
 -- where check m stands
 pub record Stands (first : ℕ) (ds : List ℕ) (m : ℕ) (p : Place) : Type 0 where
   pub check-is : p .check ≡ m
   pub edge-is : p .edge ≡ before ds m
-  pub byte-is : p .byte ≡ placeAt first ds m
+  pub byte-is : p .byte ≡ bytesBefore first ds m
 
 -- of n checks the first comes behind the last
 pub record Around (n : ℕ) (p r : Place) : Type 0 where
@@ -26,20 +26,17 @@ pub record Around (n : ℕ) (p r : Place) : Type 0 where
   pub edge-is : r .edge ≡ pick (eqb (p .check) n) 0 (p .edge)
   pub byte-is : r .byte ≡ pick (eqb (p .check) n) 0 (p .byte)
 
--- check m of some accepted code may be updated: the costs are in range, there is room for the records, and, but for a first update, its own is of
--- accepted form
-pub record Updatable (T : Graph) (start : Bool) (m : ℕ) (P store : List ℕ) : Type 0 where
-  pub code : Code
-  pub good : GoodCode code
-  pub tables : Tables code T
-  pub in-code : m < length (code .checks)
-  pub ranged : Ranged code P
-  pub room : used code ≤ length store
-  pub formed : start ≡ false → Formed code good (lent P store) m
+-- check m may be updated: the costs are in range, there is room for the records, and, but for a first update, its own is of accepted form
+pub record Updatable (k : Numbers) (ds cs ws : List ℕ) (start : Bool) (m : ℕ) (P store : List ℕ) : Type 0 where
+  pub coded : Coded k ds cs ws
+  pub in-code : m < k .checks
+  pub ranged : Ranged (codeOf k ds cs ws) P
+  pub room : used (codeOf k ds cs ws) ≤ length store
+  pub formed : start ≡ false → Formed (codeOf k ds cs ws) (coded .good) (lent P store) m
 
 -- and stands here; two lists to work in
-pub record PlaceRoom (T : Graph) (start : Bool) (p : Place) (P store A S : List ℕ) : Type 0 where
-  pub updatable : Updatable T start (p .check) P store
-  pub stands : Stands (T .first) (T .degrees) (p .check) p
+pub record PlaceRoom (k : Numbers) (ds cs ws : List ℕ) (start : Bool) (p : Place) (P store A S : List ℕ) : Type 0 where
+  pub updatable : Updatable k ds cs ws start (p .check) P store
+  pub stands : Stands (k .first) ds (p .check) p
   pub arrived : 2048 ≤ length A
   pub sent : 2048 ≤ length S

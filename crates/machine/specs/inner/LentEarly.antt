@@ -6,7 +6,7 @@ use lib.ListN.{length}
 use Rattle.trellis.specs.Lists.{pick}
 use Rattle.machine.specs.CodeLine.{Code}
 use Rattle.machine.specs.Machine.{Status, found, notFound, settled}
-use Rattle.machine.specs.Lent.{Lent, turn}
+use Rattle.machine.specs.Lent.{Lent, updateLent}
 
 pub record Halted : Type 0 where
   pub status : Status
@@ -17,10 +17,10 @@ abbrev pub halted : Status → ℕ → Lent → Halted
 halted o u l = record { status = o; updates = u; lent = l }
 
 -- update u: of check u mod M, which has no record in the first M of them
-abbrev pub turnNext : Code → ℕ → Lent → Lent
-turnNext C u l = turn C (ltb u (length (C .checks))) (u % length (C .checks)) l
+abbrev pub nextLent : Code → ℕ → Lent → Lent
+nextLent C u l = updateLent C (ltb u (length (C .checks))) (u % length (C .checks)) l
 
 -- at most n updates more, after u
 unfoldable pub stopLent : Code → ℕ → ℕ → Lent → Halted
 stopLent C zero u l = pick (settled C (l .costs)) (halted found u l) (halted notFound u l)
-stopLent C (suc n) u l = pick (settled C (l .costs)) (halted found u l) (stopLent C n (u + 1) (turnNext C u l))
+stopLent C (suc n) u l = pick (settled C (l .costs)) (halted found u l) (stopLent C n (u + 1) (nextLent C u l))

@@ -5,10 +5,12 @@ use mathlib.Core.List.{List, [], _∷_, _++_, map}
 use Prim.Native.Nat.{ℕ, zero, suc, _+_, _*_}
 use lib.Dec.{eqb}
 use lib.ListN.{length, getD, take}
-use Rattle.trellis.specs.Lists.{each, pick, upto}
+use Rattle.trellis.specs.Lists.{upTo, each, pick, upto, part}
 use Rattle.trellis.specs.Refusals.{refusedBy}
+use Rattle.trellis.specs.Record.{recordLength}
+use Rattle.trellis.specs.Rules.{ruleFor}
 use Rattle.trellis.specs.Field.{xor, product}
-use Rattle.machine.specs.CodeLine.{Read, good, bad, then, Edge, Code, edge, readEdge, checkTests}
+use Rattle.machine.specs.CodeLine.{Read, good, bad, then, Edge, Code, Numbers, edge, readEdge, checkTests}
 
 -- columns and weights
 pub record Flat : Type 0 where
@@ -53,6 +55,22 @@ edgesOf (c ∷ cs) (w ∷ ws) = edge c w ∷ edgesOf cs ws
 -- where check m's edges start
 abbrev pub before : List ℕ → ℕ → ℕ
 before ds m = upto (λ k a. a + getD ds k 0) m 0
+
+-- where its record starts in the store, by the degrees
+unfoldable pub bytesBefore : ℕ → List ℕ → ℕ → ℕ
+bytesBefore first ds m = upto (λ k a. a + recordLength (ruleFor first) (getD ds k 0)) m 0
+
+-- check m's part of a table of edges
+abbrev pub tableAt : List ℕ → List ℕ → ℕ → List ℕ
+tableAt ds l m = part l (before ds m) (getD ds m 0)
+
+-- the first m checks that the tables say, and with the numbers of a line its code
+unfoldable pub checksFrom : ℕ → List ℕ → List ℕ → List ℕ → List (List Edge)
+checksFrom m ds cs ws = map (λ k. edgesOf (tableAt ds cs k) (tableAt ds ws k)) (upTo m)
+
+abbrev pub codeIn : Numbers → List ℕ → List ℕ → List ℕ → Code
+codeIn k ds cs ws =
+    record { first = k .first; columns = k .columns; scale = k .scale; limit = k .limit; checks = checksFrom (k .checks) ds cs ws }
 
 -- h times x at edge k, in the order of the tables
 abbrev pub term : ℕ → List ℕ → List ℕ → List ℕ → ℕ → ℕ

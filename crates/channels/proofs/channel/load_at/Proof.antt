@@ -54,7 +54,7 @@ frame-fault-requires : tie.Need-frame-fault-requires
 frame-fault-requires c κs =
     let s = c .before .before .before .before .before .before .before .before .before .before .before .before in
     let H = s .pre .shaped in
-    (rw (H .tables .first-is) (H .good .first), rw (H .columns-is) (H .good .columns-high))
+    (H .coded .good .first, rw (H .columns-is) (H .good .columns-high))
 
 returns : tie.Need-returns
 returns c =

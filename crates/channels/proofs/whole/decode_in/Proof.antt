@@ -2,8 +2,8 @@
 use native.Mathlib.Omega.{arith}
 use borrow.Author.Needs.{needs}
 use Rattle.machine.specs.Decoding.{lending}
-use Rattle.codeline.proofs.Answered.{tables-left}
-use Rattle.channels.proofs.Given.{count-refused, count-passes, line-refused, layout-asks, under-room, line-gives}
+use Rattle.codeline.proofs.Says.{line-says, line-coded}
+use Rattle.channels.proofs.Given.{count-refused, count-passes, layout-asks, line-refused, under-room, line-gives}
 use Rattle.channels.proofs.whole.decode_in.Statement.{statement}
 use Rattle.channels.proofs.whole.decode_in.Tie as tie
 
@@ -15,10 +15,10 @@ refused-requires c κs = search needs
 
 returns : tie.Need-returns
 returns c =
-    let s = c .before .before .before .before .before .before .before .before .before in
-    let a = s .args in
-    let k = c .before .before .count-fault in
-    rw (count-refused (a .count) (a .allowance) (k .result) (k .ensures) (c .before .if1 .taken) (a .code .now) (a .frames .now) _) (c .refused .ensures _)
+    let at-if1 = c .before in
+    let at-count-fault = at-if1 .before in
+    let start = at-count-fault .before .before .before .before .before .before .before in
+    rw (count-refused (start .args .count) (start .args .allowance) (at-count-fault .count-fault .result) (at-count-fault .count-fault .ensures) (at-if1 .if1 .taken) (start .args .code .now) (start .args .frames .now) _) (c .refused .ensures _)
 
 code-tables-requires : tie.Need-code-tables-requires
 code-tables-requires c κs = search needs
@@ -29,54 +29,39 @@ enum-known-k c = search needs
 refused-requires-2 : tie.Need-refused-requires-2
 refused-requires-2 c κs = search needs
 
-enum-known-first : tie.Need-enum-known-first
-enum-known-first c = search needs
+enum-known-numbers : tie.Need-enum-known-numbers
+enum-known-numbers c = search needs
 
-long-requires : tie.Need-long-requires
-long-requires c κs = search needs
+layout-of-requires : tie.Need-layout-of-requires
+layout-of-requires c κs =
+    let at-numbers = c .before .before .before in
+    let at-code-tables = at-numbers .before .before in
+    let start = at-code-tables .before .before .before .before .before .before .before .before .before .before .before .before in
+    layout-asks (at-numbers .numbers .given .0 .0) (at-code-tables .code-tables .last .1 .0) (at-code-tables .code-tables .last .1 .1 .0) (at-code-tables .code-tables .last .1 .1 .1 .0) (line-coded (start .args .code .now) (at-code-tables .code-tables .result) (at-code-tables .code-tables .ensures .0) (at-numbers .numbers .given .0 .0) (at-numbers .numbers .given .1) _ _ _ (at-code-tables .code-tables .last .1 .0) (at-code-tables .code-tables .last .1 .1 .0) (at-code-tables .code-tables .last .1 .1 .1 .0) (at-code-tables .code-tables .ensures .1 .0) (at-code-tables .code-tables .ensures .1 .1 .0) (at-code-tables .code-tables .ensures .1 .1 .1))
 
 index-requires : tie.Need-index-requires
 index-requires c κs = search needs
 
-wide-requires : tie.Need-wide-requires
-wide-requires c κs = search needs
-
-layout-of-requires : tie.Need-layout-of-requires
-layout-of-requires c κs =
-    let s = c .before .before .before .before .before .before .before .before .before .before .before .before .before .before .before .before .before .before .before .before in
-    let a = s .args in
-    let t = c .before .before .before .before .before .before .before .before in
-    let v = c .before .before .before .before .before .before .first in
-    let n = c .before .before .before .before .long in
-    let m = c .before .before .before .index in
-    let w = c .before .before .wide in
-    layout-asks (a .code .now) (t .code-tables .result) (t .code-tables .ensures .0) (v .given .0 .0) (v .given .0 .1 .0) (v .given .0 .1 .1 .0) (v .given .0 .1 .1 .1 .0) (v .given .0 .1 .1 .1 .1 .0) (v .given .1) (n .result) (m .result) (w .result) (n .ensures .0) (m .ensures .0) (w .ensures .0) (t .code-tables .last .1 .0) (t .code-tables .last .1 .1 .0) (t .code-tables .last .1 .1 .1 .0) (tables-left (a .code .now) _ _ _ (t .code-tables .ensures .1 .0) (t .code-tables .ensures .1 .1 .0) (t .code-tables .ensures .1 .1 .1))
-
-index-requires-2 : tie.Need-index-requires-2
-index-requires-2 c κs = search needs
-
 under-code-requires : tie.Need-under-code-requires
 under-code-requires c κs =
-    let s = c .before .before .before .before .before .before .before .before .before .before .before .before .before .before .before .before .before .before .before .before .before .before .before .before .before .before .before .before .before .before .before .before .before .before in
-    let a = s .args in
-    let t = c .before .before .before .before .before .before .before .before .before .before .before .before .before .before .before .before .before .before .before .before .before .before in
-    let v = c .before .before .before .before .before .before .before .before .before .before .before .before .before .before .before .before .before .before .before .before .first in
-    let n = c .before .before .before .before .before .before .before .before .before .before .before .before .before .before .before .before .before .before .long in
-    let m = c .before .before .before .before .before .before .before .before .before .before .before .before .before .before .before .before .before .index in
-    let w = c .before .before .before .before .before .before .before .before .before .before .before .before .before .before .before .before .wide in
-    let k = c .before .before .before .before .before .before .before .before .before .before .before .before .before .before .before .before .before .before .before .before .before .before .before .before .before .before .before .count-fault in
-    let x = count-passes (a .count) (a .allowance) (k .result) (k .ensures) (c .before .before .before .before .before .before .before .before .before .before .before .before .before .before .before .before .before .before .before .before .before .before .before .before .before .before .if1 .left) in
-    let i = c .before .before .before .before .before .before .before .before .before .before .before .before .index2 in
-    rw (i .ensures .0) (under-room (a .code .now) (t .code-tables .result) (t .code-tables .ensures .0) (v .given .0 .0) (v .given .0 .1 .0) (v .given .0 .1 .1 .0) (v .given .0 .1 .1 .1 .0) (v .given .0 .1 .1 .1 .1 .0) (v .given .1) (n .result) (m .result) (w .result) (n .ensures .0) (m .ensures .0) (w .ensures .0) (t .code-tables .last .1 .0) (t .code-tables .last .1 .1 .0) (t .code-tables .last .1 .1 .1 .0) (tables-left (a .code .now) _ _ _ (t .code-tables .ensures .1 .0) (t .code-tables .ensures .1 .1 .0) (t .code-tables .ensures .1 .1 .1)) (c .before .before .before .before .before .before .before .before .before .before .before .before .before .layout-of .result) (c .before .before .before .before .before .before .before .before .before .before .before .before .before .layout-of .ensures) (a .count) (a .allowance) (x .0) (x .1) (x .2) (a .arrived .now) (a .sent .now) (omega (arith, c .under-code-arg12, c .before .under-code-arg11)) (omega (arith, c .under-code-arg12, c .before .under-code-arg11)))
+    let at-under-code-arg11 = c .before in
+    let at-index = at-under-code-arg11 .before .before .before .before .before .before .before .before .before .before .before in
+    let at-layout-of = at-index .before in
+    let at-numbers = at-layout-of .before .before .before .before in
+    let at-code-tables = at-numbers .before .before in
+    let at-if1 = at-code-tables .before .before .before .before in
+    let at-count-fault = at-if1 .before in
+    let start = at-count-fault .before .before .before .before .before .before .before in
+    let x = count-passes (start .args .count) (start .args .allowance) (at-count-fault .count-fault .result) (at-count-fault .count-fault .ensures) (at-if1 .if1 .left) in rw (at-index .index .ensures .0) (under-room (start .args .code .now) (at-numbers .numbers .given .0 .0) (at-code-tables .code-tables .last .1 .0) (at-code-tables .code-tables .last .1 .1 .0) (at-code-tables .code-tables .last .1 .1 .1 .0) (line-coded (start .args .code .now) (at-code-tables .code-tables .result) (at-code-tables .code-tables .ensures .0) (at-numbers .numbers .given .0 .0) (at-numbers .numbers .given .1) _ _ _ (at-code-tables .code-tables .last .1 .0) (at-code-tables .code-tables .last .1 .1 .0) (at-code-tables .code-tables .last .1 .1 .1 .0) (at-code-tables .code-tables .ensures .1 .0) (at-code-tables .code-tables .ensures .1 .1 .0) (at-code-tables .code-tables .ensures .1 .1 .1)) (line-says (start .args .code .now) (at-code-tables .code-tables .result) (at-code-tables .code-tables .ensures .0) (at-numbers .numbers .given .0 .0) (at-numbers .numbers .given .1) _ _ _ (at-code-tables .code-tables .last .1 .0) (at-code-tables .code-tables .last .1 .1 .0) (at-code-tables .code-tables .last .1 .1 .1 .0) (at-code-tables .code-tables .ensures .1 .0) (at-code-tables .code-tables .ensures .1 .1 .0) (at-code-tables .code-tables .ensures .1 .1 .1)) (at-layout-of .layout-of .result) (at-layout-of .layout-of .ensures) (start .args .count) (start .args .allowance) (x .0) (x .1) (x .2) (start .args .arrived .now) (start .args .sent .now) (omega (arith, c .under-code-arg12, at-under-code-arg11 .under-code-arg11)) (omega (arith, c .under-code-arg12, at-under-code-arg11 .under-code-arg11)))
 
 returns-2 : tie.Need-returns-2
 returns-2 c =
-    let s = c .before .before .before .before .before .before .before .before .before .before .before .before .before .before .before .before in
-    let a = s .args in
-    let t = c .before .before .before .before in
-    let k = c .before .before .before .before .before .before .before .before .before .count-fault in
-    let x = count-passes (a .count) (a .allowance) (k .result) (k .ensures) (c .before .before .before .before .before .before .before .before .if1 .left) in
-    rw (line-refused (a .code .now) (t .code-tables .result) (t .code-tables .ensures .0) (a .count) (a .allowance) (x .0) (x .1) (x .2) _ (c .before .before .k .given .1) (a .frames .now) _) (c .refused2 .ensures _)
+    let at-k = c .before .before in
+    let at-code-tables = at-k .before .before in
+    let at-if1 = at-code-tables .before .before .before .before in
+    let at-count-fault = at-if1 .before in
+    let start = at-count-fault .before .before .before .before .before .before .before in
+    let x = count-passes (start .args .count) (start .args .allowance) (at-count-fault .count-fault .result) (at-count-fault .count-fault .ensures) (at-if1 .if1 .left) in rw (line-refused (start .args .code .now) (at-code-tables .code-tables .result) (at-code-tables .code-tables .ensures .0) (start .args .count) (start .args .allowance) (x .0) (x .1) (x .2) _ (at-k .k .given .1) (start .args .frames .now) _) (c .refused2 .ensures _)
 
 same-length : tie.Need-same-length
 same-length c = search needs
@@ -92,15 +77,13 @@ same-length-4 c = search needs
 
 returns-3 : tie.Need-returns-3
 returns-3 c =
-    let s = c .before .before .before .before .before .before .before .before .before .before .before .before .before .before .before .before .before .before .before .before .before .before .before .before .before .before .before .before .before .before .before .before .before .before .before .before .before .before .before .before .before .before .before in
-    let a = s .args in
-    let t = c .before .before .before .before .before .before .before .before .before .before .before .before .before .before .before .before .before .before .before .before .before .before .before .before .before .before .before .before .before .before .before in
-    let v = c .before .before .before .before .before .before .before .before .before .before .before .before .before .before .before .before .before .before .before .before .before .before .before .before .before .before .before .before .before .first in
-    let n = c .before .before .before .before .before .before .before .before .before .before .before .before .before .before .before .before .before .before .before .before .before .before .before .before .before .before .before .long in
-    let m = c .before .before .before .before .before .before .before .before .before .before .before .before .before .before .before .before .before .before .before .before .before .before .before .before .before .before .index in
-    let w = c .before .before .before .before .before .before .before .before .before .before .before .before .before .before .before .before .before .before .before .before .before .before .before .before .before .wide in
-    let i = c .before .before .before .before .before .before .before .before .before .before .before .before .before .before .before .before .before .before .before .before .before .index2 in
-    line-gives (a .code .now) (t .code-tables .result) (t .code-tables .ensures .0) (v .given .0 .0) (v .given .0 .1 .0) (v .given .0 .1 .1 .0) (v .given .0 .1 .1 .1 .0) (v .given .0 .1 .1 .1 .1 .0) (v .given .1) (n .result) (m .result) (w .result) (n .ensures .0) (m .ensures .0) (w .ensures .0) (t .code-tables .last .1 .0) (t .code-tables .last .1 .1 .0) (t .code-tables .last .1 .1 .1 .0) (tables-left (a .code .now) _ _ _ (t .code-tables .ensures .1 .0) (t .code-tables .ensures .1 .1 .0) (t .code-tables .ensures .1 .1 .1)) (c .before .before .before .before .before .before .before .before .before .before .before .before .before .before .before .before .before .before .before .before .before .before .layout-of .result) (c .before .before .before .before .before .before .before .before .before .before .before .before .before .before .before .before .before .before .before .before .before .before .layout-of .ensures) (a .count) (a .allowance) (a .frames .now) (lending (a .symbols .now) (a .costs .now) (a .store .now) (a .margins .now)) _ _ _ _ _ (rw (i .ensures .0) at (c .before .before .before .before .before .before .before .before .under-code .ensures))
+    let at-under-code = c .before .before .before .before .before .before .before .before in
+    let at-index = at-under-code .before .before .before .before .before .before .before .before .before .before .before .before .before in
+    let at-layout-of = at-index .before in
+    let at-numbers = at-layout-of .before .before .before .before in
+    let at-code-tables = at-numbers .before .before in
+    let start = at-code-tables .before .before .before .before .before .before .before .before .before .before .before .before in
+    line-gives (start .args .code .now) (at-numbers .numbers .given .0 .0) (at-code-tables .code-tables .last .1 .0) (at-code-tables .code-tables .last .1 .1 .0) (at-code-tables .code-tables .last .1 .1 .1 .0) (line-coded (start .args .code .now) (at-code-tables .code-tables .result) (at-code-tables .code-tables .ensures .0) (at-numbers .numbers .given .0 .0) (at-numbers .numbers .given .1) _ _ _ (at-code-tables .code-tables .last .1 .0) (at-code-tables .code-tables .last .1 .1 .0) (at-code-tables .code-tables .last .1 .1 .1 .0) (at-code-tables .code-tables .ensures .1 .0) (at-code-tables .code-tables .ensures .1 .1 .0) (at-code-tables .code-tables .ensures .1 .1 .1)) (line-says (start .args .code .now) (at-code-tables .code-tables .result) (at-code-tables .code-tables .ensures .0) (at-numbers .numbers .given .0 .0) (at-numbers .numbers .given .1) _ _ _ (at-code-tables .code-tables .last .1 .0) (at-code-tables .code-tables .last .1 .1 .0) (at-code-tables .code-tables .last .1 .1 .1 .0) (at-code-tables .code-tables .ensures .1 .0) (at-code-tables .code-tables .ensures .1 .1 .0) (at-code-tables .code-tables .ensures .1 .1 .1)) (at-layout-of .layout-of .result) (at-layout-of .layout-of .ensures) (start .args .count) (start .args .allowance) (start .args .frames .now) (lending (start .args .symbols .now) (start .args .costs .now) (start .args .store .now) (start .args .margins .now)) _ _ _ _ _ (rw (at-index .index .ensures .0) at (at-under-code .under-code .ensures))
 
 pub decode-in-spec : {M : Type 1} → statement M
 decode-in-spec =
@@ -112,12 +95,9 @@ decode-in-spec =
     code-tables-requires
     enum-known-k
     refused-requires-2
-    enum-known-first
-    long-requires
-    index-requires
-    wide-requires
+    enum-known-numbers
     layout-of-requires
-    index-requires-2
+    index-requires
     under-code-requires
     returns-2
     same-length

@@ -1,46 +1,59 @@
 -- At most 256 columns of at most 64 costs.
-use native.Mathlib.Nat.{mul-le-mul}
-use native.Mathlib.Omega.{arith}
-use mathlib.Core.Path.{refl, sym, ap}
+use mathlib.Core.Path.{refl, ap, ap₂, _∙_, sym}
 use Prim.Native.Nat.{_*_, _≤_}
-use lib.Seq.{length-take-le}
+use native.Mathlib.Omega.{arith}
 use borrow.Author.Needs.{needs}
+use lib.ListN.{length, take}
+use lib.Seq.{length-take-le}
+use native.Mathlib.Nat.{mul-le-mul}
+use Rattle.machine.specs.inner.Tables.{bytesBefore}
 use Rattle.channels.proofs.whole.layout_of.Statement.{statement}
 use Rattle.channels.proofs.whole.layout_of.Tie as tie
+
+long-requires : tie.Need-long-requires
+long-requires c κs = search needs
+
+index-requires : tie.Need-index-requires
+index-requires c κs = search needs
 
 size-requires : tie.Need-size-requires
 size-requires c κs = search needs
 
 slice-aggregate-used : tie.Need-slice-aggregate-used
 slice-aggregate-used c =
-    let s = c .before .before .before in
-    sym (length-take-le (s .args .m) (s .args .degrees .now) (s .pre .0))
+    let at-index = c .before .before in
+    let start = at-index .before .before .before in
+    sym (length-take-le (at-index .index .result) (start .args .degrees .now) (omega (arith, at-index .index .ensures .0, start .pre .degrees)))
 
 used-requires : tie.Need-used-requires
 used-requires c κs =
-    let s = c .before .before .before in
-    let e = length-take-le (s .args .m) (s .args .degrees .now) (s .pre .0) in
-    (s .pre .1 .1 .0, omega (arith, e, s .pre .1 .0))
+    let at-index = c .before .before in
+    let start = at-index .before .before .before in
+    let e = length-take-le (at-index .index .result) (start .args .degrees .now) (omega (arith, at-index .index .ensures .0, start .pre .degrees)) in (start .pre .accepted, omega (arith, e, start .pre .checks, at-index .index .ensures .0))
 
-mul-t11 : tie.Need-mul-t11
-mul-t11 c =
-    let s = c .before .before .before .before in
-    let z = c .before .before .size in
-    let h : s .args .columns * z .result ≤ 256 * 32768 = mul-le-mul (s .pre .1 .1 .1) (z .ensures .1 .1) in
-    omega arith
+mul-t9 : tie.Need-mul-t9
+mul-t9 c =
+    let at-size = c .before .before in
+    let at-long = at-size .before .before in
+    let start = at-long .before .before in
+    let i : at-long .long .result ≤ 256 = omega (arith, at-long .long .ensures .0, start .pre .columns) in let h : at-long .long .result * at-size .size .result ≤ 256 * 32768 = mul-le-mul i (at-size .size .ensures .1 .1) in omega arith
 
 returns : tie.Need-returns
 returns c =
-    let s = c .before .before .before .before in
-    let z = c .before .before .size in
-    record { first-is = refl; scale-is = refl; limit-is = refl; columns-is = refl; costs-is = ap (λ q. s .args .columns * q) (z .ensures .0); store-is = c .used .ensures }
+    let at-size = c .before .before in
+    let at-index = at-size .before in
+    let at-long = at-index .before in
+    let start = at-long .before .before in
+    record { numbers-is = refl; columns-is = at-long .long .ensures .0; costs-is = ap₂ (λ a b. a * b) (at-long .long .ensures .0) (at-size .size .ensures .0); store-is = c .used .ensures ∙ ap (λ m. bytesBefore (start .args .numbers .first) (take m (start .args .degrees .now)) (length (take m (start .args .degrees .now)))) (at-index .index .ensures .0) }
 
 pub layout-of-spec : {M : Type 1} → statement M
 layout-of-spec =
     tie.close
     (tie.spec
+    long-requires
+    index-requires
     size-requires
     slice-aggregate-used
     used-requires
-    mul-t11
+    mul-t9
     returns)

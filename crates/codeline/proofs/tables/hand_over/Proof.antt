@@ -10,7 +10,7 @@ use Rattle.codeline.proofs.tables.hand_over.Statement.{statement}
 use Rattle.codeline.proofs.tables.hand_over.Tie as tie
 
 -- there is room for the checks and the edges
-fits : (c : tie.After-h) → (c .h .given .0 .1 .1 .0 ≤ 128) × (c .before .before .before .before .before .before .before .before .args .r .edges ≤ 1024)
+fits : (c : tie.After-h) → (c .h .given .0 .0 .checks ≤ 128) × (c .before .before .before .before .before .before .before .before .args .r .edges ≤ 1024)
 fits c = rw (c .h .given .1) at (c .before .before .before .before .before .before .before .before .pre .0)
 
 enum-told : tie.Need-enum-told
@@ -79,10 +79,10 @@ returns-2 c =
     let k = at-index .before .before in
     let e = k .h .given .1 in
     let a = k .before .before .before .before .before .before .before .before .args in (
-      handed-is (a .r .header) _ _ _ _ _ e (checksIn (a .r .header)) (at-index .index .result) (a .ds .now) (a .degrees .now) (at-index .index .ensures .0 ∙ sym (ap checksIn e)) (at-copy .copy .ensures),
+      handed-is (a .r .header) _ e (checksIn (a .r .header)) (at-index .index .result) (a .ds .now) (a .degrees .now) (at-index .index .ensures .0 ∙ sym (ap checksIn e)) (at-copy .copy .ensures),
       (
-        handed-is (a .r .header) _ _ _ _ _ e (a .r .edges) (a .r .edges) (a .cs .now) (a .columns .now) refl (at-words .copy-words .ensures),
-        handed-is (a .r .header) _ _ _ _ _ e (a .r .edges) (a .r .edges) (a .ws .now) (a .weights .now) refl (at-copy2 .copy2 .ensures),
+        handed-is (a .r .header) _ e (a .r .edges) (a .r .edges) (a .cs .now) (a .columns .now) refl (at-words .copy-words .ensures),
+        handed-is (a .r .header) _ e (a .r .edges) (a .r .edges) (a .ws .now) (a .weights .now) refl (at-copy2 .copy2 .ensures),
       ),
     )
 

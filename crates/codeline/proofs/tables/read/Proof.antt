@@ -9,7 +9,7 @@ use Rattle.codeline.proofs.tables.read.Statement.{statement}
 use Rattle.codeline.proofs.tables.read.Tie as tie
 
 -- how many checks there are at most, and where the numbers end
-fits : (c : tie.After-h) → (c .h .given .0 .1 .1 .0 ≤ 128) × ((c .before .before .head .result .next ≡ 6) × (c .before .before .head .result .next ≤ length (c .before .before .before .before .before .before .before .args .code .now)))
+fits : (c : tie.After-h) → (c .h .given .0 .0 .checks ≤ 128) × ((c .before .before .head .result .next ≡ 6) × (c .before .before .head .result .next ≤ length (c .before .before .before .before .before .before .before .args .code .now)))
 fits c = rw (c .h .given .1) at (c .before .before .head .ensures .1)
 
 head-requires : tie.Need-head-requires
@@ -42,7 +42,7 @@ cast-checks-at-2 : tie.Need-cast-checks-at-2
 cast-checks-at-2 c = omega arith
 
 checks-at-requires : tie.Need-checks-at-requires
-checks-at-requires c κs = let f = fits (c .before .before .before .before .before) in (f .1 .1, (omega (arith, f), (omega arith, omega arith)))
+checks-at-requires c κs = let f = fits (c .before .before .before .before .before .before .before) in (f .1 .1, (omega (arith, f), (omega arith, omega arith)))
 
 enum-known-k : tie.Need-enum-known-k
 enum-known-k c = search needs
@@ -66,7 +66,7 @@ returns-2 : tie.Need-returns-2
 returns-2 c =
     let k = c .before .before in
     let g = k .before .before .before .before .before .before .before .before in
-    let z = g .before .before .before .before in
+    let z = g .before .before .before .before .before .before in
     let h = z .before .before in
     let b = h .before .before in
     let s = b .before .before .before .before .before .args .code .now in
@@ -87,7 +87,7 @@ returns-3 : tie.Need-returns-3
 returns-3 c =
     let w = c .before in
     let g = w .before .before .before .before .before .before .before .before in
-    let z = g .before .before .before .before in
+    let z = g .before .before .before .before .before .before in
     let h = z .before .before in
     let b = h .before .before in
     let s = b .before .before .before .before .before .args .code .now in

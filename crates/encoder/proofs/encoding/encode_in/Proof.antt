@@ -11,8 +11,8 @@ code-tables-requires c κs = search needs
 enum-known-k : tie.Need-enum-known-k
 enum-known-k c = search needs
 
-enum-known-first : tie.Need-enum-known-first
-enum-known-first c = search needs
+enum-known-numbers : tie.Need-enum-known-numbers
+enum-known-numbers c = search needs
 
 long-requires : tie.Need-long-requires
 long-requires c κs = search needs
@@ -26,7 +26,7 @@ under-code-requires c κs =
     let v = w .before .before .before in
     let t = v .before .before in
     let a = t .before .before .before .before .before .before .before .args in
-    line-room (a .code .now) (t .code-tables .result) (t .code-tables .ensures .0) (v .first .given .0 .0) (v .first .given .0 .1 .0) (v .first .given .0 .1 .1 .0) (v .first .given .0 .1 .1 .1 .0) (v .first .given .0 .1 .1 .1 .1 .0) (v .first .given .1) (w .before .long .result) (w .index .result) (w .before .long .ensures .0) (w .index .ensures .0) (t .code-tables .last .1 .0) (t .code-tables .last .1 .1 .0) (t .code-tables .last .1 .1 .1 .0) (tables-left (a .code .now) _ _ _ (t .code-tables .ensures .1 .0) (t .code-tables .ensures .1 .1 .0) (t .code-tables .ensures .1 .1 .1))
+    line-room (a .code .now) (t .code-tables .result) (t .code-tables .ensures .0) (v .numbers .given .0 .0) (v .numbers .given .1) (w .before .long .result) (w .index .result) (w .before .long .ensures .0) (w .index .ensures .0) (t .code-tables .last .1 .0) (t .code-tables .last .1 .1 .0) (t .code-tables .last .1 .1 .1 .0) (tables-left (a .code .now) _ _ _ (t .code-tables .ensures .1 .0) (t .code-tables .ensures .1 .1 .0) (t .code-tables .ensures .1 .1 .1))
 
 returns : tie.Need-returns
 returns c =
@@ -45,7 +45,7 @@ returns-2 c =
     let v = w .before .before .before in
     let t = v .before .before in
     let a = t .before .before .before .before .before .before .before .args in
-    let l = line-encodes (a .code .now) (t .code-tables .result) (t .code-tables .ensures .0) (v .first .given .0 .0) (v .first .given .0 .1 .0) (v .first .given .0 .1 .1 .0) (v .first .given .0 .1 .1 .1 .0) (v .first .given .0 .1 .1 .1 .1 .0) (v .first .given .1) (w .before .long .result) (w .index .result) (w .before .long .ensures .0) (w .index .ensures .0) (t .code-tables .last .1 .0) (t .code-tables .last .1 .1 .0) (t .code-tables .last .1 .1 .1 .0) (tables-left (a .code .now) _ _ _ (t .code-tables .ensures .1 .0) (t .code-tables .ensures .1 .1 .0) (t .code-tables .ensures .1 .1 .1)) (a .message .now) (a .symbols .now) _ _ (u .under-code .ensures) in
+    let l = line-encodes (a .code .now) (t .code-tables .result) (t .code-tables .ensures .0) (v .numbers .given .0 .0) (v .numbers .given .1) (w .before .long .result) (w .index .result) (w .before .long .ensures .0) (w .index .ensures .0) (t .code-tables .last .1 .0) (t .code-tables .last .1 .1 .0) (t .code-tables .last .1 .1 .1 .0) (tables-left (a .code .now) _ _ _ (t .code-tables .ensures .1 .0) (t .code-tables .ensures .1 .1 .0) (t .code-tables .ensures .1 .1 .1)) (a .message .now) (a .symbols .now) _ _ (u .under-code .ensures) in
     (l .replies, l .out-then)
 
 pub encode-in-spec : {M : Type 1} → statement M
@@ -54,7 +54,7 @@ encode-in-spec =
     (tie.spec
     code-tables-requires
     enum-known-k
-    enum-known-first
+    enum-known-numbers
     long-requires
     index-requires
     under-code-requires

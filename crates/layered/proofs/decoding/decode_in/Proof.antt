@@ -2,11 +2,13 @@
 use mathlib.Core.Path.{ap, _∙_}
 use native.Mathlib.Omega.{arith}
 use borrow.Author.Needs.{needs}
-use Rattle.codeline.proofs.Answered.{tables-left}
+use Rattle.codeline.specs.inner.Coding.{codeOf}
+use Rattle.machine.specs.Machine.{symbols, margins}
 use Rattle.machine.specs.CodeLine.{columnsRead}
 use Rattle.machine.specs.Decoding.{lending}
+use Rattle.codeline.proofs.Says.{line-says, line-coded}
+use Rattle.layered.proofs.Decoded.{refused-decodes, said-decodes}
 use Rattle.machine.proofs.Lines.{columns-small}
-use Rattle.layered.proofs.Decoded.{refused-decodes, coded-room, coded-decodes}
 use Rattle.layered.proofs.decoding.decode_in.Statement.{statement}
 use Rattle.layered.proofs.decoding.decode_in.Tie as tie
 
@@ -16,31 +18,25 @@ code-tables-requires c κs = search needs
 enum-known-k : tie.Need-enum-known-k
 enum-known-k c = search needs
 
-enum-known-first : tie.Need-enum-known-first
-enum-known-first c = search needs
+enum-known-numbers : tie.Need-enum-known-numbers
+enum-known-numbers c = search needs
+
+under-code-requires : tie.Need-under-code-requires
+under-code-requires c κs =
+    let at-numbers = c .before .before .before .before .before .before .before .before .before .before .before .before .before in
+    let at-code-tables = at-numbers .before .before in
+    let start = at-code-tables .before .before .before .before .before .before .before .before .before .before in
+    record { coded = (line-coded (start .args .code .now) (at-code-tables .code-tables .result) (at-code-tables .code-tables .ensures .0) (at-numbers .numbers .given .0 .0) (at-numbers .numbers .given .1) _ _ _ (at-code-tables .code-tables .last .1 .0) (at-code-tables .code-tables .last .1 .1 .0) (at-code-tables .code-tables .last .1 .1 .1 .0) (at-code-tables .code-tables .ensures .1 .0) (at-code-tables .code-tables .ensures .1 .1 .0) (at-code-tables .code-tables .ensures .1 .1 .1)); arrived = omega arith; sent = omega arith }
 
 long-requires : tie.Need-long-requires
 long-requires c κs = search needs
 
-index-requires : tie.Need-index-requires
-index-requires c κs = search needs
-
-wide-requires : tie.Need-wide-requires
-wide-requires c κs = search needs
-
-under-code-requires : tie.Need-under-code-requires
-under-code-requires c κs =
-    let w = c .before .before .before .before .before .before .before .before .before .before .before .before in
-    let v = w .before .before .before .before in
-    let t = v .before .before in
-    let a = t .before .before .before .before .before .before .before .before .before .before .args in
-    coded-room (a .code .now) (t .code-tables .result) (t .code-tables .ensures .0) (v .first .given .0 .0) (v .first .given .0 .1 .0) (v .first .given .0 .1 .1 .0) (v .first .given .0 .1 .1 .1 .0) (v .first .given .0 .1 .1 .1 .1 .0) (v .first .given .1) (w .before .before .long .result) (w .before .index .result) (w .wide .result) (w .before .before .long .ensures .0) (w .before .index .ensures .0) (w .wide .ensures .0) (t .code-tables .last .1 .0) (t .code-tables .last .1 .1 .0) (t .code-tables .last .1 .1 .1 .0) (tables-left (a .code .now) _ _ _ (t .code-tables .ensures .1 .0) (t .code-tables .ensures .1 .1 .0) (t .code-tables .ensures .1 .1 .1)) (a .arrived .now) (a .sent .now) (omega arith) (omega arith)
-
 returns : tie.Need-returns
 returns c =
-    let t = c .before .before .before in
-    let a = t .before .before .before .before .before .before .before .before .before .before .args in
-    (refused-decodes (a .code .now) (t .code-tables .result) (t .code-tables .ensures .0) _ (c .before .k .given .1) (a .frame .now) (lending (a .symbols .now) (a .costs .now) (a .store .now) (a .margins .now)), (ap columnsRead (rw (c .before .k .given .1) at (t .code-tables .ensures .0)), omega arith))
+    let at-k = c .before in
+    let at-code-tables = at-k .before .before in
+    let start = at-code-tables .before .before .before .before .before .before .before .before .before .before in
+    (refused-decodes (start .args .code .now) (start .args .frame .now) (lending (start .args .symbols .now) (start .args .costs .now) (start .args .store .now) (start .args .margins .now)) (at-code-tables .code-tables .result) (at-code-tables .code-tables .ensures .0) _ (at-k .k .given .1), (ap columnsRead (rw (at-k .k .given .1) at (at-code-tables .code-tables .ensures .0)), omega arith))
 
 same-length : tie.Need-same-length
 same-length c = search needs
@@ -56,13 +52,11 @@ same-length-4 c = search needs
 
 returns-2 : tie.Need-returns-2
 returns-2 c =
-    let u = c .before .before .before .before .before .before .before .before in
-    let w = u .before .before .before .before .before .before .before .before .before .before .before .before .before in
-    let v = w .before .before .before .before in
-    let t = v .before .before in
-    let a = t .before .before .before .before .before .before .before .before .before .before .args in
-    let e = rw (v .first .given .1) at (t .code-tables .ensures .0) in
-    (coded-decodes (a .code .now) (t .code-tables .result) (t .code-tables .ensures .0) (v .first .given .0 .0) (v .first .given .0 .1 .0) (v .first .given .0 .1 .1 .0) (v .first .given .0 .1 .1 .1 .0) (v .first .given .0 .1 .1 .1 .1 .0) (v .first .given .1) (w .before .before .long .result) (w .before .index .result) (w .wide .result) (w .before .before .long .ensures .0) (w .before .index .ensures .0) (w .wide .ensures .0) (t .code-tables .last .1 .0) (t .code-tables .last .1 .1 .0) (t .code-tables .last .1 .1 .1 .0) (tables-left (a .code .now) _ _ _ (t .code-tables .ensures .1 .0) (t .code-tables .ensures .1 .1 .0) (t .code-tables .ensures .1 .1 .1)) (a .frame .now) (lending (a .symbols .now) (a .costs .now) (a .store .now) (a .margins .now)) _ _ (u .under-code .ensures), (w .before .before .long .ensures .0 ∙ ap columnsRead e, rw (w .before .before .long .ensures .0) (columns-small (a .code .now) _ e)))
+    let at-under-code = c .before .before .before .before .before .before .before .before .before in
+    let at-numbers = at-under-code .before .before .before .before .before .before .before .before .before .before .before .before .before .before in
+    let at-code-tables = at-numbers .before .before in
+    let start = at-code-tables .before .before .before .before .before .before .before .before .before .before in
+    let e = rw (at-numbers .numbers .given .1) at (at-code-tables .code-tables .ensures .0) in (said-decodes (start .args .code .now) (start .args .frame .now) (lending (start .args .symbols .now) (start .args .costs .now) (start .args .store .now) (start .args .margins .now)) (codeOf (at-numbers .numbers .given .0 .0) (at-code-tables .code-tables .last .1 .0) (at-code-tables .code-tables .last .1 .1 .0) (at-code-tables .code-tables .last .1 .1 .1 .0)) (line-says (start .args .code .now) (at-code-tables .code-tables .result) (at-code-tables .code-tables .ensures .0) (at-numbers .numbers .given .0 .0) (at-numbers .numbers .given .1) _ _ _ (at-code-tables .code-tables .last .1 .0) (at-code-tables .code-tables .last .1 .1 .0) (at-code-tables .code-tables .last .1 .1 .1 .0) (at-code-tables .code-tables .ensures .1 .0) (at-code-tables .code-tables .ensures .1 .1 .0) (at-code-tables .code-tables .ensures .1 .1 .1)) _ _ (at-under-code .under-code .ensures), (c .long .ensures .0 ∙ ap columnsRead e, rw (c .long .ensures .0) (columns-small (start .args .code .now) _ e)))
 
 pub decode-in-spec : {M : Type 1} → statement M
 decode-in-spec =
@@ -70,11 +64,9 @@ decode-in-spec =
     (tie.spec
     code-tables-requires
     enum-known-k
-    enum-known-first
-    long-requires
-    index-requires
-    wide-requires
+    enum-known-numbers
     under-code-requires
+    long-requires
     returns
     same-length
     same-length-2

@@ -1,28 +1,30 @@
 -- The invariant is Going: where the next check stands, and that what is left gives the same as the whole.
-use mathlib.Core.Path.{_≡_, refl, ap, _∙_}
-use Prim.Native.Nat.{_-_, _<_}
+use mathlib.Core.Path.{_≡_, refl, ap₂}
+use Prim.Native.Nat.{_-_}
 use native.Mathlib.Omega.{arith}
 use borrow.Author.Needs.{needs}
 use lib.Dec.{ltb}
 use lib.ListN.{length}
-use Rattle.layered.specs.inner.Passes.{graph, lent}
+use Rattle.machine.specs.Lent.{lent}
+use Rattle.machine.specs.Machine.{symbols}
 use Rattle.layered.specs.inner.Early.{Going}
-use Rattle.layered.proofs.Advances.{going-start, going-decided, going-end, going-updatable, going-retest, going-found, going-next}
-use Rattle.trellis.specs.Rules.{sizeOf}
-use Rattle.layered.specs.inner.Parity.{decisionsOf}
+use Rattle.layered.proofs.Advances.{going-start, going-end, going-updatable, going-retest, going-found, going-next}
 use Rattle.layered.proofs.early.go_on.Statement.{statement}
 use Rattle.layered.proofs.early.go_on.Tie as tie
 
 abbrev Inv-loop : tie.InvT-loop
-Inv-loop first g most degrees columns weights symbols₀ costs₀ store₀ arrived₀ sent₀ count here₀ from₀ u₀ symbols costs store arrived sent here from u = Going (graph first g degrees columns weights) (length symbols₀) most (lent costs₀ store₀) u here from costs store symbols × ((length costs ≡ length costs₀) × ((length store ≡ length store₀) × ((length arrived ≡ length arrived₀) × (length sent ≡ length sent₀))))
+Inv-loop numbers most degrees columns weights symbols₀ costs₀ store₀ arrived₀ sent₀ count here₀ from₀ u₀ symbols costs store arrived sent here from u = Going numbers degrees columns weights most (lent costs₀ store₀) u here from costs store symbols × ((length symbols ≡ length symbols₀) × ((length costs ≡ length costs₀) × ((length store ≡ length store₀) × ((length arrived ≡ length arrived₀) × (length sent ≡ length sent₀)))))
 
 abbrev μ-loop : tie.MeasureT-loop
-μ-loop first g most degrees columns weights symbols₀ costs₀ store₀ arrived₀ sent₀ count here₀ from₀ u₀ symbols costs store arrived sent here from u = most - u
+μ-loop numbers most degrees columns weights symbols₀ costs₀ store₀ arrived₀ sent₀ count here₀ from₀ u₀ symbols costs store arrived sent here from u = most - u
+
+index-requires : tie.Need-index-requires Inv-loop μ-loop
+index-requires c κs = search needs
 
 loop-holds : tie.Need-loop-holds Inv-loop μ-loop
 loop-holds c =
-    let start = c .before .before .before .before .before .before .before .before in
-    (going-start (start .args .first) (start .args .g) (start .args .degrees .now) (start .args .columns .now) (start .args .weights .now) (length (start .args .symbols .now)) (start .args .most) (lent (start .args .costs .now) (start .args .store .now)) (start .args .costs .now) (start .args .store .now) (start .args .symbols .now) (start .pre .unsettled) refl refl, (refl, (refl, (refl, refl))))
+    let start = c .before .before .before .before .before .before .before .before .before in
+    (going-start (start .args .numbers) (start .args .degrees .now) (start .args .columns .now) (start .args .weights .now) (start .args .most) (lent (start .args .costs .now) (start .args .store .now)) (start .args .costs .now) (start .args .store .now) (start .args .symbols .now) (start .pre .unsettled) refl, (refl, (refl, (refl, (refl, refl)))))
 
 same-length : tie.Need-same-length Inv-loop μ-loop
 same-length c = search needs
@@ -42,8 +44,8 @@ same-length-5 c = search needs
 returns : tie.Need-returns Inv-loop μ-loop
 returns c =
     let at-loop = c .before in
-    let start = at-loop .before .before .before .before .before .before .before .before .before in
-    (going-end (start .args .first) (start .args .g) (start .args .degrees .now) (start .args .columns .now) (start .args .weights .now) (length (start .args .symbols .now)) (start .args .most) (lent (start .args .costs .now) (start .args .store .now)) (at-loop .loop .u) (at-loop .loop .here) (at-loop .loop .from) (at-loop .loop .costs) (at-loop .loop .store) (at-loop .loop .symbols) (at-loop .loop .inv .0) (c .if1 .taken), going-decided (start .args .first) (start .args .g) (start .args .degrees .now) (start .args .columns .now) (start .args .weights .now) (length (start .args .symbols .now)) (start .args .most) (lent (start .args .costs .now) (start .args .store .now)) (at-loop .loop .u) (at-loop .loop .here) (at-loop .loop .from) (at-loop .loop .costs) (at-loop .loop .store) (at-loop .loop .symbols) (at-loop .loop .inv .0))
+    let start = at-loop .before .before .before .before .before .before .before .before .before .before in
+    (going-end (start .args .numbers) (start .args .degrees .now) (start .args .columns .now) (start .args .weights .now) (start .args .most) (lent (start .args .costs .now) (start .args .store .now)) (at-loop .loop .u) (at-loop .loop .here) (at-loop .loop .from) (at-loop .loop .costs) (at-loop .loop .store) (at-loop .loop .symbols) (at-loop .loop .inv .0) (c .if1 .taken), at-loop .loop .inv .0 .unsettled .decided)
 
 long-requires : tie.Need-long-requires Inv-loop μ-loop
 long-requires c κs = search needs
@@ -52,53 +54,55 @@ update-at-requires : tie.Need-update-at-requires Inv-loop μ-loop
 update-at-requires c κs =
     let at-long = c .before .before .before .before in
     let at-loop = at-long .before .before in
-    let start = at-loop .before .before .before .before .before .before .before .before .before in
-    record { updatable = going-updatable (start .args .first) (start .args .g) (start .args .degrees .now) (start .args .columns .now) (start .args .weights .now) (length (start .args .symbols .now)) (start .args .most) (lent (start .args .costs .now) (start .args .store .now)) (at-loop .loop .u) (at-loop .loop .here) (at-loop .loop .from) (at-loop .loop .costs) (at-loop .loop .store) (at-loop .loop .symbols) (at-loop .loop .inv .0) _ (ap (λ k. ltb k (length (start .args .degrees .now))) (at-long .long .ensures .0)); stands = at-loop .loop .inv .0 .stands; arrived = omega (arith, start .pre .arrived, at-loop .loop .inv .1 .1 .1 .0); sent = omega (arith, start .pre .sent, at-loop .loop .inv .1 .1 .1 .1) }
+    let at-index = at-loop .before in
+    let start = at-index .before .before .before .before .before .before .before .before .before in
+    record { updatable = going-updatable (start .args .numbers) (start .args .degrees .now) (start .args .columns .now) (start .args .weights .now) (start .args .most) (lent (start .args .costs .now) (start .args .store .now)) (at-loop .loop .u) (at-loop .loop .here) (at-loop .loop .from) (at-loop .loop .costs) (at-loop .loop .store) (at-loop .loop .symbols) (at-loop .loop .inv .0) _ (ap₂ ltb (at-long .long .ensures .0) (at-index .index .ensures .0)); stands = at-loop .loop .inv .0 .stands; arrived = omega (arith, start .pre .arrived, at-loop .loop .inv .1 .1 .1 .1 .0); sent = omega (arith, start .pre .sent, at-loop .loop .inv .1 .1 .1 .1 .1) }
 
 add-u : tie.Need-add-u Inv-loop μ-loop
 add-u c =
     let at-if1 = c .before .before .before .before .before .before .before .before .before .before .before .before .before .before in
     let at-loop = at-if1 .before in
-    let start = at-loop .before .before .before .before .before .before .before .before .before in
-    omega (arith, (let h : at-loop .loop .u < start .args .most = omega (arith, at-loop .loop .inv .0 .at-most, at-if1 .if1 .left) in h))
+    let start = at-loop .before .before .before .before .before .before .before .before .before .before in
+    omega (arith, at-loop .loop .inv .0 .at-most, at-if1 .if1 .left, start .good .1 .0)
 
 tested-again-requires : tie.Need-tested-again-requires Inv-loop μ-loop
 tested-again-requires c κs =
     let at-update-at = c .before .before .before .before .before .before .before .before .before .before in
     let at-long = at-update-at .before .before .before .before .before in
     let at-loop = at-long .before .before in
-    let start = at-loop .before .before .before .before .before .before .before .before .before in
-    going-retest (start .args .first) (start .args .g) (start .args .degrees .now) (start .args .columns .now) (start .args .weights .now) (length (start .args .symbols .now)) (start .args .most) (lent (start .args .costs .now) (start .args .store .now)) (at-loop .loop .u) (at-loop .loop .here) (at-loop .loop .from) (at-loop .loop .costs) (at-loop .loop .store) (at-loop .loop .symbols) (at-loop .loop .inv .0) _ (ap (λ k. ltb k (length (start .args .degrees .now))) (at-long .long .ensures .0)) _ _ (at-update-at .update-at .ensures .0)
+    let at-index = at-loop .before in
+    let start = at-index .before .before .before .before .before .before .before .before .before in
+    going-retest (start .args .numbers) (start .args .degrees .now) (start .args .columns .now) (start .args .weights .now) (start .args .most) (lent (start .args .costs .now) (start .args .store .now)) (at-loop .loop .u) (at-loop .loop .here) (at-loop .loop .from) (at-loop .loop .costs) (at-loop .loop .store) (at-loop .loop .symbols) (at-loop .loop .inv .0) _ (ap₂ ltb (at-long .long .ensures .0) (at-index .index .ensures .0)) _ _ (at-update-at .update-at .ensures .0)
 
 same-length-6 : tie.Need-same-length-6 Inv-loop μ-loop
 same-length-6 c =
     let at-tested-again = c .before .before .before .before in
     let at-loop = at-tested-again .before .before .before .before .before .before .before .before .before .before .before .before .before .before .before .before .before .before in
-    omega (arith, at-tested-again .tested-again .kept, at-loop .loop .inv .0 .symbols)
+    omega (arith, at-tested-again .tested-again .kept, at-loop .loop .inv .1 .0)
 
 same-length-7 : tie.Need-same-length-7 Inv-loop μ-loop
 same-length-7 c =
     let at-update-at = c .before .before .before .before .before .before .before .before .before .before .before .before .before .before .before in
     let at-loop = at-update-at .before .before .before .before .before .before .before in
-    omega (arith, at-update-at .update-at .kept, at-loop .loop .inv .1 .0)
+    omega (arith, at-update-at .update-at .kept, at-loop .loop .inv .1 .1 .0)
 
 same-length-8 : tie.Need-same-length-8 Inv-loop μ-loop
 same-length-8 c =
     let at-update-at = c .before .before .before .before .before .before .before .before .before .before .before .before .before .before .before in
     let at-loop = at-update-at .before .before .before .before .before .before .before in
-    omega (arith, at-update-at .update-at .kept, at-loop .loop .inv .1 .1 .0)
+    omega (arith, at-update-at .update-at .kept, at-loop .loop .inv .1 .1 .1 .0)
 
 same-length-9 : tie.Need-same-length-9 Inv-loop μ-loop
 same-length-9 c =
     let at-update-at = c .before .before .before .before .before .before .before .before .before .before .before .before .before .before .before in
     let at-loop = at-update-at .before .before .before .before .before .before .before in
-    omega (arith, at-update-at .update-at .kept, at-loop .loop .inv .1 .1 .1 .0)
+    omega (arith, at-update-at .update-at .kept, at-loop .loop .inv .1 .1 .1 .1 .0)
 
 same-length-10 : tie.Need-same-length-10 Inv-loop μ-loop
 same-length-10 c =
     let at-update-at = c .before .before .before .before .before .before .before .before .before .before .before .before .before .before .before in
     let at-loop = at-update-at .before .before .before .before .before .before .before in
-    omega (arith, at-update-at .update-at .kept, at-loop .loop .inv .1 .1 .1 .1)
+    omega (arith, at-update-at .update-at .kept, at-loop .loop .inv .1 .1 .1 .1 .1)
 
 returns-2 : tie.Need-returns-2 Inv-loop μ-loop
 returns-2 c =
@@ -107,8 +111,9 @@ returns-2 c =
     let at-long = at-update-at .before .before .before .before .before in
     let at-if1 = at-long .before in
     let at-loop = at-if1 .before in
-    let start = at-loop .before .before .before .before .before .before .before .before .before in
-    (going-found (start .args .first) (start .args .g) (start .args .degrees .now) (start .args .columns .now) (start .args .weights .now) (length (start .args .symbols .now)) (start .args .most) (lent (start .args .costs .now) (start .args .store .now)) (at-loop .loop .u) (at-loop .loop .here) (at-loop .loop .from) (at-loop .loop .costs) (at-loop .loop .store) (at-loop .loop .symbols) (at-loop .loop .inv .0) _ (ap (λ k. ltb k (length (start .args .degrees .now))) (at-long .long .ensures .0)) _ _ (at-update-at .update-at .ensures .0) (let h : at-loop .loop .u < start .args .most = omega (arith, at-loop .loop .inv .0 .at-most, at-if1 .if1 .left) in h) (at-tested-again .tested-again .result) (at-tested-again .tested-again .ensures .0) (c .if2 .taken), at-tested-again .tested-again .ensures .1 ∙ ap (decisionsOf (sizeOf (start .args .first)) _) (at-loop .loop .inv .0 .symbols))
+    let at-index = at-loop .before in
+    let start = at-index .before .before .before .before .before .before .before .before .before in
+    (going-found (start .args .numbers) (start .args .degrees .now) (start .args .columns .now) (start .args .weights .now) (start .args .most) (lent (start .args .costs .now) (start .args .store .now)) (at-loop .loop .u) (at-loop .loop .here) (at-loop .loop .from) (at-loop .loop .costs) (at-loop .loop .store) (at-loop .loop .symbols) (at-loop .loop .inv .0) _ (ap₂ ltb (at-long .long .ensures .0) (at-index .index .ensures .0)) _ _ (at-update-at .update-at .ensures .0) (omega (arith, at-loop .loop .inv .0 .at-most, at-if1 .if1 .left)) (at-tested-again .tested-again .result) (at-tested-again .tested-again .ensures .0) (at-index .index .result) (at-index .index .ensures .0) (c .if2 .taken), at-tested-again .tested-again .ensures .1)
 
 around-requires : tie.Need-around-requires Inv-loop μ-loop
 around-requires c κs = search needs
@@ -117,8 +122,7 @@ loop-less : tie.Need-loop-less Inv-loop μ-loop
 loop-less c =
     let at-if1 = c .before .before .before .before .before .before .before .before .before .before .before .before .before .before .before .before .before .before .before .before .before .before in
     let at-loop = at-if1 .before in
-    let start = at-loop .before .before .before .before .before .before .before .before .before in
-    omega (arith, (let h : at-loop .loop .u < start .args .most = omega (arith, at-loop .loop .inv .0 .at-most, at-if1 .if1 .left) in h))
+    omega (arith, at-loop .loop .inv .0 .at-most, at-if1 .if1 .left)
 
 loop-again : tie.Need-loop-again Inv-loop μ-loop
 loop-again c =
@@ -128,8 +132,9 @@ loop-again c =
     let at-long = at-update-at .before .before .before .before .before in
     let at-if1 = at-long .before in
     let at-loop = at-if1 .before in
-    let start = at-loop .before .before .before .before .before .before .before .before .before in
-    (going-next (start .args .first) (start .args .g) (start .args .degrees .now) (start .args .columns .now) (start .args .weights .now) (length (start .args .symbols .now)) (start .args .most) (lent (start .args .costs .now) (start .args .store .now)) (at-loop .loop .u) (at-loop .loop .here) (at-loop .loop .from) (at-loop .loop .costs) (at-loop .loop .store) (at-loop .loop .symbols) (at-loop .loop .inv .0) _ (ap (λ k. ltb k (length (start .args .degrees .now))) (at-long .long .ensures .0)) _ _ (at-update-at .update-at .ensures .0) (let h : at-loop .loop .u < start .args .most = omega (arith, at-loop .loop .inv .0 .at-most, at-if1 .if1 .left) in h) (at-tested-again .tested-again .result) (at-tested-again .tested-again .ensures .0) (at-if2 .if2 .left) (at-update-at .update-at .result) (c .around .result) (at-update-at .update-at .ensures .1) (c .around .ensures) _ (at-tested-again .tested-again .ensures .1) (omega (arith, at-tested-again .tested-again .kept)), (omega (arith, at-update-at .update-at .kept, at-loop .loop .inv .1 .0), (omega (arith, at-update-at .update-at .kept, at-loop .loop .inv .1 .1 .0), (omega (arith, at-update-at .update-at .kept, at-loop .loop .inv .1 .1 .1 .0), omega (arith, at-update-at .update-at .kept, at-loop .loop .inv .1 .1 .1 .1)))))
+    let at-index = at-loop .before in
+    let start = at-index .before .before .before .before .before .before .before .before .before in
+    (going-next (start .args .numbers) (start .args .degrees .now) (start .args .columns .now) (start .args .weights .now) (start .args .most) (lent (start .args .costs .now) (start .args .store .now)) (at-loop .loop .u) (at-loop .loop .here) (at-loop .loop .from) (at-loop .loop .costs) (at-loop .loop .store) (at-loop .loop .symbols) (at-loop .loop .inv .0) _ (ap₂ ltb (at-long .long .ensures .0) (at-index .index .ensures .0)) _ _ (at-update-at .update-at .ensures .0) (omega (arith, at-loop .loop .inv .0 .at-most, at-if1 .if1 .left)) (at-tested-again .tested-again .result) (at-tested-again .tested-again .ensures .0) (at-index .index .result) (at-index .index .ensures .0) (at-if2 .if2 .left) (at-update-at .update-at .result) _ (at-update-at .update-at .ensures .1) (c .around .ensures) _ (at-tested-again .tested-again .ensures .1), (omega (arith, at-tested-again .tested-again .kept, at-loop .loop .inv .1 .0), (omega (arith, at-update-at .update-at .kept, at-loop .loop .inv .1 .1 .0), (omega (arith, at-update-at .update-at .kept, at-loop .loop .inv .1 .1 .1 .0), (omega (arith, at-update-at .update-at .kept, at-loop .loop .inv .1 .1 .1 .1 .0), omega (arith, at-update-at .update-at .kept, at-loop .loop .inv .1 .1 .1 .1 .1))))))
 
 pub go-on-spec : {M : Type 1} → statement M
 go-on-spec =
@@ -137,6 +142,7 @@ go-on-spec =
     (tie.spec
     Inv-loop
     μ-loop
+    index-requires
     loop-holds
     same-length
     same-length-2

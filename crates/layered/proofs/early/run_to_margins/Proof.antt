@@ -1,11 +1,14 @@
 -- The margins have as many columns as the symbols, whose costs the run keeps in number.
-use mathlib.Core.Path.{refl}
-use Prim.Native.Nat.{_*_, _≤_}
+use mathlib.Core.Path.{_≡_, ap₂, _∙_}
+use Prim.Native.Nat.{_*_}
 use native.Mathlib.Omega.{arith}
 use borrow.Author.Needs.{needs}
-use lib.ListN.{length}
-use Rattle.trellis.specs.Rules.{powerOf, sizeOf}
-use Rattle.layered.proofs.Runs.{test-room}
+use Rattle.machine.specs.Machine.{margins}
+use Rattle.trellis.specs.Lists.{tab}
+use Rattle.trellis.specs.Check.{decide}
+use Rattle.trellis.specs.Rules.{sizeOf}
+use Rattle.machine.specs.CodeLine.{columnOf}
+use Rattle.layered.proofs.Satisfied.{margins-are}
 use Rattle.layered.proofs.early.run_to_margins.Statement.{statement}
 use Rattle.layered.proofs.early.run_to_margins.Tie as tie
 
@@ -20,7 +23,7 @@ margins-requires c κs =
     let at-size = c .before in
     let at-run = at-size .before .before .before .before .before .before .before .before .before .before .before .before in
     let start = at-run .before .before .before .before .before .before .before .before .before .before .before .before .before .before .before in
-    let t : length (start .args .symbols .now) * sizeOf (start .args .first) ≤ length (start .args .costs .now) = test-room (start .args .first) (start .args .g) (start .args .degrees .now) (start .args .columns .now) (start .args .weights .now) (start .args .costs .now) (start .args .store .now) _ (start .pre .0 .0 .running) (powerOf (start .args .first)) refl (start .args .symbols .now) (start .pre .0 .0 .symbols) .costs in rw (at-size .size .ensures .0, start .pre .1) (omega (arith, t, at-run .run .kept))
+    let e : at-size .size .result ≡ sizeOf (start .args .numbers .first) = at-size .size .ensures .0 in omega (arith, start .pre .0 .iterate .running .passable .ranged .full, ap₂ (λ a b. a * b) (start .pre .1) e, at-run .run .kept)
 
 same-length : tie.Need-same-length
 same-length c = search needs
@@ -45,7 +48,8 @@ returns c =
     let at-margins = c .before .before in
     let at-size = at-margins .before .before in
     let at-run = at-size .before .before .before .before .before .before .before .before .before .before .before .before in
-    (at-run .run .ensures .0, (at-run .run .ensures .1, rw (at-size .size .ensures .0) at (at-margins .margins .ensures)))
+    let start = at-run .before .before .before .before .before .before .before .before .before .before .before .before .before .before .before in
+    (at-run .run .ensures .0, (at-run .run .ensures .1, at-margins .margins .ensures ∙ ap₂ (λ q n. tab (λ c. decide (columnOf q (at-run .run .last .1 .1 .1 .1 .1 .0) c) .margin) n) (at-size .size .ensures .0) (start .pre .1) ∙ margins-are (start .args .numbers) (start .args .degrees .now) (start .args .columns .now) (start .args .weights .now) (at-run .run .last .1 .1 .1 .1 .1 .0)))
 
 pub run-to-margins-spec : {M : Type 1} → statement M
 run-to-margins-spec =

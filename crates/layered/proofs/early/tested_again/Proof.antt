@@ -1,14 +1,15 @@
 -- The columns decided again give the decisions of these costs; without a new symbol the test is what it was.
 use native.Mathlib.Omega.{arith}
 use borrow.Author.Needs.{needs}
-use Rattle.layered.proofs.Retests.{edges-inside, again-asks, again-decided, again-same, again-room, again-tested}
+use Rattle.machine.specs.Machine.{symbols}
+use Rattle.layered.proofs.Retests.{edges-inside, check-there as check-in, again-asks, again-decided, again-same, again-room, again-tested}
 use Rattle.layered.proofs.early.tested_again.Statement.{statement}
 use Rattle.layered.proofs.early.tested_again.Tie as tie
 
 shared-slice-read-index : tie.Need-shared-slice-read-index
 shared-slice-read-index c =
     let start = c .before .before .before .before .before .before in
-    start .pre .inside
+    check-in (start .args .numbers) (start .args .degrees .now) (start .args .columns .now) (start .args .weights .now) (start .args .here) (start .args .from) (start .args .costs .now) (start .args .symbols .now) (start .pre)
 
 index-requires : tie.Need-index-requires
 index-requires c κs = search needs
@@ -16,7 +17,7 @@ index-requires c κs = search needs
 add-e : tie.Need-add-e
 add-e c =
     let start = c .before .before .before .before .before .before .before in
-    omega (arith, edges-inside (start .args .first) (start .args .degrees .now) (start .args .columns .now) (start .args .weights .now) (start .args .here) (start .args .from) (start .args .costs .now) (start .args .symbols .now) (start .pre) (c .index .result) (c .index .ensures .0))
+    omega (arith, edges-inside (start .args .numbers) (start .args .degrees .now) (start .args .columns .now) (start .args .weights .now) (start .args .here) (start .args .from) (start .args .costs .now) (start .args .symbols .now) (start .pre) (c .index .result) (c .index .ensures .0))
 
 size-requires : tie.Need-size-requires
 size-requires c κs = search needs
@@ -25,7 +26,7 @@ mul-decide-again : tie.Need-mul-decide-again
 mul-decide-again c =
     let at-index = c .before in
     let start = at-index .before .before .before .before .before .before .before in
-    omega (arith, edges-inside (start .args .first) (start .args .degrees .now) (start .args .columns .now) (start .args .weights .now) (start .args .here) (start .args .from) (start .args .costs .now) (start .args .symbols .now) (start .pre) (at-index .index .result) (at-index .index .ensures .0))
+    omega (arith, edges-inside (start .args .numbers) (start .args .degrees .now) (start .args .columns .now) (start .args .weights .now) (start .args .here) (start .args .from) (start .args .costs .now) (start .args .symbols .now) (start .pre) (at-index .index .result) (at-index .index .ensures .0))
 
 sub-decide-again : tie.Need-sub-decide-again
 sub-decide-again c = search needs
@@ -37,14 +38,14 @@ part-decide-again-end : tie.Need-part-decide-again-end
 part-decide-again-end c =
     let at-index = c .before in
     let start = at-index .before .before .before .before .before .before .before in
-    omega (arith, edges-inside (start .args .first) (start .args .degrees .now) (start .args .columns .now) (start .args .weights .now) (start .args .here) (start .args .from) (start .args .costs .now) (start .args .symbols .now) (start .pre) (at-index .index .result) (at-index .index .ensures .0))
+    omega (arith, edges-inside (start .args .numbers) (start .args .degrees .now) (start .args .columns .now) (start .args .weights .now) (start .args .here) (start .args .from) (start .args .costs .now) (start .args .symbols .now) (start .pre) (at-index .index .result) (at-index .index .ensures .0))
 
 decide-again-requires : tie.Need-decide-again-requires
 decide-again-requires c κs =
     let at-size = c .before .before in
     let at-index = at-size .before in
     let start = at-index .before .before .before .before .before .before .before in
-    again-asks (start .args .first) (start .args .degrees .now) (start .args .columns .now) (start .args .weights .now) (start .args .here) (start .args .from) (start .args .costs .now) (start .args .symbols .now) (start .pre) (at-index .index .result) (at-index .index .ensures .0) (at-size .size .result) (at-size .size .ensures .0)
+    again-asks (start .args .numbers) (start .args .degrees .now) (start .args .columns .now) (start .args .weights .now) (start .args .here) (start .args .from) (start .args .costs .now) (start .args .symbols .now) (start .pre) (at-index .index .result) (at-index .index .ensures .0) (at-size .size .result) (at-size .size .ensures .0)
 
 same-length : tie.Need-same-length
 same-length c = search needs
@@ -55,31 +56,26 @@ returns c =
     let at-size = at-decide-again .before .before .before in
     let at-index = at-size .before in
     let start = at-index .before .before .before .before .before .before .before in
-    let e = at-decide-again .decide-again .ensures .1 (c .if1 .taken) in (again-same (start .args .first) (start .args .degrees .now) (start .args .columns .now) (start .args .weights .now) (start .args .here) (start .args .from) (start .args .costs .now) (start .args .symbols .now) (start .pre) (at-index .index .result) (at-index .index .ensures .0) (at-size .size .result) (at-size .size .ensures .0) _ (at-decide-again .decide-again .ensures .0) e, again-decided (start .args .first) (start .args .degrees .now) (start .args .columns .now) (start .args .weights .now) (start .args .here) (start .args .from) (start .args .costs .now) (start .args .symbols .now) (start .pre) (at-index .index .result) (at-index .index .ensures .0) (at-size .size .result) (at-size .size .ensures .0) _ (at-decide-again .decide-again .ensures .0))
-
-power-requires : tie.Need-power-requires
-power-requires c κs = search needs
+    (again-same (start .args .numbers) (start .args .degrees .now) (start .args .columns .now) (start .args .weights .now) (start .args .here) (start .args .from) (start .args .costs .now) (start .args .symbols .now) (start .pre) (at-index .index .result) (at-index .index .ensures .0) (at-size .size .result) (at-size .size .ensures .0) _ (at-decide-again .decide-again .ensures .0) (at-decide-again .decide-again .ensures .1 (c .if1 .taken)), again-decided (start .args .numbers) (start .args .degrees .now) (start .args .columns .now) (start .args .weights .now) (start .args .here) (start .args .from) (start .args .costs .now) (start .args .symbols .now) (start .pre) (at-index .index .result) (at-index .index .ensures .0) (at-size .size .result) (at-size .size .ensures .0) _ (at-decide-again .decide-again .ensures .0))
 
 unsatisfied-from-requires : tie.Need-unsatisfied-from-requires
 unsatisfied-from-requires c κs =
-    let at-power = c .before in
-    let at-decide-again = at-power .before .before .before .before in
+    let at-decide-again = c .before .before .before .before in
     let at-size = at-decide-again .before .before .before in
     let at-index = at-size .before in
     let start = at-index .before .before .before .before .before .before .before in
-    again-room (start .args .first) (start .args .degrees .now) (start .args .columns .now) (start .args .weights .now) (start .args .here) (start .args .from) (start .args .costs .now) (start .args .symbols .now) (start .pre) (at-index .index .result) (at-index .index .ensures .0) (at-size .size .result) (at-size .size .ensures .0) _ (at-decide-again .decide-again .ensures .0) (at-power .power .result) (at-power .power .ensures)
+    again-room (start .args .numbers) (start .args .degrees .now) (start .args .columns .now) (start .args .weights .now) (start .args .here) (start .args .from) (start .args .costs .now) (start .args .symbols .now) (start .pre) (at-index .index .result) (at-index .index .ensures .0) (at-size .size .result) (at-size .size .ensures .0) _ (at-decide-again .decide-again .ensures .0)
 
 same-length-2 : tie.Need-same-length-2
 same-length-2 c = search needs
 
 returns-2 : tie.Need-returns-2
 returns-2 c =
-    let at-power = c .before .before in
-    let at-decide-again = at-power .before .before .before .before in
+    let at-decide-again = c .before .before .before .before .before in
     let at-size = at-decide-again .before .before .before in
     let at-index = at-size .before in
     let start = at-index .before .before .before .before .before .before .before in
-    (again-tested (start .args .first) (start .args .degrees .now) (start .args .columns .now) (start .args .weights .now) (start .args .here) (start .args .from) (start .args .costs .now) (start .args .symbols .now) (start .pre) (at-index .index .result) (at-index .index .ensures .0) (at-size .size .result) (at-size .size .ensures .0) _ (at-decide-again .decide-again .ensures .0) (at-power .power .result) (at-power .power .ensures) (c .unsatisfied-from .result) (c .unsatisfied-from .ensures), again-decided (start .args .first) (start .args .degrees .now) (start .args .columns .now) (start .args .weights .now) (start .args .here) (start .args .from) (start .args .costs .now) (start .args .symbols .now) (start .pre) (at-index .index .result) (at-index .index .ensures .0) (at-size .size .result) (at-size .size .ensures .0) _ (at-decide-again .decide-again .ensures .0))
+    (again-tested (start .args .numbers) (start .args .degrees .now) (start .args .columns .now) (start .args .weights .now) (start .args .here) (start .args .from) (start .args .costs .now) (start .args .symbols .now) (start .pre) (at-index .index .result) (at-index .index .ensures .0) (at-size .size .result) (at-size .size .ensures .0) _ (at-decide-again .decide-again .ensures .0) (c .unsatisfied-from .result) (c .unsatisfied-from .ensures), again-decided (start .args .numbers) (start .args .degrees .now) (start .args .columns .now) (start .args .weights .now) (start .args .here) (start .args .from) (start .args .costs .now) (start .args .symbols .now) (start .pre) (at-index .index .result) (at-index .index .ensures .0) (at-size .size .result) (at-size .size .ensures .0) _ (at-decide-again .decide-again .ensures .0))
 
 pub tested-again-spec : {M : Type 1} → statement M
 tested-again-spec =
@@ -96,7 +92,6 @@ tested-again-spec =
     decide-again-requires
     same-length
     returns
-    power-requires
     unsatisfied-from-requires
     same-length-2
     returns-2)

@@ -4,13 +4,13 @@ use Prim.Native.Nat.{_-_, _*_, _≤_}
 use native.Mathlib.Omega.{arith}
 use borrow.Author.Needs.{needs}
 use lib.ListN.{length}
-use Rattle.layered.specs.inner.Passes.{placeAt}
-use Rattle.layered.proofs.Passes.{groups-few, place-more}
+use Rattle.machine.specs.inner.Tables.{bytesBefore}
+use Rattle.layered.proofs.Resuming.{groups-few, place-more}
 use Rattle.layered.proofs.frame.used.Statement.{statement}
 use Rattle.layered.proofs.frame.used.Tie as tie
 
 abbrev Inv-loop : tie.InvT-loop
-Inv-loop first degrees groups sum₀ m₀ sum m = (m ≤ length degrees) × ((sum ≡ placeAt first degrees m) × (sum ≤ m * 696))
+Inv-loop first degrees groups sum₀ m₀ sum m = (m ≤ length degrees) × ((sum ≡ bytesBefore first degrees m) × (sum ≤ m * 696))
 
 abbrev μ-loop : tie.MeasureT-loop
 μ-loop first degrees groups sum₀ m₀ sum m = length degrees - m
@@ -23,7 +23,7 @@ groups-requires : tie.Need-groups-requires Inv-loop μ-loop
 groups-requires c κs = search needs
 
 loop-holds : tie.Need-loop-holds Inv-loop μ-loop
-unfolding placeAt
+unfolding bytesBefore
 loop-holds c = (omega arith, (refl, omega arith))
 
 shared-slice-read-index : tie.Need-shared-slice-read-index Inv-loop μ-loop
@@ -56,7 +56,7 @@ returns c =
     let l = c .before in
     let a = l .before .before .before .args in
     let e : l .loop .m ≡ length (a .degrees .now) = omega arith in
-    l .loop .inv .1 .0 ∙ ap (placeAt (a .first) (a .degrees .now)) e
+    l .loop .inv .1 .0 ∙ ap (bytesBefore (a .first) (a .degrees .now)) e
 
 pub used-spec : {M : Type 1} → statement M
 used-spec =

@@ -1,11 +1,14 @@
 -- The margins have as many columns as the symbols, whose costs the run keeps in number.
-use mathlib.Core.Path.{refl}
-use Prim.Native.Nat.{_*_, _≤_}
+use mathlib.Core.Path.{_≡_, ap₂, _∙_}
+use Prim.Native.Nat.{_*_}
 use native.Mathlib.Omega.{arith}
 use borrow.Author.Needs.{needs}
-use lib.ListN.{length}
-use Rattle.trellis.specs.Rules.{powerOf, sizeOf}
-use Rattle.layered.proofs.Runs.{test-room}
+use Rattle.machine.specs.Machine.{margins}
+use Rattle.trellis.specs.Lists.{tab}
+use Rattle.trellis.specs.Check.{decide}
+use Rattle.trellis.specs.Rules.{sizeOf}
+use Rattle.machine.specs.CodeLine.{columnOf}
+use Rattle.layered.proofs.Satisfied.{margins-are}
 use Rattle.layered.proofs.iterate.run_to_margins.Statement.{statement}
 use Rattle.layered.proofs.iterate.run_to_margins.Tie as tie
 
@@ -17,13 +20,10 @@ size-requires c κs = search needs
 
 margins-requires : tie.Need-margins-requires
 margins-requires c κs =
-    let r = c .before .before .before .before .before .before .before .before .before .before .before .before .before in
-    let s = r .before .before .before .before .before .before .before .before .before .before .before .before .before .before .before in
-    let a = s .args in
-    let q = c .before .size .ensures .0 in
-    let t : length (a .symbols .now) * sizeOf (a .first) ≤ length (a .costs .now) =
-    test-room (a .first) (a .g) (a .degrees .now) (a .columns .now) (a .weights .now) (a .costs .now) (a .store .now) _ (s .pre .0 .0 .running) (powerOf (a .first)) refl (a .symbols .now) (s .pre .0 .0 .symbols) .costs in
-    rw (q, s .pre .1) (omega (arith, t, r .run .kept))
+    let at-size = c .before in
+    let at-run = at-size .before .before .before .before .before .before .before .before .before .before .before .before in
+    let start = at-run .before .before .before .before .before .before .before .before .before .before .before .before .before .before .before in
+    let e : at-size .size .result ≡ sizeOf (start .args .numbers .first) = at-size .size .ensures .0 in omega (arith, start .pre .0 .iterate .running .passable .ranged .full, ap₂ (λ a b. a * b) (start .pre .1) e, at-run .run .kept)
 
 same-length : tie.Need-same-length
 same-length c = search needs
@@ -45,10 +45,11 @@ same-length-6 c = search needs
 
 returns : tie.Need-returns
 returns c =
-    let m = c .before .before in
-    let z = m .before .before in
-    let r = m .before .before .before .before .before .before .before .before .before .before .before .before .before .before in
-    (r .run .ensures .0, (r .run .ensures .1, rw (z .size .ensures .0) at (m .margins .ensures)))
+    let at-margins = c .before .before in
+    let at-size = at-margins .before .before in
+    let at-run = at-size .before .before .before .before .before .before .before .before .before .before .before .before in
+    let start = at-run .before .before .before .before .before .before .before .before .before .before .before .before .before .before .before in
+    (at-run .run .ensures .0, (at-run .run .ensures .1, at-margins .margins .ensures ∙ ap₂ (λ q n. tab (λ c. decide (columnOf q (at-run .run .last .1 .1 .1 .1 .1 .0) c) .margin) n) (at-size .size .ensures .0) (start .pre .1) ∙ margins-are (start .args .numbers) (start .args .degrees .now) (start .args .columns .now) (start .args .weights .now) (at-run .run .last .1 .1 .1 .1 .1 .0)))
 
 pub run-to-margins-spec : {M : Type 1} → statement M
 run-to-margins-spec =

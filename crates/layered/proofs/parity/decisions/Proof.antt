@@ -9,7 +9,6 @@ use Rattle.trellis.specs.Lists.{tab}
 use Rattle.trellis.specs.Check.{firstZero}
 use Rattle.machine.specs.CodeLine.{columnOf}
 use Rattle.machine.proofs.Ranges.{column-room}
-use Rattle.layered.specs.inner.Parity.{decisionsOf}
 use Rattle.layered.proofs.Satisfied.{each-turn, each-done}
 use Rattle.layered.proofs.parity.decisions.Statement.{statement}
 use Rattle.layered.proofs.parity.decisions.Tie as tie
@@ -73,7 +72,6 @@ same-length : tie.Need-same-length Inv-loop μ-loop
 same-length c = search needs
 
 returns : tie.Need-returns Inv-loop μ-loop
-unfolding decisionsOf
 returns c =
     let l = c .before in
     let a = l .before .before .before .args in

@@ -1,20 +1,28 @@
 -- No check that is not satisfied, of all.
-use mathlib.Core.Path.{refl}
+use mathlib.Core.Path.{refl, _∙_, sym}
 use native.Mathlib.Omega.{arith}
+use borrow.Author.Needs.{needs}
+use Rattle.codeline.specs.inner.Coding.{codeOf}
+use Rattle.machine.specs.Machine.{symbols}
 use Rattle.layered.proofs.Satisfied.{first-not-all}
+use Rattle.layered.proofs.Runs.{checks-count}
 use Rattle.layered.proofs.parity.holds.Statement.{statement}
 use Rattle.layered.proofs.parity.holds.Tie as tie
 
+index-requires : tie.Need-index-requires
+index-requires c κs = search needs
+
 unsatisfied-requires : tie.Need-unsatisfied-requires
 unsatisfied-requires c κs =
-    let start = c .before .before .before .before in
-    (start .pre, record { edge-is = refl; ordered = omega arith; inside = omega arith })
+    let start = c .before .before .before .before .before in
+    (start .pre, record { edge-is = refl; ordered = omega arith; inside = omega (arith, c .index .ensures .0) })
 
 returns : tie.Need-returns
 returns c =
     let at-unsatisfied = c .before in
-    let start = at-unsatisfied .before .before .before .before .before in
-    first-not-all (start .args .p) (start .args .degrees .now) (start .args .columns .now) (start .args .weights .now) (start .args .symbols .now) (at-unsatisfied .unsatisfied .result) (at-unsatisfied .unsatisfied .ensures)
+    let at-index = at-unsatisfied .before in
+    let start = at-index .before .before .before .before .before in
+    first-not-all (codeOf (start .args .numbers) (start .args .degrees .now) (start .args .columns .now) (start .args .weights .now)) (start .args .symbols .now) (start .args .degrees .now) (at-unsatisfied .unsatisfied .result) (at-index .index .result) (at-index .index .ensures .0 ∙ sym (checks-count (start .args .numbers) (start .args .degrees .now) (start .args .columns .now) (start .args .weights .now) (start .pre .coded))) (at-unsatisfied .unsatisfied .ensures)
 
 pub holds-spec : {M : Type 1} → statement M
-holds-spec = tie.close (tie.spec unsatisfied-requires returns)
+holds-spec = tie.close (tie.spec index-requires unsatisfied-requires returns)

@@ -1,10 +1,17 @@
 -- Each decision is an element (decided-room), so the test may multiply.
-use mathlib.Core.Path.{_≡_, ap, _∙_}
-use Prim.Native.Nat.{_^_}
+use mathlib.Core.Path.{_≡_, ap, ap₂, _∙_}
+use Prim.Native.Nat.{_*_}
+use native.Mathlib.Omega.{arith}
 use borrow.Author.Needs.{needs}
-use lib.ListN.{length}
-use Rattle.layered.specs.inner.Parity.{decisionsOf, allHold}
-use Rattle.layered.proofs.Satisfied.{decided-room}
+use Rattle.codeline.specs.inner.Coding.{codeOf}
+use Rattle.machine.specs.Machine.{symbols}
+use Rattle.trellis.specs.Lists.{tab}
+use Rattle.trellis.specs.Check.{decide}
+use Rattle.trellis.specs.Rules.{powerOf, sizeOf}
+use Rattle.trellis.proofs.Recurrence.{size-64}
+use Rattle.machine.specs.CodeLine.{columnOf}
+use Rattle.layered.specs.inner.Parity.{allHold}
+use Rattle.layered.proofs.Satisfied.{symbols-are, settled-by, decided-room}
 use Rattle.layered.proofs.parity.settled.Statement.{statement}
 use Rattle.layered.proofs.parity.settled.Tie as tie
 
@@ -13,28 +20,26 @@ size-requires c κs = search needs
 
 decisions-requires : tie.Need-decisions-requires
 decisions-requires c κs =
-    let s = c .before .before .before .before .before .before .before in
-    let e : c .before .size .result ≡ 2 ^ s .args .p = c .before .size .ensures .0 in
-    (rw e (s .pre .costs), c .before .size .ensures .1)
+    let at-size = c .before in
+    let start = at-size .before .before .before .before .before .before in
+    let e : at-size .size .result ≡ sizeOf (start .args .numbers .first) = at-size .size .ensures .0 in (omega (arith, start .pre .ranged .full, ap₂ (λ a b. a * b) (start .pre .symbols) e), rw e (size-64 (powerOf (start .args .numbers .first)) (start .pre .coded .good .p-high)))
 
 holds-requires : tie.Need-holds-requires
 holds-requires c κs =
-    let d = c .before .before .before in
-    let q = d .before .before in
-    let s = q .before .before .before .before .before .before in
-    let a = s .args in
-    decided-room (a .p) (q .size .result) (a .degrees .now) (a .columns .now) (a .weights .now) (a .costs .now) (a .symbols .now) _ (s .pre) (q .size .ensures .0) (d .decisions .ensures)
+    let at-decisions = c .before .before .before in
+    let at-size = at-decisions .before .before in
+    let start = at-size .before .before .before .before .before .before in
+    decided-room (start .args .numbers) (start .args .degrees .now) (start .args .columns .now) (start .args .weights .now) (start .args .costs .now) (start .args .symbols .now) _ (start .pre) (at-decisions .decisions .ensures ∙ ap₂ (λ q n. tab (λ c. decide (columnOf q (start .args .costs .now) c) .symbol) n) (at-size .size .ensures .0) (start .pre .symbols) ∙ symbols-are (start .args .numbers) (start .args .degrees .now) (start .args .columns .now) (start .args .weights .now) (start .args .costs .now))
 
 same-length : tie.Need-same-length
 same-length c = search needs
 
 returns : tie.Need-returns
 returns c =
-    let d = c .before .before .before .before in
-    let q = d .before .before in
-    let a = q .before .before .before .before .before .before .args in
-    let o : d .decisions .last .1 .1 .0 ≡ decisionsOf (2 ^ a .p) (a .costs .now) (length (a .symbols .now)) = d .decisions .ensures ∙ ap (λ k. decisionsOf k (a .costs .now) (length (a .symbols .now))) (q .size .ensures .0) in
-    (c .holds .ensures ∙ ap (λ z. allHold (a .p) (a .degrees .now) (a .columns .now) (a .weights .now) z (length (a .degrees .now))) o, o)
+    let at-decisions = c .before .before .before .before in
+    let at-size = at-decisions .before .before in
+    let start = at-size .before .before .before .before .before .before in
+    (c .holds .ensures ∙ ap (allHold (codeOf (start .args .numbers) (start .args .degrees .now) (start .args .columns .now) (start .args .weights .now))) (at-decisions .decisions .ensures ∙ ap₂ (λ q n. tab (λ c. decide (columnOf q (start .args .costs .now) c) .symbol) n) (at-size .size .ensures .0) (start .pre .symbols) ∙ symbols-are (start .args .numbers) (start .args .degrees .now) (start .args .columns .now) (start .args .weights .now) (start .args .costs .now)) ∙ settled-by (start .args .numbers) (start .args .degrees .now) (start .args .columns .now) (start .args .weights .now) (start .args .costs .now), (at-decisions .decisions .ensures ∙ ap₂ (λ q n. tab (λ c. decide (columnOf q (start .args .costs .now) c) .symbol) n) (at-size .size .ensures .0) (start .pre .symbols) ∙ symbols-are (start .args .numbers) (start .args .degrees .now) (start .args .columns .now) (start .args .weights .now) (start .args .costs .now)))
 
 pub settled-spec : {M : Type 1} → statement M
 settled-spec =

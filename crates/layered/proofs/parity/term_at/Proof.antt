@@ -20,12 +20,16 @@ shared-slice-read-times c = search needs
 shared-slice-read-times-2 : tie.Need-shared-slice-read-times-2
 shared-slice-read-times-2 c = search needs
 
+power-requires : tie.Need-power-requires
+power-requires c κs = search needs
+
 times-requires : tie.Need-times-requires
 times-requires c κs =
-    let at-long = c .before .before in
-    let s = c .before .before .before .before .before .before .before in
+    let at-power = c .before .before in
+    let at-long = at-power .before in
+    let s = at-long .before .before .before .before .before in
     let e : at-long .long .result ≡ getD (s .args .columns .now) (s .args .k) 0 = at-long .long .ensures .0 in
-    (s .pre .low, (s .pre .high, (s .pre .weight, rw e (s .pre .symbol))))
+    rw (at-power .power .ensures) (s .pre .low, (s .pre .high, (s .pre .weight, rw e (s .pre .symbol))))
 
 returns : tie.Need-returns
 returns c = cc
@@ -37,6 +41,7 @@ term-at-spec =
     mul-long
     shared-slice-read-long
     long-requires
+    power-requires
     shared-slice-read-times
     shared-slice-read-times-2
     times-requires

@@ -5,24 +5,29 @@ use Prim.Native.Nat.{ℕ, _-_, _≤_, _<_}
 use native.Mathlib.Omega.{arith}
 use borrow.Author.Needs.{needs}
 use lib.ListN.{length}
-use Rattle.machine.specs.inner.Tables.{before, sumFrom}
+use Rattle.machine.specs.CodeLine.{power, check}
+use Rattle.machine.specs.Machine.{paritySum}
+use Rattle.machine.specs.inner.Tables.{before}
+use Rattle.codeline.specs.inner.Coding.{codeOf}
 use Rattle.layered.specs.inner.Parity.{holdsAt}
-use Rattle.machine.proofs.Places.{before-more, edge-within, end-within, sum-more}
-use Rattle.layered.proofs.Satisfied.{edge-room, sum-holds, sum-not, between-more}
+use Rattle.machine.proofs.Places.{before-more}
+use Rattle.layered.proofs.Satisfied.{degree, edge-room, edges-end, sum-more, sum-holds, sum-not, between-more}
 use Rattle.layered.proofs.parity.unsatisfied.Statement.{statement}
 use Rattle.layered.proofs.parity.unsatisfied.Tie as tie
 
 abbrev Inv-loop : tie.InvT-loop
-Inv-loop p to degrees columns weights symbols m at d sum₀ n₀ sum n = (n ≤ d) × (sum ≡ sumFrom p columns weights symbols at n)
+Inv-loop numbers to degrees columns weights symbols m at d sum₀ n₀ sum n =
+    (n ≤ d) × (sum ≡ paritySum (power (codeOf numbers degrees columns weights)) (check (codeOf numbers degrees columns weights) m) symbols n)
 
 abbrev μ-loop : tie.MeasureT-loop
-μ-loop p to degrees columns weights symbols m at d sum₀ n₀ sum n = d - n
+μ-loop numbers to degrees columns weights symbols m at d sum₀ n₀ sum n = d - n
 
 abbrev Inv-checks : tie.InvT-checks
-Inv-checks p to degrees columns weights symbols m₀ at₀ m at = (m₀ ≤ m) × ((m ≤ to) × ((at ≡ before degrees m) × ((j : ℕ) → m₀ ≤ j → j < m → holdsAt p degrees columns weights symbols j ≡ true)))
+Inv-checks numbers to degrees columns weights symbols m₀ at₀ m at =
+    (m₀ ≤ m) × ((m ≤ to) × ((at ≡ before degrees m) × ((j : ℕ) → m₀ ≤ j → j < m → holdsAt (codeOf numbers degrees columns weights) symbols j ≡ true)))
 
 abbrev μ-checks : tie.MeasureT-checks
-μ-checks p to degrees columns weights symbols m₀ at₀ m at = to - m
+μ-checks numbers to degrees columns weights symbols m₀ at₀ m at = to - m
 
 checks-holds : tie.Need-checks-holds Inv-loop μ-loop Inv-checks μ-checks
 checks-holds c =
@@ -33,13 +38,12 @@ shared-slice-read-index : tie.Need-shared-slice-read-index Inv-loop μ-loop Inv-
 shared-slice-read-index c =
     let at-checks = c .before .before in
     let start = at-checks .before .before .before .before .before in
-    (let h : at-checks .checks .m < length (start .args .degrees .now) = omega (arith, start .pre .1 .inside, at-checks .checks .inv) in h)
+    omega (arith, start .pre .1 .inside, at-checks .checks .inv, start .pre .0 .coded .for-degrees)
 
 index-requires : tie.Need-index-requires Inv-loop μ-loop Inv-checks μ-checks
 index-requires c κs = search needs
 
 loop-holds : tie.Need-loop-holds Inv-loop μ-loop Inv-checks μ-checks
-unfolding sumFrom
 loop-holds c = (omega arith, refl)
 
 add-term-at : tie.Need-add-term-at Inv-loop μ-loop Inv-checks μ-checks
@@ -48,7 +52,7 @@ add-term-at c =
     let at-index = at-loop .before in
     let at-checks = at-index .before .before .before in
     let start = at-checks .before .before .before .before .before in
-    let h = (let h : at-checks .checks .m < length (start .args .degrees .now) = omega (arith, start .pre .1 .inside, at-checks .checks .inv) in h) in let e = edge-within (start .args .degrees .now) (at-checks .checks .m) (at-loop .loop .n) (at-checks .checks .at) (at-index .index .result) h (at-checks .checks .inv .1 .1 .0) (at-index .index .ensures .0) (omega arith) in omega (arith, e, start .pre .0 .in-columns)
+    let h = (let h : at-checks .checks .m < start .args .numbers .checks = omega (arith, start .pre .1 .inside, at-checks .checks .inv) in h) in omega (arith, edges-end (start .args .numbers) (start .args .degrees .now) (start .args .columns .now) (start .args .weights .now) (start .args .symbols .now) (start .pre .0) (at-checks .checks .m) (at-loop .loop .n) (at-checks .checks .at) (at-index .index .result) h (at-checks .checks .inv .1 .1 .0) (at-index .index .ensures .0))
 
 term-at-requires : tie.Need-term-at-requires Inv-loop μ-loop Inv-checks μ-checks
 term-at-requires c κs =
@@ -56,7 +60,7 @@ term-at-requires c κs =
     let at-index = at-loop .before in
     let at-checks = at-index .before .before .before in
     let start = at-checks .before .before .before .before .before in
-    let h = (let h : at-checks .checks .m < length (start .args .degrees .now) = omega (arith, start .pre .1 .inside, at-checks .checks .inv) in h) in edge-room (start .args .p) (start .args .degrees .now) (start .args .columns .now) (start .args .weights .now) (start .args .symbols .now) (start .pre .0) (at-checks .checks .m) (at-loop .loop .n) (at-checks .checks .at) (at-index .index .result) h (at-checks .checks .inv .1 .1 .0) (at-index .index .ensures .0) (omega arith)
+    let h = (let h : at-checks .checks .m < start .args .numbers .checks = omega (arith, start .pre .1 .inside, at-checks .checks .inv) in h) in edge-room (start .args .numbers) (start .args .degrees .now) (start .args .columns .now) (start .args .weights .now) (start .args .symbols .now) (start .pre .0) (at-checks .checks .m) (at-loop .loop .n) (at-checks .checks .at) (at-index .index .result) h (at-checks .checks .inv .1 .1 .0) (at-index .index .ensures .0) (omega arith)
 
 add-n : tie.Need-add-n Inv-loop μ-loop Inv-checks μ-checks
 add-n c = omega arith
@@ -67,22 +71,23 @@ loop-less c = omega arith
 loop-again : tie.Need-loop-again Inv-loop μ-loop Inv-checks μ-checks
 loop-again c =
     let at-loop = c .before .before in
-    let at-checks = at-loop .before .before .before .before in
+    let at-index = at-loop .before in
+    let at-checks = at-index .before .before .before in
     let start = at-checks .before .before .before .before .before in
-    (omega arith, sum-more (start .args .p) (start .args .columns .now) (start .args .weights .now) (start .args .symbols .now) (at-checks .checks .at) (at-loop .loop .n) (at-loop .loop .sum) (c .term-at .result) (at-loop .loop .inv .1) (c .term-at .ensures))
+    let h = (let h : at-checks .checks .m < start .args .numbers .checks = omega (arith, start .pre .1 .inside, at-checks .checks .inv) in h) in (omega arith, sum-more (start .args .numbers) (start .args .degrees .now) (start .args .columns .now) (start .args .weights .now) (start .args .symbols .now) (start .pre .0) (at-checks .checks .m) (at-loop .loop .n) (at-checks .checks .at) (at-index .index .result) h (at-checks .checks .inv .1 .1 .0) (at-index .index .ensures .0) (omega arith) (at-loop .loop .sum) (c .term-at .result) (at-loop .loop .inv .1) (c .term-at .ensures))
 
 add-at : tie.Need-add-at Inv-loop μ-loop Inv-checks μ-checks
 add-at c =
     let at-index = c .before .before .before in
     let at-checks = at-index .before .before .before in
     let start = at-checks .before .before .before .before .before in
-    let h = (let h : at-checks .checks .m < length (start .args .degrees .now) = omega (arith, start .pre .1 .inside, at-checks .checks .inv) in h) in omega (arith, end-within (start .args .degrees .now) (at-checks .checks .m) (at-checks .checks .at) (at-index .index .result) h (at-checks .checks .inv .1 .1 .0) (at-index .index .ensures .0), start .pre .0 .in-columns)
+    let h = (let h : at-checks .checks .m < start .args .numbers .checks = omega (arith, start .pre .1 .inside, at-checks .checks .inv) in h) in omega (arith, edges-end (start .args .numbers) (start .args .degrees .now) (start .args .columns .now) (start .args .weights .now) (start .args .symbols .now) (start .pre .0) (at-checks .checks .m) 0 (at-checks .checks .at) (at-index .index .result) h (at-checks .checks .inv .1 .1 .0) (at-index .index .ensures .0))
 
 add-m : tie.Need-add-m Inv-loop μ-loop Inv-checks μ-checks
 add-m c =
     let at-checks = c .before .before .before .before .before .before in
     let start = at-checks .before .before .before .before .before in
-    let h = (let h : at-checks .checks .m < length (start .args .degrees .now) = omega (arith, start .pre .1 .inside, at-checks .checks .inv) in h) in omega (arith, h)
+    let h = (let h : at-checks .checks .m < start .args .numbers .checks = omega (arith, start .pre .1 .inside, at-checks .checks .inv) in h) in omega (arith, h)
 
 checks-less : tie.Need-checks-less Inv-loop μ-loop Inv-checks μ-checks
 checks-less c =
@@ -96,7 +101,7 @@ checks-again c =
     let at-index = at-loop .before in
     let at-checks = at-index .before .before .before in
     let start = at-checks .before .before .before .before .before in
-    (omega (arith, at-checks .checks .inv), (omega (arith, at-checks .checks .inv), (before-more (start .args .degrees .now) (at-checks .checks .m) (at-checks .checks .at) (at-index .index .result) (at-checks .checks .inv .1 .1 .0) (at-index .index .ensures .0), between-more (start .args .p) (start .args .degrees .now) (start .args .columns .now) (start .args .weights .now) (start .args .symbols .now) (start .args .from .check) (at-checks .checks .m) (at-checks .checks .inv .1 .1 .1) (sum-holds (start .args .p) (start .args .degrees .now) (start .args .columns .now) (start .args .weights .now) (start .args .symbols .now) (at-checks .checks .m) (at-checks .checks .at) (at-index .index .result) (at-loop .loop .n) (at-loop .loop .sum) (at-checks .checks .inv .1 .1 .0) (at-index .index .ensures .0) (at-if2 .if2 .taken) (at-loop .loop .inv .1) (c .if3 .left)))))
+    let h = (let h : at-checks .checks .m < start .args .numbers .checks = omega (arith, start .pre .1 .inside, at-checks .checks .inv) in h) in (omega (arith, at-checks .checks .inv), (omega (arith, at-checks .checks .inv), (before-more (start .args .degrees .now) (at-checks .checks .m) (at-checks .checks .at) (at-index .index .result) (at-checks .checks .inv .1 .1 .0) (at-index .index .ensures .0), between-more (codeOf (start .args .numbers) (start .args .degrees .now) (start .args .columns .now) (start .args .weights .now)) (start .args .symbols .now) (start .args .from .check) (at-checks .checks .m) (at-checks .checks .inv .1 .1 .1) (sum-holds (codeOf (start .args .numbers) (start .args .degrees .now) (start .args .columns .now) (start .args .weights .now)) (start .args .symbols .now) (at-checks .checks .m) (at-index .index .result) (at-loop .loop .n) (at-loop .loop .sum) (degree (start .args .numbers) (start .args .degrees .now) (start .args .columns .now) (start .args .weights .now) (start .args .symbols .now) (start .pre .0) (at-checks .checks .m) (at-loop .loop .n) (at-checks .checks .at) (at-index .index .result) h (at-checks .checks .inv .1 .1 .0) (at-index .index .ensures .0)) (at-if2 .if2 .taken) (at-loop .loop .inv .1) (c .if3 .left)))))
 
 returns : tie.Need-returns Inv-loop μ-loop Inv-checks μ-checks
 returns c =
@@ -111,7 +116,7 @@ returns-2 c =
     let at-index = at-loop .before in
     let at-checks = at-index .before .before .before in
     let start = at-checks .before .before .before .before .before in
-    record { edge-is = at-checks .checks .inv .1 .1 .0; low = at-checks .checks .inv .0; high = at-checks .checks .inv .1 .0; before-it = at-checks .checks .inv .1 .1 .1; not-it = λ _. sum-not (start .args .p) (start .args .degrees .now) (start .args .columns .now) (start .args .weights .now) (start .args .symbols .now) (at-checks .checks .m) (at-checks .checks .at) (at-index .index .result) (at-loop .loop .n) (at-loop .loop .sum) (at-checks .checks .inv .1 .1 .0) (at-index .index .ensures .0) (at-if2 .if2 .taken) (at-loop .loop .inv .1) (c .if3 .taken) }
+    let h = (let h : at-checks .checks .m < start .args .numbers .checks = omega (arith, start .pre .1 .inside, at-checks .checks .inv) in h) in record { edge-is = at-checks .checks .inv .1 .1 .0; low = at-checks .checks .inv .0; high = at-checks .checks .inv .1 .0; before-it = at-checks .checks .inv .1 .1 .1; not-it = λ _. sum-not (codeOf (start .args .numbers) (start .args .degrees .now) (start .args .columns .now) (start .args .weights .now)) (start .args .symbols .now) (at-checks .checks .m) (at-index .index .result) (at-loop .loop .n) (at-loop .loop .sum) (degree (start .args .numbers) (start .args .degrees .now) (start .args .columns .now) (start .args .weights .now) (start .args .symbols .now) (start .pre .0) (at-checks .checks .m) (at-loop .loop .n) (at-checks .checks .at) (at-index .index .result) h (at-checks .checks .inv .1 .1 .0) (at-index .index .ensures .0)) (at-if2 .if2 .taken) (at-loop .loop .inv .1) (c .if3 .taken) }
 
 pub unsatisfied-spec : {M : Type 1} → statement M
 unsatisfied-spec =

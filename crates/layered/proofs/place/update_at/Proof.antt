@@ -1,27 +1,13 @@
 -- The check's parts of the tables, of the store and of the lists to work in, and what its update leaves (Places).
 use mathlib.Core.Path.{refl}
-use Prim.Native.Nat.{_*_, _+_, _≤_}
+use Prim.Native.Nat.{_*_}
 use native.Mathlib.Omega.{arith}
 use borrow.Author.Needs.{needs}
-use lib.ListN.{take, length-take, length}
+use lib.ListN.{take, length-take}
 use Rattle.machine.proofs.Places.{before-more}
-use Rattle.layered.proofs.Places.{check-there, next-byte, update-asks, update-done, places-inside}
+use Rattle.layered.proofs.Places.{check-there, next-byte, update-asks, update-done, places-inside, byte-fits}
 use Rattle.layered.proofs.place.update_at.Statement.{statement}
 use Rattle.layered.proofs.place.update_at.Tie as tie
-
--- its parts are inside
-inside : (c : tie.After-index)
-    → let o = c .before .before in
-    let z = o .before in
-    let a = z .before .before .before .before .before .before .before .before .args in
-    let d = c .index .result in
-    (a .here .edge + d ≤ length (a .columns .now)) × ((a .here .edge + d ≤ length (a .weights .now)) × ((a .here .byte + (d + o .groups .result) ≤ length (a .store .now)) × (d * z .size .result ≤ 2048)))
-inside c =
-    let o = c .before .before in
-    let z = o .before in
-    let s = z .before .before .before .before .before .before .before .before in
-    let a = s .args in
-    places-inside (a .first) (a .g) (a .degrees .now) (a .columns .now) (a .weights .now) (a .costs .now) (a .store .now) (a .start) (a .here .check) (s .pre .updatable) (a .here .edge) (a .here .byte) (c .index .result) (z .size .result) (o .groups .result) (s .pre .stands .edge-is) (s .pre .stands .byte-is) (c .index .ensures .0) (z .size .ensures .0) (o .groups .ensures)
 
 size-requires : tie.Need-size-requires
 size-requires c κs = search needs
@@ -32,25 +18,45 @@ groups-requires c κs = search needs
 shared-slice-read-index : tie.Need-shared-slice-read-index
 shared-slice-read-index c =
     let start = c .before .before .before .before .before .before .before .before .before .before in
-    omega (arith, check-there (start .args .first) (start .args .g) (start .args .degrees .now) (start .args .columns .now) (start .args .weights .now) (start .args .costs .now) (start .args .store .now) (start .args .start) (start .args .here .check) (start .pre .updatable))
+    omega (arith, check-there (start .args .numbers) (start .args .degrees .now) (start .args .columns .now) (start .args .weights .now) (start .args .start) (start .args .here .check) (start .args .costs .now) (start .args .store .now) (start .pre .updatable))
 
 index-requires : tie.Need-index-requires
 index-requires c κs = search needs
 
 mul-n : tie.Need-mul-n
-mul-n c = omega (arith, inside c)
+mul-n c =
+    let at-groups = c .before .before in
+    let at-size = at-groups .before in
+    let start = at-size .before .before .before .before .before .before .before .before in
+    omega (arith, places-inside (start .args .numbers) (start .args .degrees .now) (start .args .columns .now) (start .args .weights .now) (start .args .start) (start .args .here .check) (start .args .costs .now) (start .args .store .now) (start .pre .updatable) (start .args .here .edge) (start .args .here .byte) (c .index .result) (at-size .size .result) (at-groups .groups .result) (start .pre .stands .edge-is) (start .pre .stands .byte-is) (c .index .ensures .0) (at-size .size .ensures .0) (at-groups .groups .ensures))
 
 add-e : tie.Need-add-e
-add-e c = omega (arith, inside c)
+add-e c =
+    let at-groups = c .before .before in
+    let at-size = at-groups .before in
+    let start = at-size .before .before .before .before .before .before .before .before in
+    omega (arith, places-inside (start .args .numbers) (start .args .degrees .now) (start .args .columns .now) (start .args .weights .now) (start .args .start) (start .args .here .check) (start .args .costs .now) (start .args .store .now) (start .pre .updatable) (start .args .here .edge) (start .args .here .byte) (c .index .result) (at-size .size .result) (at-groups .groups .result) (start .pre .stands .edge-is) (start .pre .stands .byte-is) (c .index .ensures .0) (at-size .size .ensures .0) (at-groups .groups .ensures))
 
 add-f : tie.Need-add-f
-add-f c = omega (arith, inside c)
+add-f c =
+    let at-groups = c .before .before in
+    let at-size = at-groups .before in
+    let start = at-size .before .before .before .before .before .before .before .before in
+    omega (arith, byte-fits (start .args .numbers) (start .args .degrees .now) (start .args .columns .now) (start .args .weights .now) (start .args .start) (start .args .here .check) (start .args .costs .now) (start .args .store .now) (start .pre .updatable) (start .args .here .edge) (start .args .here .byte) (c .index .result) (at-size .size .result) (at-groups .groups .result) (start .pre .stands .edge-is) (start .pre .stands .byte-is) (c .index .ensures .0) (at-size .size .ensures .0) (at-groups .groups .ensures))
 
 add-f-2 : tie.Need-add-f-2
-add-f-2 c = omega (arith, inside c)
+add-f-2 c =
+    let at-groups = c .before .before in
+    let at-size = at-groups .before in
+    let start = at-size .before .before .before .before .before .before .before .before in
+    omega (arith, byte-fits (start .args .numbers) (start .args .degrees .now) (start .args .columns .now) (start .args .weights .now) (start .args .start) (start .args .here .check) (start .args .costs .now) (start .args .store .now) (start .pre .updatable) (start .args .here .edge) (start .args .here .byte) (c .index .result) (at-size .size .result) (at-groups .groups .result) (start .pre .stands .edge-is) (start .pre .stands .byte-is) (c .index .ensures .0) (at-size .size .ensures .0) (at-groups .groups .ensures))
 
 mul-update : tie.Need-mul-update
-mul-update c = omega (arith, inside c)
+mul-update c =
+    let at-groups = c .before .before in
+    let at-size = at-groups .before in
+    let start = at-size .before .before .before .before .before .before .before .before in
+    omega (arith, places-inside (start .args .numbers) (start .args .degrees .now) (start .args .columns .now) (start .args .weights .now) (start .args .start) (start .args .here .check) (start .args .costs .now) (start .args .store .now) (start .pre .updatable) (start .args .here .edge) (start .args .here .byte) (c .index .result) (at-size .size .result) (at-groups .groups .result) (start .pre .stands .edge-is) (start .pre .stands .byte-is) (c .index .ensures .0) (at-size .size .ensures .0) (at-groups .groups .ensures))
 
 sub-update : tie.Need-sub-update
 sub-update c = search needs
@@ -59,7 +65,11 @@ part-update-start : tie.Need-part-update-start
 part-update-start c = search needs
 
 part-update-end : tie.Need-part-update-end
-part-update-end c = omega (arith, inside c)
+part-update-end c =
+    let at-groups = c .before .before in
+    let at-size = at-groups .before in
+    let start = at-size .before .before .before .before .before .before .before .before in
+    omega (arith, places-inside (start .args .numbers) (start .args .degrees .now) (start .args .columns .now) (start .args .weights .now) (start .args .start) (start .args .here .check) (start .args .costs .now) (start .args .store .now) (start .pre .updatable) (start .args .here .edge) (start .args .here .byte) (c .index .result) (at-size .size .result) (at-groups .groups .result) (start .pre .stands .edge-is) (start .pre .stands .byte-is) (c .index .ensures .0) (at-size .size .ensures .0) (at-groups .groups .ensures))
 
 sub-update-2 : tie.Need-sub-update-2
 sub-update-2 c = search needs
@@ -70,7 +80,10 @@ part-update-start-2 c = search needs
 part-update-end-2 : tie.Need-part-update-end-2
 part-update-end-2 c =
     let at-index = c .before in
-    omega (arith, inside at-index)
+    let at-groups = at-index .before .before in
+    let at-size = at-groups .before in
+    let start = at-size .before .before .before .before .before .before .before .before in
+    omega (arith, places-inside (start .args .numbers) (start .args .degrees .now) (start .args .columns .now) (start .args .weights .now) (start .args .start) (start .args .here .check) (start .args .costs .now) (start .args .store .now) (start .pre .updatable) (start .args .here .edge) (start .args .here .byte) (at-index .index .result) (at-size .size .result) (at-groups .groups .result) (start .pre .stands .edge-is) (start .pre .stands .byte-is) (at-index .index .ensures .0) (at-size .size .ensures .0) (at-groups .groups .ensures))
 
 sub-update-3 : tie.Need-sub-update-3
 sub-update-3 c = search needs
@@ -81,31 +94,42 @@ part-update-start-3 c = search needs
 part-update-end-3 : tie.Need-part-update-end-3
 part-update-end-3 c =
     let at-index = c .before .before .before in
-    omega (arith, inside at-index)
+    let at-groups = at-index .before .before in
+    let at-size = at-groups .before in
+    let start = at-size .before .before .before .before .before .before .before .before in
+    omega (arith, places-inside (start .args .numbers) (start .args .degrees .now) (start .args .columns .now) (start .args .weights .now) (start .args .start) (start .args .here .check) (start .args .costs .now) (start .args .store .now) (start .pre .updatable) (start .args .here .edge) (start .args .here .byte) (at-index .index .result) (at-size .size .result) (at-groups .groups .result) (start .pre .stands .edge-is) (start .pre .stands .byte-is) (at-index .index .ensures .0) (at-size .size .ensures .0) (at-groups .groups .ensures))
 
 slice-relend-prefix-update : tie.Need-slice-relend-prefix-update
 slice-relend-prefix-update c =
     let at-index = c .before .before .before .before in
-    let start = at-index .before .before .before .before .before .before .before .before .before .before .before in
-    omega (arith, inside at-index, start .pre .arrived)
+    let at-groups = at-index .before .before in
+    let at-size = at-groups .before in
+    let start = at-size .before .before .before .before .before .before .before .before in
+    omega (arith, places-inside (start .args .numbers) (start .args .degrees .now) (start .args .columns .now) (start .args .weights .now) (start .args .start) (start .args .here .check) (start .args .costs .now) (start .args .store .now) (start .pre .updatable) (start .args .here .edge) (start .args .here .byte) (at-index .index .result) (at-size .size .result) (at-groups .groups .result) (start .pre .stands .edge-is) (start .pre .stands .byte-is) (at-index .index .ensures .0) (at-size .size .ensures .0) (at-groups .groups .ensures), start .pre .arrived)
 
 slice-aggregate-update : tie.Need-slice-aggregate-update
 slice-aggregate-update c =
     let at-index = c .before .before .before .before .before in
-    let start = at-index .before .before .before .before .before .before .before .before .before .before .before in
-    simp length-take (omega (arith, inside at-index, start .pre .arrived))
+    let at-groups = at-index .before .before in
+    let at-size = at-groups .before in
+    let start = at-size .before .before .before .before .before .before .before .before in
+    simp length-take (omega (arith, places-inside (start .args .numbers) (start .args .degrees .now) (start .args .columns .now) (start .args .weights .now) (start .args .start) (start .args .here .check) (start .args .costs .now) (start .args .store .now) (start .pre .updatable) (start .args .here .edge) (start .args .here .byte) (at-index .index .result) (at-size .size .result) (at-groups .groups .result) (start .pre .stands .edge-is) (start .pre .stands .byte-is) (at-index .index .ensures .0) (at-size .size .ensures .0) (at-groups .groups .ensures), start .pre .arrived))
 
 slice-relend-prefix-update-2 : tie.Need-slice-relend-prefix-update-2
 slice-relend-prefix-update-2 c =
     let at-index = c .before .before .before .before .before in
-    let start = at-index .before .before .before .before .before .before .before .before .before .before .before in
-    omega (arith, inside at-index, start .pre .sent)
+    let at-groups = at-index .before .before in
+    let at-size = at-groups .before in
+    let start = at-size .before .before .before .before .before .before .before .before in
+    omega (arith, places-inside (start .args .numbers) (start .args .degrees .now) (start .args .columns .now) (start .args .weights .now) (start .args .start) (start .args .here .check) (start .args .costs .now) (start .args .store .now) (start .pre .updatable) (start .args .here .edge) (start .args .here .byte) (at-index .index .result) (at-size .size .result) (at-groups .groups .result) (start .pre .stands .edge-is) (start .pre .stands .byte-is) (at-index .index .ensures .0) (at-size .size .ensures .0) (at-groups .groups .ensures), start .pre .sent)
 
 slice-aggregate-update-2 : tie.Need-slice-aggregate-update-2
 slice-aggregate-update-2 c =
     let at-index = c .before .before .before .before .before .before in
-    let start = at-index .before .before .before .before .before .before .before .before .before .before .before in
-    simp length-take (omega (arith, inside at-index, start .pre .sent))
+    let at-groups = at-index .before .before in
+    let at-size = at-groups .before in
+    let start = at-size .before .before .before .before .before .before .before .before in
+    simp length-take (omega (arith, places-inside (start .args .numbers) (start .args .degrees .now) (start .args .columns .now) (start .args .weights .now) (start .args .start) (start .args .here .check) (start .args .costs .now) (start .args .store .now) (start .pre .updatable) (start .args .here .edge) (start .args .here .byte) (at-index .index .result) (at-size .size .result) (at-groups .groups .result) (start .pre .stands .edge-is) (start .pre .stands .byte-is) (at-index .index .ensures .0) (at-size .size .ensures .0) (at-groups .groups .ensures), start .pre .sent))
 
 update-requires : tie.Need-update-requires
 update-requires c κs =
@@ -113,12 +137,12 @@ update-requires c κs =
     let at-groups = at-index .before .before in
     let at-size = at-groups .before in
     let start = at-size .before .before .before .before .before .before .before .before in
-    update-asks (start .args .first) (start .args .g) (start .args .degrees .now) (start .args .columns .now) (start .args .weights .now) (start .args .costs .now) (start .args .store .now) (start .args .start) (start .args .here .check) (start .pre .updatable) (start .args .here .edge) (start .args .here .byte) (at-index .index .result) (at-size .size .result) (at-groups .groups .result) (start .pre .stands .edge-is) (start .pre .stands .byte-is) (at-index .index .ensures .0) (at-size .size .ensures .0) (at-groups .groups .ensures) (take (at-index .index .result * at-size .size .result) (start .args .arrived .now)) (take (at-index .index .result * at-size .size .result) (start .args .sent .now)) (simp length-take (omega (arith, inside at-index, start .pre .arrived))) (simp length-take (omega (arith, inside at-index, start .pre .sent)))
+    update-asks (start .args .numbers) (start .args .degrees .now) (start .args .columns .now) (start .args .weights .now) (start .args .start) (start .args .here .check) (start .args .costs .now) (start .args .store .now) (start .pre .updatable) (start .args .here .edge) (start .args .here .byte) (at-index .index .result) (at-size .size .result) (at-groups .groups .result) (start .pre .stands .edge-is) (start .pre .stands .byte-is) (at-index .index .ensures .0) (at-size .size .ensures .0) (at-groups .groups .ensures) (take (at-index .index .result * at-size .size .result) (start .args .arrived .now)) (take (at-index .index .result * at-size .size .result) (start .args .sent .now)) (simp length-take (omega (arith, places-inside (start .args .numbers) (start .args .degrees .now) (start .args .columns .now) (start .args .weights .now) (start .args .start) (start .args .here .check) (start .args .costs .now) (start .args .store .now) (start .pre .updatable) (start .args .here .edge) (start .args .here .byte) (at-index .index .result) (at-size .size .result) (at-groups .groups .result) (start .pre .stands .edge-is) (start .pre .stands .byte-is) (at-index .index .ensures .0) (at-size .size .ensures .0) (at-groups .groups .ensures), start .pre .arrived))) (simp length-take (omega (arith, places-inside (start .args .numbers) (start .args .degrees .now) (start .args .columns .now) (start .args .weights .now) (start .args .start) (start .args .here .check) (start .args .costs .now) (start .args .store .now) (start .pre .updatable) (start .args .here .edge) (start .args .here .byte) (at-index .index .result) (at-size .size .result) (at-groups .groups .result) (start .pre .stands .edge-is) (start .pre .stands .byte-is) (at-index .index .ensures .0) (at-size .size .ensures .0) (at-groups .groups .ensures), start .pre .sent)))
 
-add-t23 : tie.Need-add-t23
-add-t23 c =
+add-t22 : tie.Need-add-t22
+add-t22 c =
     let start = c .before .before .before .before .before .before .before .before .before .before .before .before .before .before .before .before .before .before .before .before .before .before .before .before .before .before in
-    omega (arith, check-there (start .args .first) (start .args .g) (start .args .degrees .now) (start .args .columns .now) (start .args .weights .now) (start .args .costs .now) (start .args .store .now) (start .args .start) (start .args .here .check) (start .pre .updatable))
+    omega (arith, check-there (start .args .numbers) (start .args .degrees .now) (start .args .columns .now) (start .args .weights .now) (start .args .start) (start .args .here .check) (start .args .costs .now) (start .args .store .now) (start .pre .updatable))
 
 same-length : tie.Need-same-length
 same-length c = search needs
@@ -139,7 +163,7 @@ returns c =
     let at-groups = at-index .before .before in
     let at-size = at-groups .before in
     let start = at-size .before .before .before .before .before .before .before .before in
-    (update-done (start .args .first) (start .args .g) (start .args .degrees .now) (start .args .columns .now) (start .args .weights .now) (start .args .costs .now) (start .args .store .now) (start .args .start) (start .args .here .check) (start .pre .updatable) (start .args .here .edge) (start .args .here .byte) (at-index .index .result) (at-size .size .result) (at-groups .groups .result) (start .pre .stands .edge-is) (start .pre .stands .byte-is) (at-index .index .ensures .0) (at-size .size .ensures .0) (at-groups .groups .ensures) _ _ (at-update .update .ensures .0) (at-update .update .ensures .1), record { check-is = refl; edge-is = before-more (start .args .degrees .now) (start .args .here .check) (start .args .here .edge) (at-index .index .result) (start .pre .stands .edge-is) (at-index .index .ensures .0); byte-is = next-byte (start .args .first) (start .args .g) (start .args .degrees .now) (start .args .columns .now) (start .args .weights .now) (start .args .costs .now) (start .args .store .now) (start .args .start) (start .args .here .check) (start .pre .updatable) (start .args .here .edge) (start .args .here .byte) (at-index .index .result) (at-size .size .result) (at-groups .groups .result) (start .pre .stands .edge-is) (start .pre .stands .byte-is) (at-index .index .ensures .0) (at-size .size .ensures .0) (at-groups .groups .ensures) })
+    (update-done (start .args .numbers) (start .args .degrees .now) (start .args .columns .now) (start .args .weights .now) (start .args .start) (start .args .here .check) (start .args .costs .now) (start .args .store .now) (start .pre .updatable) (start .args .here .edge) (start .args .here .byte) (at-index .index .result) (at-size .size .result) (at-groups .groups .result) (start .pre .stands .edge-is) (start .pre .stands .byte-is) (at-index .index .ensures .0) (at-size .size .ensures .0) (at-groups .groups .ensures) _ _ (at-update .update .ensures .0) (at-update .update .ensures .1), record { check-is = refl; edge-is = before-more (start .args .degrees .now) (start .args .here .check) (start .args .here .edge) (at-index .index .result) (start .pre .stands .edge-is) (at-index .index .ensures .0); byte-is = next-byte (start .args .numbers) (start .args .degrees .now) (start .args .columns .now) (start .args .weights .now) (start .args .start) (start .args .here .check) (start .args .costs .now) (start .args .store .now) (start .pre .updatable) (start .args .here .edge) (start .args .here .byte) (at-index .index .result) (at-size .size .result) (at-groups .groups .result) (start .pre .stands .edge-is) (start .pre .stands .byte-is) (at-index .index .ensures .0) (at-size .size .ensures .0) (at-groups .groups .ensures) })
 
 pub update-at-spec : {M : Type 1} → statement M
 update-at-spec =
@@ -168,7 +192,7 @@ update-at-spec =
     slice-relend-prefix-update-2
     slice-aggregate-update-2
     update-requires
-    add-t23
+    add-t22
     same-length
     same-length-2
     same-length-3

@@ -8,16 +8,16 @@ use lib.ListN.{length}
 use mathlib.Core.Bool.{true}
 use Rattle.trellis.specs.Lists.{allTo}
 use Rattle.machine.specs.inner.Tables.{before}
-use Rattle.layered.specs.inner.Passes.{placeAt}
+use Rattle.machine.specs.inner.Tables.{bytesBefore}
 use Rattle.layered.specs.inner.Stages.{formedAt}
 use Rattle.machine.proofs.Places.{before-more}
-use Rattle.layered.proofs.Passes.{place-more}
+use Rattle.layered.proofs.Resuming.{place-more}
 use Rattle.layered.proofs.Resuming.{form-places, form-asks, form-more, form-not}
 use Rattle.layered.proofs.resume.store_ok.Statement.{statement}
 use Rattle.layered.proofs.resume.store_ok.Tie as tie
 
 abbrev Inv-loop : tie.InvT-loop
-Inv-loop first degrees weights store groups m₀ at₀ place₀ m at place = (m ≤ length degrees) × ((at ≡ before degrees m) × ((place ≡ placeAt first degrees m) × (allTo (formedAt first degrees store) m ≡ true)))
+Inv-loop first degrees weights store groups m₀ at₀ place₀ m at place = (m ≤ length degrees) × ((at ≡ before degrees m) × ((place ≡ bytesBefore first degrees m) × (allTo (formedAt first degrees store) m ≡ true)))
 
 abbrev μ-loop : tie.MeasureT-loop
 μ-loop first degrees weights store groups m₀ at₀ place₀ m at place = length degrees - m
@@ -39,7 +39,7 @@ groups-requires : tie.Need-groups-requires Inv-loop μ-loop
 groups-requires c κs = search needs
 
 loop-holds : tie.Need-loop-holds Inv-loop μ-loop
-unfolding placeAt
+unfolding bytesBefore
 loop-holds c = (omega arith, (refl, (refl, refl)))
 
 shared-slice-read-index : tie.Need-shared-slice-read-index Inv-loop μ-loop

@@ -1,18 +1,19 @@
 -- What an iteration leaves may be tested.
+use mathlib.Core.Path.{refl}
 use borrow.Author.Needs.{needs}
+use Rattle.machine.specs.Machine.{symbols, margins}
 use Rattle.layered.proofs.Steps.{after-room}
 use Rattle.layered.proofs.stages.iterated.Statement.{statement}
 use Rattle.layered.proofs.stages.iterated.Tie as tie
 
-pass-requires : tie.Need-pass-requires
-pass-requires c κs = search needs
+iterate-requires : tie.Need-iterate-requires
+iterate-requires c κs = search needs
 
 tested-requires : tie.Need-tested-requires
 tested-requires c κs =
-    let s = c .before .before .before .before .before .before .before .before .before .before .before .before .before .before .before .before .before .before .before .before .before .before .before .before .before in
-    let a = s .args in
-    let p = c .before .before .before .before .before .before .before .before .before .before .before .pass in
-    after-room (a .first) (a .g) (a .degrees .now) (a .columns .now) (a .weights .now) (a .costs .now) (a .store .now) (a .symbols .now) (a .margins .now) (a .arrived .now) (a .sent .now) (a .start) (s .pre) _ _ (p .ensures)
+    let at-iterate = c .before .before .before .before .before .before .before .before .before .before .before in
+    let start = at-iterate .before .before .before .before .before .before .before .before .before .before .before .before .before .before in
+    after-room (start .args .numbers) (start .args .degrees .now) (start .args .columns .now) (start .args .weights .now) (start .args .costs .now) (start .args .store .now) (start .args .symbols .now) (start .args .margins .now) (start .args .arrived .now) (start .args .sent .now) (start .args .start) (start .pre) _ _ _ _ (at-iterate .iterate .ensures) refl refl
 
 same-length : tie.Need-same-length
 same-length c = search needs
@@ -34,15 +35,15 @@ same-length-6 c = search needs
 
 returns : tie.Need-returns
 returns c =
-    let p = c .before .before .before .before .before .before .before .before .before .before .before .before .before .before .before .before .pass in
-    let t = c .before .before .before .before .tested in
-    (t .ensures .0, (p .ensures, (t .ensures .1 .0, t .ensures .1 .1)))
+    let at-tested = c .before .before .before .before in
+    let at-iterate = at-tested .before .before .before .before .before .before .before .before .before .before .before .before in
+    (at-tested .tested .ensures .0, (at-iterate .iterate .ensures, (at-tested .tested .ensures .1 .0, at-tested .tested .ensures .1 .1)))
 
 pub iterated-spec : {M : Type 1} → statement M
 iterated-spec =
     tie.close
     (tie.spec
-    pass-requires
+    iterate-requires
     tested-requires
     same-length
     same-length-2

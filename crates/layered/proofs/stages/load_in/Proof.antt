@@ -1,8 +1,10 @@
 -- The reader's answer is the line's refusal, or the numbers and tables of its code; under these the rest is promised.
 use borrow.Author.Needs.{needs}
-use Rattle.codeline.proofs.Answered.{tables-left}
+use Rattle.codeline.specs.inner.Coding.{codeOf}
+use Rattle.machine.specs.Machine.{symbols, margins}
 use Rattle.machine.specs.Decoding.{lending}
-use Rattle.layered.proofs.Steps.{refused-loads, load-room, coded-loads}
+use Rattle.codeline.proofs.Says.{line-says, line-coded}
+use Rattle.layered.proofs.Steps.{refused-loads, said-loads}
 use Rattle.layered.proofs.stages.load_in.Statement.{statement}
 use Rattle.layered.proofs.stages.load_in.Tie as tie
 
@@ -12,29 +14,22 @@ code-tables-requires c κs = search needs
 enum-known-k : tie.Need-enum-known-k
 enum-known-k c = search needs
 
-enum-known-first : tie.Need-enum-known-first
-enum-known-first c = search needs
-
-long-requires : tie.Need-long-requires
-long-requires c κs = search needs
-
-index-requires : tie.Need-index-requires
-index-requires c κs = search needs
+enum-known-numbers : tie.Need-enum-known-numbers
+enum-known-numbers c = search needs
 
 load-under-requires : tie.Need-load-under-requires
 load-under-requires c κs =
-    let t = c .before .before .before .before .before .before .before .before .before .before .before .before .before .before in
-    let a = c .before .before .before .before .before .before .before .before .before .before .before .before .before .before .before .before .before .before .before .before .before .before .before .before .args in
-    let v = c .before .before .before .before .before .before .before .before .before .before .before .before .first in
-    let n = c .before .before .before .before .before .before .before .before .before .before .long in
-    let m = c .before .before .before .before .before .before .before .before .before .index in
-    load-room (a .code .now) (t .code-tables .result) (t .code-tables .ensures .0) (a .frame .now) (lending (a .symbols .now) (a .costs .now) (a .store .now) (a .margins .now)) (v .given .0 .0) (v .given .0 .1 .0) (v .given .0 .1 .1 .0) (v .given .0 .1 .1 .1 .0) (v .given .0 .1 .1 .1 .1 .0) (v .given .1) (n .result) (m .result) (n .ensures .0) (m .ensures .0) (t .code-tables .last .1 .0) (t .code-tables .last .1 .1 .0) (t .code-tables .last .1 .1 .1 .0) (tables-left (a .code .now) _ _ _ (t .code-tables .ensures .1 .0) (t .code-tables .ensures .1 .1 .0) (t .code-tables .ensures .1 .1 .1))
+    let at-numbers = c .before .before .before .before .before .before .before .before .before .before in
+    let at-code-tables = at-numbers .before .before in
+    let start = at-code-tables .before .before .before .before .before .before .before .before .before .before in
+    (line-coded (start .args .code .now) (at-code-tables .code-tables .result) (at-code-tables .code-tables .ensures .0) (at-numbers .numbers .given .0 .0) (at-numbers .numbers .given .1) _ _ _ (at-code-tables .code-tables .last .1 .0) (at-code-tables .code-tables .last .1 .1 .0) (at-code-tables .code-tables .last .1 .1 .1 .0) (at-code-tables .code-tables .ensures .1 .0) (at-code-tables .code-tables .ensures .1 .1 .0) (at-code-tables .code-tables .ensures .1 .1 .1))
 
 returns : tie.Need-returns
 returns c =
-    let t = c .before .before .before in
-    let a = c .before .before .before .before .before .before .before .before .before .before .before .before .before .args in
-    refused-loads (a .code .now) (t .code-tables .result) (t .code-tables .ensures .0) (a .frame .now) (lending (a .symbols .now) (a .costs .now) (a .store .now) (a .margins .now)) _ (c .before .k .given .1)
+    let at-k = c .before in
+    let at-code-tables = at-k .before .before in
+    let start = at-code-tables .before .before .before .before .before .before .before .before .before .before in
+    refused-loads (start .args .code .now) (start .args .frame .now) (lending (start .args .symbols .now) (start .args .costs .now) (start .args .store .now) (start .args .margins .now)) (at-code-tables .code-tables .result) (at-code-tables .code-tables .ensures .0) _ (at-k .k .given .1)
 
 same-length : tie.Need-same-length
 same-length c = search needs
@@ -47,12 +42,11 @@ same-length-3 c = search needs
 
 returns-2 : tie.Need-returns-2
 returns-2 c =
-    let t = c .before .before .before .before .before .before .before .before .before .before .before .before .before .before .before .before .before .before .before .before .before in
-    let a = c .before .before .before .before .before .before .before .before .before .before .before .before .before .before .before .before .before .before .before .before .before .before .before .before .before .before .before .before .before .before .before .args in
-    let v = c .before .before .before .before .before .before .before .before .before .before .before .before .before .before .before .before .before .before .before .first in
-    let n = c .before .before .before .before .before .before .before .before .before .before .before .before .before .before .before .before .before .long in
-    let m = c .before .before .before .before .before .before .before .before .before .before .before .before .before .before .before .before .index in
-    coded-loads (a .code .now) (t .code-tables .result) (t .code-tables .ensures .0) (a .frame .now) (lending (a .symbols .now) (a .costs .now) (a .store .now) (a .margins .now)) (v .given .0 .0) (v .given .0 .1 .0) (v .given .0 .1 .1 .0) (v .given .0 .1 .1 .1 .0) (v .given .0 .1 .1 .1 .1 .0) (v .given .1) (n .result) (m .result) (n .ensures .0) (m .ensures .0) (t .code-tables .last .1 .0) (t .code-tables .last .1 .1 .0) (t .code-tables .last .1 .1 .1 .0) (tables-left (a .code .now) _ _ _ (t .code-tables .ensures .1 .0) (t .code-tables .ensures .1 .1 .0) (t .code-tables .ensures .1 .1 .1)) _ _ (c .before .before .before .before .before .before .load-under .ensures)
+    let at-load-under = c .before .before .before .before .before .before in
+    let at-numbers = at-load-under .before .before .before .before .before .before .before .before .before .before .before in
+    let at-code-tables = at-numbers .before .before in
+    let start = at-code-tables .before .before .before .before .before .before .before .before .before .before in
+    said-loads (start .args .code .now) (start .args .frame .now) (lending (start .args .symbols .now) (start .args .costs .now) (start .args .store .now) (start .args .margins .now)) (codeOf (at-numbers .numbers .given .0 .0) (at-code-tables .code-tables .last .1 .0) (at-code-tables .code-tables .last .1 .1 .0) (at-code-tables .code-tables .last .1 .1 .1 .0)) (line-says (start .args .code .now) (at-code-tables .code-tables .result) (at-code-tables .code-tables .ensures .0) (at-numbers .numbers .given .0 .0) (at-numbers .numbers .given .1) _ _ _ (at-code-tables .code-tables .last .1 .0) (at-code-tables .code-tables .last .1 .1 .0) (at-code-tables .code-tables .last .1 .1 .1 .0) (at-code-tables .code-tables .ensures .1 .0) (at-code-tables .code-tables .ensures .1 .1 .0) (at-code-tables .code-tables .ensures .1 .1 .1)) _ _ (at-load-under .load-under .ensures)
 
 pub load-in-spec : {M : Type 1} → statement M
 load-in-spec =
@@ -60,9 +54,7 @@ load-in-spec =
     (tie.spec
     code-tables-requires
     enum-known-k
-    enum-known-first
-    long-requires
-    index-requires
+    enum-known-numbers
     load-under-requires
     returns
     same-length

@@ -1,10 +1,11 @@
 -- The reader's answer is the line's refusal, or the numbers and tables of its code; under these the rest is promised.
-use borrow.Author.Needs.{needs}
 use native.Mathlib.Omega.{arith}
-use Rattle.codeline.proofs.Answered.{tables-left}
+use borrow.Author.Needs.{needs}
+use Rattle.codeline.specs.inner.Coding.{codeOf}
+use Rattle.machine.specs.Machine.{symbols, margins}
 use Rattle.machine.specs.Decoding.{lending}
-use Rattle.layered.proofs.Decoded.{coded-room}
-use Rattle.layered.proofs.Steps.{refused-steps, coded-steps}
+use Rattle.codeline.proofs.Says.{line-says, line-coded}
+use Rattle.layered.proofs.Steps.{refused-steps, said-steps}
 use Rattle.layered.proofs.stages.step_in.Statement.{statement}
 use Rattle.layered.proofs.stages.step_in.Tie as tie
 
@@ -14,33 +15,22 @@ code-tables-requires c κs = search needs
 enum-known-k : tie.Need-enum-known-k
 enum-known-k c = search needs
 
-enum-known-first : tie.Need-enum-known-first
-enum-known-first c = search needs
-
-long-requires : tie.Need-long-requires
-long-requires c κs = search needs
-
-index-requires : tie.Need-index-requires
-index-requires c κs = search needs
-
-wide-requires : tie.Need-wide-requires
-wide-requires c κs = search needs
+enum-known-numbers : tie.Need-enum-known-numbers
+enum-known-numbers c = search needs
 
 step-under-requires : tie.Need-step-under-requires
 step-under-requires c κs =
-    let t = c .before .before .before .before .before .before .before .before .before .before .before .before .before .before .before .before .before .before in
-    let a = c .before .before .before .before .before .before .before .before .before .before .before .before .before .before .before .before .before .before .before .before .before .before .before .before .before .before .before .before .args in
-    let v = c .before .before .before .before .before .before .before .before .before .before .before .before .before .before .before .before .first in
-    let n = c .before .before .before .before .before .before .before .before .before .before .before .before .before .before .long in
-    let m = c .before .before .before .before .before .before .before .before .before .before .before .before .before .index in
-    let w = c .before .before .before .before .before .before .before .before .before .before .before .before .wide in
-    coded-room (a .code .now) (t .code-tables .result) (t .code-tables .ensures .0) (v .given .0 .0) (v .given .0 .1 .0) (v .given .0 .1 .1 .0) (v .given .0 .1 .1 .1 .0) (v .given .0 .1 .1 .1 .1 .0) (v .given .1) (n .result) (m .result) (w .result) (n .ensures .0) (m .ensures .0) (w .ensures .0) (t .code-tables .last .1 .0) (t .code-tables .last .1 .1 .0) (t .code-tables .last .1 .1 .1 .0) (tables-left (a .code .now) _ _ _ (t .code-tables .ensures .1 .0) (t .code-tables .ensures .1 .1 .0) (t .code-tables .ensures .1 .1 .1)) (a .arrived .now) (a .sent .now) (omega arith) (omega arith)
+    let at-numbers = c .before .before .before .before .before .before .before .before .before .before .before .before .before in
+    let at-code-tables = at-numbers .before .before in
+    let start = at-code-tables .before .before .before .before .before .before .before .before .before .before in
+    record { coded = (line-coded (start .args .code .now) (at-code-tables .code-tables .result) (at-code-tables .code-tables .ensures .0) (at-numbers .numbers .given .0 .0) (at-numbers .numbers .given .1) _ _ _ (at-code-tables .code-tables .last .1 .0) (at-code-tables .code-tables .last .1 .1 .0) (at-code-tables .code-tables .last .1 .1 .1 .0) (at-code-tables .code-tables .ensures .1 .0) (at-code-tables .code-tables .ensures .1 .1 .0) (at-code-tables .code-tables .ensures .1 .1 .1)); arrived = omega arith; sent = omega arith }
 
 returns : tie.Need-returns
 returns c =
-    let t = c .before .before .before in
-    let a = c .before .before .before .before .before .before .before .before .before .before .before .before .before .args in
-    refused-steps (a .code .now) (t .code-tables .result) (t .code-tables .ensures .0) (a .frame .now) (lending (a .symbols .now) (a .costs .now) (a .store .now) (a .margins .now)) _ (c .before .k .given .1) (a .t)
+    let at-k = c .before in
+    let at-code-tables = at-k .before .before in
+    let start = at-code-tables .before .before .before .before .before .before .before .before .before .before in
+    refused-steps (start .args .code .now) (start .args .frame .now) (lending (start .args .symbols .now) (start .args .costs .now) (start .args .store .now) (start .args .margins .now)) (at-code-tables .code-tables .result) (at-code-tables .code-tables .ensures .0) _ (at-k .k .given .1) (start .args .t)
 
 same-length : tie.Need-same-length
 same-length c = search needs
@@ -56,13 +46,11 @@ same-length-4 c = search needs
 
 returns-2 : tie.Need-returns-2
 returns-2 c =
-    let t = c .before .before .before .before .before .before .before .before .before .before .before .before .before .before .before .before .before .before .before .before .before .before .before .before .before .before .before in
-    let a = c .before .before .before .before .before .before .before .before .before .before .before .before .before .before .before .before .before .before .before .before .before .before .before .before .before .before .before .before .before .before .before .before .before .before .before .before .before .args in
-    let v = c .before .before .before .before .before .before .before .before .before .before .before .before .before .before .before .before .before .before .before .before .before .before .before .before .before .first in
-    let n = c .before .before .before .before .before .before .before .before .before .before .before .before .before .before .before .before .before .before .before .before .before .before .before .long in
-    let m = c .before .before .before .before .before .before .before .before .before .before .before .before .before .before .before .before .before .before .before .before .before .before .index in
-    let w = c .before .before .before .before .before .before .before .before .before .before .before .before .before .before .before .before .before .before .before .before .before .wide in
-    coded-steps (a .code .now) (t .code-tables .result) (t .code-tables .ensures .0) (a .frame .now) (lending (a .symbols .now) (a .costs .now) (a .store .now) (a .margins .now)) (v .given .0 .0) (v .given .0 .1 .0) (v .given .0 .1 .1 .0) (v .given .0 .1 .1 .1 .0) (v .given .0 .1 .1 .1 .1 .0) (v .given .1) (n .result) (m .result) (n .ensures .0) (m .ensures .0) (t .code-tables .last .1 .0) (t .code-tables .last .1 .1 .0) (t .code-tables .last .1 .1 .1 .0) (tables-left (a .code .now) _ _ _ (t .code-tables .ensures .1 .0) (t .code-tables .ensures .1 .1 .0) (t .code-tables .ensures .1 .1 .1)) (w .result) (w .ensures .0) (a .t) _ _ (c .before .before .before .before .before .before .before .before .step-under .ensures)
+    let at-step-under = c .before .before .before .before .before .before .before .before in
+    let at-numbers = at-step-under .before .before .before .before .before .before .before .before .before .before .before .before .before .before in
+    let at-code-tables = at-numbers .before .before in
+    let start = at-code-tables .before .before .before .before .before .before .before .before .before .before in
+    said-steps (start .args .code .now) (start .args .frame .now) (lending (start .args .symbols .now) (start .args .costs .now) (start .args .store .now) (start .args .margins .now)) (codeOf (at-numbers .numbers .given .0 .0) (at-code-tables .code-tables .last .1 .0) (at-code-tables .code-tables .last .1 .1 .0) (at-code-tables .code-tables .last .1 .1 .1 .0)) (line-says (start .args .code .now) (at-code-tables .code-tables .result) (at-code-tables .code-tables .ensures .0) (at-numbers .numbers .given .0 .0) (at-numbers .numbers .given .1) _ _ _ (at-code-tables .code-tables .last .1 .0) (at-code-tables .code-tables .last .1 .1 .0) (at-code-tables .code-tables .last .1 .1 .1 .0) (at-code-tables .code-tables .ensures .1 .0) (at-code-tables .code-tables .ensures .1 .1 .0) (at-code-tables .code-tables .ensures .1 .1 .1)) _ _ (start .args .t) (at-step-under .step-under .ensures)
 
 pub step-in-spec : {M : Type 1} → statement M
 step-in-spec =
@@ -70,10 +58,7 @@ step-in-spec =
     (tie.spec
     code-tables-requires
     enum-known-k
-    enum-known-first
-    long-requires
-    index-requires
-    wide-requires
+    enum-known-numbers
     step-under-requires
     returns
     same-length

@@ -1,38 +1,34 @@
 -- Each refusal by its number; after them the iteration on the front of the cost buffer gives all five of the promise's equations.
-use mathlib.Core.Path.{_≡_, sym}
-use Prim.Native.Nat.{_≤_}
+use mathlib.Core.Path.{sym}
 use native.Mathlib.Omega.{arith}
 use borrow.Author.Needs.{needs}
 use lib.ListN.{length, take}
 use lib.Seq.{length-take-le}
-use Rattle.machine.specs.CodeLine.{Code}
-use Rattle.layered.proofs.Decoded.{degree-slice, few, fits}
+use Rattle.machine.specs.Machine.{symbols, margins}
+use Rattle.layered.proofs.Decoded.{degrees-there, few, fits}
 use Rattle.layered.proofs.Steps.{step-refused, resume-room, resume-refused, step-room, step-leaves}
 use Rattle.layered.proofs.stages.step_under.Statement.{statement}
 use Rattle.layered.proofs.stages.step_under.Tie as tie
 
--- after the tests: the arguments, and what no refusal says of the buffers
-abbrev start : tie.After-fault → tie.Start
-start k = k .before .before .before .before .before .before .before .before .before .before .before .before .before .before .before .before
+long-requires : tie.Need-long-requires
+long-requires c κs = search needs
 
-room : (k : tie.After-fault) → k .fault .result ≡ 0
-    → let a = start k .args in (a .n ≤ length (a .symbols .now)) × ((length (a .frame .now) ≤ length (a .costs .now)) × (a .n ≤ length (a .margins .now)))
-room k z =
-    let s = start k in
-    let a = s .args in
-    fits (s .pre .code) (a .first) (a .n) (a .m) (a .g) (a .limit) (a .degrees .now) (a .columns .now) (a .weights .now) (s .pre .coded) (a .frame .now) (a .symbols .now) (a .costs .now) (a .store .now) (a .margins .now) (k .fault .result) (k .fault .ensures) z
+index-requires : tie.Need-index-requires
+index-requires c κs = search needs
 
 slice-aggregate-fault : tie.Need-slice-aggregate-fault
 slice-aggregate-fault c =
-    let s = c .before .before .before .before .before .before .before .before .before .before .before in
-    let a = s .args in
-    degree-slice (s .pre .code) (a .first) (a .n) (a .m) (a .g) (a .limit) (a .degrees .now) (a .columns .now) (a .weights .now) (s .pre .coded)
+    let at-index = c .before in
+    let at-long = at-index .before in
+    let start = at-long .before .before .before .before .before .before .before .before .before .before .before in
+    sym (length-take-le (at-index .index .result) (start .args .degrees .now) (degrees-there (start .args .numbers) (start .args .degrees .now) (start .args .columns .now) (start .args .weights .now) (start .pre .coded) (at-long .long .result) (at-index .index .result) (at-long .long .ensures .0) (at-index .index .ensures .0)))
 
 fault-requires : tie.Need-fault-requires
 fault-requires c κs =
-    let s = c .before .before .before .before .before .before .before .before .before .before .before .before .before .before .before in
-    let a = s .args in
-    few (s .pre .code) (a .first) (a .n) (a .m) (a .g) (a .limit) (a .degrees .now) (a .columns .now) (a .weights .now) (s .pre .coded)
+    let at-index = c .before .before .before .before .before in
+    let at-long = at-index .before in
+    let start = at-long .before .before .before .before .before .before .before .before .before .before .before in
+    few (start .args .numbers) (start .args .degrees .now) (start .args .columns .now) (start .args .weights .now) (start .pre .coded) (at-long .long .result) (at-index .index .result) (at-long .long .ensures .0) (at-index .index .ensures .0)
 
 same-length : tie.Need-same-length
 same-length c = search needs
@@ -48,23 +44,27 @@ same-length-4 c = search needs
 
 returns : tie.Need-returns
 returns c =
-    let k = c .before in
-    let a = start k .args in
-    λ (C : Code) H. step-refused C (a .first) (a .n) (a .m) (a .g) (a .limit) (a .degrees .now) (a .columns .now) (a .weights .now) H (a .frame .now) (a .symbols .now) (a .costs .now) (a .store .now) (a .margins .now) (k .fault .result) (k .fault .ensures) (c .if1 .taken) (a .t)
+    let at-fault = c .before in
+    let at-index = at-fault .before .before .before .before .before .before in
+    let at-long = at-index .before in
+    let start = at-long .before .before .before .before .before .before .before .before .before .before .before in
+    step-refused (start .args .numbers) (start .args .degrees .now) (start .args .columns .now) (start .args .weights .now) (start .pre .coded) (at-long .long .result) (at-index .index .result) (at-long .long .ensures .0) (at-index .index .ensures .0) (start .args .frame .now) (start .args .symbols .now) (start .args .costs .now) (start .args .store .now) (start .args .margins .now) (at-fault .fault .result) (at-fault .fault .ensures) (c .if1 .taken) (start .args .t)
 
 slice-aggregate-fault-2 : tie.Need-slice-aggregate-fault-2
 slice-aggregate-fault-2 c =
-    let s = c .before .before .before .before .before .before .before .before .before .before .before .before .before .before .before .before .before .before in
-    let a = s .args in
-    degree-slice (s .pre .code) (a .first) (a .n) (a .m) (a .g) (a .limit) (a .degrees .now) (a .columns .now) (a .weights .now) (s .pre .coded)
+    let at-index = c .before .before .before .before .before .before .before .before in
+    let at-long = at-index .before in
+    let start = at-long .before .before .before .before .before .before .before .before .before .before .before in
+    sym (length-take-le (at-index .index .result) (start .args .degrees .now) (degrees-there (start .args .numbers) (start .args .degrees .now) (start .args .columns .now) (start .args .weights .now) (start .pre .coded) (at-long .long .result) (at-index .index .result) (at-long .long .ensures .0) (at-index .index .ensures .0)))
 
 fault-requires-2 : tie.Need-fault-requires-2
 fault-requires-2 c κs =
-    let k = c .before .before .before .before in
-    let z = c .before .before .before .if1 .left in
-    let s = start k in
-    let a = s .args in
-    resume-room (s .pre .code) (a .first) (a .n) (a .m) (a .g) (a .limit) (a .degrees .now) (a .columns .now) (a .weights .now) (s .pre .coded) (a .frame .now) (a .symbols .now) (a .costs .now) (a .store .now) (a .margins .now) (k .fault .result) (k .fault .ensures) z
+    let at-if1 = c .before .before .before in
+    let at-fault = at-if1 .before in
+    let at-index = at-fault .before .before .before .before .before .before in
+    let at-long = at-index .before in
+    let start = at-long .before .before .before .before .before .before .before .before .before .before .before in
+    resume-room (start .args .numbers) (start .args .degrees .now) (start .args .columns .now) (start .args .weights .now) (start .pre .coded) (at-long .long .result) (at-index .index .result) (at-long .long .ensures .0) (at-index .index .ensures .0) (start .args .frame .now) (start .args .symbols .now) (start .args .costs .now) (start .args .store .now) (start .args .margins .now) (at-fault .fault .result) (at-fault .fault .ensures) (at-if1 .if1 .left)
 
 same-length-5 : tie.Need-same-length-5
 same-length-5 c = search needs
@@ -80,60 +80,78 @@ same-length-8 c = search needs
 
 returns-2 : tie.Need-returns-2
 returns-2 c =
-    let k = c .before .before .before .before .before .before in
-    let z = c .before .before .before .before .before .if1 .left in
-    let s = start k in
-    let a = s .args in
-    let l = c .before .fault2 in
-    λ (C : Code) H. resume-refused C (a .first) (a .n) (a .m) (a .g) (a .limit) (a .degrees .now) (a .columns .now) (a .weights .now) H (a .frame .now) (a .symbols .now) (a .costs .now) (a .store .now) (a .margins .now) (k .fault .result) (k .fault .ensures) z (a .t) (l .result) (l .ensures) (c .if2 .taken)
+    let at-fault2 = c .before in
+    let at-if1 = at-fault2 .before .before .before .before in
+    let at-fault = at-if1 .before in
+    let at-index = at-fault .before .before .before .before .before .before in
+    let at-long = at-index .before in
+    let start = at-long .before .before .before .before .before .before .before .before .before .before .before in
+    resume-refused (start .args .numbers) (start .args .degrees .now) (start .args .columns .now) (start .args .weights .now) (start .pre .coded) (at-long .long .result) (at-index .index .result) (at-long .long .ensures .0) (at-index .index .ensures .0) (start .args .frame .now) (start .args .symbols .now) (start .args .costs .now) (start .args .store .now) (start .args .margins .now) (at-fault .fault .result) (at-fault .fault .ensures) (at-if1 .if1 .left) (start .args .t) (at-fault2 .fault2 .result) (at-fault2 .fault2 .ensures) (c .if2 .taken)
+
+slice-relend-prefix-iterated : tie.Need-slice-relend-prefix-iterated
+slice-relend-prefix-iterated c =
+    let at-if1 = c .before .before .before .before .before in
+    let at-fault = at-if1 .before in
+    let at-index = at-fault .before .before .before .before .before .before in
+    let at-long = at-index .before in
+    let start = at-long .before .before .before .before .before .before .before .before .before .before .before in
+    omega (arith, (fits (start .args .numbers) (start .args .degrees .now) (start .args .columns .now) (start .args .weights .now) (start .pre .coded) (at-long .long .result) (at-index .index .result) (at-long .long .ensures .0) (at-index .index .ensures .0) (start .args .frame .now) (start .args .symbols .now) (start .args .costs .now) (start .args .store .now) (start .args .margins .now) (at-fault .fault .result) (at-fault .fault .ensures) (at-if1 .if1 .left)))
 
 slice-aggregate-iterated : tie.Need-slice-aggregate-iterated
 slice-aggregate-iterated c =
-    let s = c .before .before .before .before .before .before .before .before .before .before .before .before .before .before .before .before .before .before .before .before .before .before .before in
-    let a = s .args in
-    degree-slice (s .pre .code) (a .first) (a .n) (a .m) (a .g) (a .limit) (a .degrees .now) (a .columns .now) (a .weights .now) (s .pre .coded)
+    let at-if1 = c .before .before .before .before .before .before in
+    let at-fault = at-if1 .before in
+    let at-index = at-fault .before .before .before .before .before .before in
+    let at-long = at-index .before in
+    let start = at-long .before .before .before .before .before .before .before .before .before .before .before in
+    sym (length-take-le (at-long .long .result) (start .args .symbols .now) (omega (arith, (fits (start .args .numbers) (start .args .degrees .now) (start .args .columns .now) (start .args .weights .now) (start .pre .coded) (at-long .long .result) (at-index .index .result) (at-long .long .ensures .0) (at-index .index .ensures .0) (start .args .frame .now) (start .args .symbols .now) (start .args .costs .now) (start .args .store .now) (start .args .margins .now) (at-fault .fault .result) (at-fault .fault .ensures) (at-if1 .if1 .left)))))
 
-slice-relend-prefix-iterated : tie.Need-slice-relend-prefix-iterated
-slice-relend-prefix-iterated c = omega (arith, room (c .before .before .before .before .before .before .before) (c .before .before .before .before .before .before .if1 .left))
+slice-relend-prefix-iterated-2 : tie.Need-slice-relend-prefix-iterated-2
+slice-relend-prefix-iterated-2 c =
+    let at-if1 = c .before .before .before .before .before .before in
+    let at-fault = at-if1 .before in
+    let at-index = at-fault .before .before .before .before .before .before in
+    let at-long = at-index .before in
+    let start = at-long .before .before .before .before .before .before .before .before .before .before .before in
+    omega (arith, (fits (start .args .numbers) (start .args .degrees .now) (start .args .columns .now) (start .args .weights .now) (start .pre .coded) (at-long .long .result) (at-index .index .result) (at-long .long .ensures .0) (at-index .index .ensures .0) (start .args .frame .now) (start .args .symbols .now) (start .args .costs .now) (start .args .store .now) (start .args .margins .now) (at-fault .fault .result) (at-fault .fault .ensures) (at-if1 .if1 .left)))
 
 slice-aggregate-iterated-2 : tie.Need-slice-aggregate-iterated-2
 slice-aggregate-iterated-2 c =
-    let k = c .before .before .before .before .before .before .before .before in
-    let z = c .before .before .before .before .before .before .before .if1 .left in
-    let s = start k in
-    let a = s .args in
-    sym (length-take-le (a .n) (a .symbols .now) (omega (arith, room k z)))
+    let at-if1 = c .before .before .before .before .before .before .before in
+    let at-fault = at-if1 .before in
+    let at-index = at-fault .before .before .before .before .before .before in
+    let at-long = at-index .before in
+    let start = at-long .before .before .before .before .before .before .before .before .before .before .before in
+    sym (length-take-le (length (start .args .frame .now)) (start .args .costs .now) (omega (arith, (fits (start .args .numbers) (start .args .degrees .now) (start .args .columns .now) (start .args .weights .now) (start .pre .coded) (at-long .long .result) (at-index .index .result) (at-long .long .ensures .0) (at-index .index .ensures .0) (start .args .frame .now) (start .args .symbols .now) (start .args .costs .now) (start .args .store .now) (start .args .margins .now) (at-fault .fault .result) (at-fault .fault .ensures) (at-if1 .if1 .left)))))
 
-slice-relend-prefix-iterated-2 : tie.Need-slice-relend-prefix-iterated-2
-slice-relend-prefix-iterated-2 c = omega (arith, room (c .before .before .before .before .before .before .before .before) (c .before .before .before .before .before .before .before .if1 .left))
+slice-relend-prefix-iterated-3 : tie.Need-slice-relend-prefix-iterated-3
+slice-relend-prefix-iterated-3 c =
+    let at-if1 = c .before .before .before .before .before .before .before .before in
+    let at-fault = at-if1 .before in
+    let at-index = at-fault .before .before .before .before .before .before in
+    let at-long = at-index .before in
+    let start = at-long .before .before .before .before .before .before .before .before .before .before .before in
+    omega (arith, (fits (start .args .numbers) (start .args .degrees .now) (start .args .columns .now) (start .args .weights .now) (start .pre .coded) (at-long .long .result) (at-index .index .result) (at-long .long .ensures .0) (at-index .index .ensures .0) (start .args .frame .now) (start .args .symbols .now) (start .args .costs .now) (start .args .store .now) (start .args .margins .now) (at-fault .fault .result) (at-fault .fault .ensures) (at-if1 .if1 .left)))
 
 slice-aggregate-iterated-3 : tie.Need-slice-aggregate-iterated-3
 slice-aggregate-iterated-3 c =
-    let k = c .before .before .before .before .before .before .before .before .before in
-    let z = c .before .before .before .before .before .before .before .before .if1 .left in
-    let s = start k in
-    let a = s .args in
-    sym (length-take-le (length (a .frame .now)) (a .costs .now) (omega (arith, room k z)))
-
-slice-relend-prefix-iterated-3 : tie.Need-slice-relend-prefix-iterated-3
-slice-relend-prefix-iterated-3 c = omega (arith, room (c .before .before .before .before .before .before .before .before .before .before) (c .before .before .before .before .before .before .before .before .before .if1 .left))
-
-slice-aggregate-iterated-4 : tie.Need-slice-aggregate-iterated-4
-slice-aggregate-iterated-4 c =
-    let k = c .before .before .before .before .before .before .before .before .before .before .before in
-    let z = c .before .before .before .before .before .before .before .before .before .before .if1 .left in
-    let s = start k in
-    let a = s .args in
-    sym (length-take-le (a .n) (a .margins .now) (omega (arith, room k z)))
+    let at-if1 = c .before .before .before .before .before .before .before .before .before in
+    let at-fault = at-if1 .before in
+    let at-index = at-fault .before .before .before .before .before .before in
+    let at-long = at-index .before in
+    let start = at-long .before .before .before .before .before .before .before .before .before .before .before in
+    sym (length-take-le (at-long .long .result) (start .args .margins .now) (omega (arith, (fits (start .args .numbers) (start .args .degrees .now) (start .args .columns .now) (start .args .weights .now) (start .pre .coded) (at-long .long .result) (at-index .index .result) (at-long .long .ensures .0) (at-index .index .ensures .0) (start .args .frame .now) (start .args .symbols .now) (start .args .costs .now) (start .args .store .now) (start .args .margins .now) (at-fault .fault .result) (at-fault .fault .ensures) (at-if1 .if1 .left)))))
 
 iterated-requires : tie.Need-iterated-requires
 iterated-requires c κs =
-    let k = c .before .before .before .before .before .before .before .before .before .before .before .before .before in
-    let z = c .before .before .before .before .before .before .before .before .before .before .before .before .if1 .left in
-    let s = start k in
-    let a = s .args in
-    let l = c .before .before .before .before .before .before .before .before .fault2 in
-    step-room (s .pre .code) (a .first) (a .n) (a .m) (a .g) (a .limit) (a .degrees .now) (a .columns .now) (a .weights .now) (s .pre .coded) (a .frame .now) (a .symbols .now) (a .costs .now) (a .store .now) (a .margins .now) (k .fault .result) (k .fault .ensures) z (a .t) (l .result) (l .ensures) (c .before .before .before .before .before .before .before .if2 .left) (take (a .n) (a .symbols .now)) (take (a .n) (a .margins .now)) (a .arrived .now) (a .sent .now) (length-take-le (a .n) (a .symbols .now) (omega (arith, room k z))) (length-take-le (a .n) (a .margins .now) (omega (arith, room k z))) (s .pre .arrived) (s .pre .sent)
+    let at-if2 = c .before .before .before .before .before .before in
+    let at-fault2 = at-if2 .before in
+    let at-if1 = at-fault2 .before .before .before .before in
+    let at-fault = at-if1 .before in
+    let at-index = at-fault .before .before .before .before .before .before in
+    let at-long = at-index .before in
+    let start = at-long .before .before .before .before .before .before .before .before .before .before .before in
+    step-room (start .args .numbers) (start .args .degrees .now) (start .args .columns .now) (start .args .weights .now) (start .pre .coded) (at-long .long .result) (at-index .index .result) (at-long .long .ensures .0) (at-index .index .ensures .0) (start .args .frame .now) (start .args .symbols .now) (start .args .costs .now) (start .args .store .now) (start .args .margins .now) (at-fault .fault .result) (at-fault .fault .ensures) (at-if1 .if1 .left) (start .args .t) (at-fault2 .fault2 .result) (at-fault2 .fault2 .ensures) (at-if2 .if2 .left) (take (at-long .long .result) (start .args .symbols .now)) (take (at-long .long .result) (start .args .margins .now)) (start .args .arrived .now) (start .args .sent .now) (length-take-le (at-long .long .result) (start .args .symbols .now) (omega (arith, (fits (start .args .numbers) (start .args .degrees .now) (start .args .columns .now) (start .args .weights .now) (start .pre .coded) (at-long .long .result) (at-index .index .result) (at-long .long .ensures .0) (at-index .index .ensures .0) (start .args .frame .now) (start .args .symbols .now) (start .args .costs .now) (start .args .store .now) (start .args .margins .now) (at-fault .fault .result) (at-fault .fault .ensures) (at-if1 .if1 .left))))) (length-take-le (at-long .long .result) (start .args .margins .now) (omega (arith, (fits (start .args .numbers) (start .args .degrees .now) (start .args .columns .now) (start .args .weights .now) (start .pre .coded) (at-long .long .result) (at-index .index .result) (at-long .long .ensures .0) (at-index .index .ensures .0) (start .args .frame .now) (start .args .symbols .now) (start .args .costs .now) (start .args .store .now) (start .args .margins .now) (at-fault .fault .result) (at-fault .fault .ensures) (at-if1 .if1 .left))))) (start .pre .arrived) (start .pre .sent)
 
 wide-requires : tie.Need-wide-requires
 wide-requires c κs = search needs
@@ -164,18 +182,23 @@ same-length-14 c = search needs
 
 returns-3 : tie.Need-returns-3
 returns-3 c =
-    let k = c .before .before .before .before .before .before .before .before .before .before .before .before .before .before .before .before .before .before .before .before .before .before .before .before .before .before .before .before in
-    let z = c .before .before .before .before .before .before .before .before .before .before .before .before .before .before .before .before .before .before .before .before .before .before .before .before .before .before .before .if1 .left in
-    let s = start k in
-    let a = s .args in
-    let l = c .before .before .before .before .before .before .before .before .before .before .before .before .before .before .before .before .before .before .before .before .before .before .before .fault2 in
-    let u = c .before .before .before .before .before .before .before .before .before .before .before .before .before .before .iterated in
-    λ (C : Code) H. step-leaves C (a .first) (a .n) (a .m) (a .g) (a .limit) (a .degrees .now) (a .columns .now) (a .weights .now) H (a .frame .now) (a .symbols .now) (a .costs .now) (a .store .now) (a .margins .now) (k .fault .result) (k .fault .ensures) z (a .t) (l .result) (l .ensures) (c .before .before .before .before .before .before .before .before .before .before .before .before .before .before .before .before .before .before .before .before .before .before .if2 .left) (u .result) _ _ _ _ (take (a .n) (a .symbols .now)) (take (a .n) (a .margins .now)) (length-take-le (a .n) (a .symbols .now) (omega (arith, room k z))) (length-take-le (a .n) (a .margins .now) (omega (arith, room k z))) (u .ensures .0) (u .ensures .1 .0) (u .ensures .1 .1 .0) (u .ensures .1 .1 .1) _ (rw (c .before .wide .ensures .0) at (c .stage-after .ensures))
+    let at-wide = c .before in
+    let at-iterated = at-wide .before .before .before .before .before .before .before .before .before .before .before .before .before in
+    let at-if2 = at-iterated .before .before .before .before .before .before .before in
+    let at-fault2 = at-if2 .before in
+    let at-if1 = at-fault2 .before .before .before .before in
+    let at-fault = at-if1 .before in
+    let at-index = at-fault .before .before .before .before .before .before in
+    let at-long = at-index .before in
+    let start = at-long .before .before .before .before .before .before .before .before .before .before .before in
+    step-leaves (start .args .numbers) (start .args .degrees .now) (start .args .columns .now) (start .args .weights .now) (start .pre .coded) (at-long .long .result) (at-index .index .result) (at-long .long .ensures .0) (at-index .index .ensures .0) (start .args .frame .now) (start .args .symbols .now) (start .args .costs .now) (start .args .store .now) (start .args .margins .now) (at-fault .fault .result) (at-fault .fault .ensures) (at-if1 .if1 .left) (start .args .t) (at-fault2 .fault2 .result) (at-fault2 .fault2 .ensures) (at-if2 .if2 .left) (at-iterated .iterated .result) _ _ _ _ (at-iterated .iterated .ensures .0) (at-iterated .iterated .ensures .1 .0) (at-iterated .iterated .ensures .1 .1 .0) (at-iterated .iterated .ensures .1 .1 .1) _ (rw (at-wide .wide .ensures .0) at (c .stage-after .ensures))
 
 pub step-under-spec : {M : Type 1} → statement M
 step-under-spec =
     tie.close
     (tie.spec
+    long-requires
+    index-requires
     slice-aggregate-fault
     fault-requires
     same-length
@@ -190,13 +213,12 @@ step-under-spec =
     same-length-7
     same-length-8
     returns-2
-    slice-aggregate-iterated
     slice-relend-prefix-iterated
-    slice-aggregate-iterated-2
+    slice-aggregate-iterated
     slice-relend-prefix-iterated-2
-    slice-aggregate-iterated-3
+    slice-aggregate-iterated-2
     slice-relend-prefix-iterated-3
-    slice-aggregate-iterated-4
+    slice-aggregate-iterated-3
     iterated-requires
     wide-requires
     add-stage-after

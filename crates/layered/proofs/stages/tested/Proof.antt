@@ -1,26 +1,30 @@
 -- The margins and the decisions of the same columns.
-use mathlib.Core.Path.{refl}
+use mathlib.Core.Path.{_≡_, ap₂, _∙_}
+use Prim.Native.Nat.{_*_}
+use native.Mathlib.Omega.{arith}
 use borrow.Author.Needs.{needs}
-use lib.ListN.{length}
-use Rattle.layered.proofs.Passes.{test-by, decided-by}
+use Rattle.machine.specs.Machine.{margins}
+use Rattle.trellis.specs.Lists.{tab}
+use Rattle.trellis.specs.Check.{decide}
+use Rattle.trellis.specs.Rules.{sizeOf}
+use Rattle.machine.specs.CodeLine.{columnOf}
+use Rattle.layered.proofs.Satisfied.{margins-are}
 use Rattle.layered.proofs.stages.tested.Statement.{statement}
 use Rattle.layered.proofs.stages.tested.Tie as tie
 
 size-requires : tie.Need-size-requires
 size-requires c κs = search needs
 
-power-requires : tie.Need-power-requires
-power-requires c κs = search needs
-
 margins-requires : tie.Need-margins-requires
 margins-requires c κs =
-    let s = c .before .before .before .before .before .before .before .before .before in
-    rw (c .before .before .size .ensures .0, s .pre .margins) (s .pre .settled .costs)
+    let at-size = c .before in
+    let start = at-size .before .before .before .before .before .before .before in
+    let e : at-size .size .result ≡ sizeOf (start .args .numbers .first) = at-size .size .ensures .0 in omega (arith, start .pre .settled .ranged .full, ap₂ (λ a b. a * b) (start .pre .margins) e)
 
 settled-requires : tie.Need-settled-requires
 settled-requires c κs =
-    let s = c .before .before .before .before .before .before .before .before .before .before .before .before .before in
-    rw (c .before .before .before .before .before .power .ensures) (s .pre .settled)
+    let start = c .before .before .before .before .before .before .before .before .before .before .before .before in
+    start .pre .settled
 
 same-length : tie.Need-same-length
 same-length c = search needs
@@ -30,22 +34,13 @@ same-length-2 c = search needs
 
 returns : tie.Need-returns
 returns c =
-    let a = c .before .before .before .before .before .before .before .before .before .before .before .before .before .before .before .before .args in
-    let p = c .before .before .before .before .before .before .before .before .power in
-    let t = c .before .before .settled in
-    let e = rw (c .before .before .before .before .before .before .before .before .before .size .ensures .0) at (c .before .before .before .before .before .before .margins .ensures) in (
-      test-by (a .first) 0 (a .degrees .now) (a .columns .now) (a .weights .now) (a .costs .now) (p .result) (length (a .symbols .now)) (p .ensures) (t .result) (t .ensures .0),
-      (decided-by (a .first) 0 (a .degrees .now) (a .columns .now) (a .weights .now) (a .costs .now) (p .result) (length (a .symbols .now)) (p .ensures) _ (t .ensures .1) (length (a .symbols .now)) refl, e),
-    )
+    let at-settled = c .before .before in
+    let at-margins = at-settled .before .before .before .before in
+    let at-size = at-margins .before .before in
+    let start = at-size .before .before .before .before .before .before .before in
+    (at-settled .settled .ensures .0, (at-settled .settled .ensures .1, at-margins .margins .ensures ∙ ap₂ (λ q n. tab (λ c. decide (columnOf q (start .args .costs .now) c) .margin) n) (at-size .size .ensures .0) (start .pre .margins) ∙ margins-are (start .args .numbers) (start .args .degrees .now) (start .args .columns .now) (start .args .weights .now) (start .args .costs .now)))
 
 pub tested-spec : {M : Type 1} → statement M
 tested-spec =
     tie.close
-    (tie.spec
-    size-requires
-    power-requires
-    margins-requires
-    settled-requires
-    same-length
-    same-length-2
-    returns)
+    (tie.spec size-requires margins-requires settled-requires same-length same-length-2 returns)

@@ -1,41 +1,37 @@
 -- Each refusal by its number; after them the run starts on the copied frame, and its equations give all five of the promise's.
-use mathlib.Core.Path.{_≡_, refl, sym, _∙_}
-use Prim.Native.Nat.{_≤_}
+use mathlib.Core.Path.{refl, _∙_, sym}
 use native.Mathlib.Omega.{arith}
 use borrow.Author.Needs.{needs}
 use lib.ListN.{length, take, length-take}
 use lib.Seq.{length-take-le}
-use Rattle.machine.specs.CodeLine.{Code}
+use Rattle.machine.specs.Machine.{symbols, margins}
 use Rattle.machine.specs.Decoding.{lending}
 use Rattle.machine.specs.Early.{earlyUnder}
 use Rattle.layered.proofs.Columns.{front-room}
-use Rattle.layered.proofs.Decoded.{degree-slice, few, refused-leaves, fits, copied-room}
+use Rattle.layered.proofs.Decoded.{degrees-there, few, fits, refused-leaves, copied-room}
 use Rattle.layered.proofs.EarlyDecoded.{stop-copied}
 use Rattle.layered.proofs.stopping.under_code.Statement.{statement}
 use Rattle.layered.proofs.stopping.under_code.Tie as tie
 
--- after the tests: the arguments, and what no refusal says of the buffers
-abbrev start : tie.After-fault → tie.Start
-start k = k .before .before .before .before .before .before .before .before .before .before .before .before .before .before .before .before
+long-requires : tie.Need-long-requires
+long-requires c κs = search needs
 
-room : (k : tie.After-fault) → k .fault .result ≡ 0
-    → let a = start k .args in (a .n ≤ length (a .symbols .now)) × ((length (a .frame .now) ≤ length (a .costs .now)) × (a .n ≤ length (a .margins .now)))
-room k z =
-    let s = start k in
-    let a = s .args in
-    fits (s .pre .code) (a .first) (a .n) (a .m) (a .g) (a .limit) (a .degrees .now) (a .columns .now) (a .weights .now) (s .pre .coded) (a .frame .now) (a .symbols .now) (a .costs .now) (a .store .now) (a .margins .now) (k .fault .result) (k .fault .ensures) z
+index-requires : tie.Need-index-requires
+index-requires c κs = search needs
 
 slice-aggregate-fault : tie.Need-slice-aggregate-fault
 slice-aggregate-fault c =
-    let s = c .before .before .before .before .before .before .before .before .before .before .before in
-    let a = s .args in
-    degree-slice (s .pre .code) (a .first) (a .n) (a .m) (a .g) (a .limit) (a .degrees .now) (a .columns .now) (a .weights .now) (s .pre .coded)
+    let at-index = c .before in
+    let at-long = at-index .before in
+    let start = at-long .before .before .before .before .before .before .before .before .before .before .before in
+    sym (length-take-le (at-index .index .result) (start .args .degrees .now) (degrees-there (start .args .numbers) (start .args .degrees .now) (start .args .columns .now) (start .args .weights .now) (start .pre .coded) (at-long .long .result) (at-index .index .result) (at-long .long .ensures .0) (at-index .index .ensures .0)))
 
 fault-requires : tie.Need-fault-requires
 fault-requires c κs =
-    let s = c .before .before .before .before .before .before .before .before .before .before .before .before .before .before .before in
-    let a = s .args in
-    few (s .pre .code) (a .first) (a .n) (a .m) (a .g) (a .limit) (a .degrees .now) (a .columns .now) (a .weights .now) (s .pre .coded)
+    let at-index = c .before .before .before .before .before in
+    let at-long = at-index .before in
+    let start = at-long .before .before .before .before .before .before .before .before .before .before .before in
+    few (start .args .numbers) (start .args .degrees .now) (start .args .columns .now) (start .args .weights .now) (start .pre .coded) (at-long .long .result) (at-index .index .result) (at-long .long .ensures .0) (at-index .index .ensures .0)
 
 same-length : tie.Need-same-length
 same-length c = search needs
@@ -51,73 +47,104 @@ same-length-4 c = search needs
 
 returns : tie.Need-returns
 returns c =
-    let k = c .before in
-    let a = start k .args in
-    λ (C : Code) H. refused-leaves C (a .first) (a .n) (a .m) (a .g) (a .limit) (a .degrees .now) (a .columns .now) (a .weights .now) H (a .frame .now) (a .symbols .now) (a .costs .now) (a .store .now) (a .margins .now) (k .fault .result) (k .fault .ensures) (λ r. earlyUnder r (a .frame .now) (lending (a .symbols .now) (a .costs .now) (a .store .now) (a .margins .now))) refl (c .if1 .taken)
+    let at-fault = c .before in
+    let at-index = at-fault .before .before .before .before .before .before in
+    let at-long = at-index .before in
+    let start = at-long .before .before .before .before .before .before .before .before .before .before .before in
+    refused-leaves (start .args .numbers) (start .args .degrees .now) (start .args .columns .now) (start .args .weights .now) (start .pre .coded) (at-long .long .result) (at-index .index .result) (at-long .long .ensures .0) (at-index .index .ensures .0) (start .args .frame .now) (start .args .symbols .now) (start .args .costs .now) (start .args .store .now) (start .args .margins .now) (at-fault .fault .result) (at-fault .fault .ensures) (λ r. earlyUnder r (start .args .frame .now) (lending (start .args .symbols .now) (start .args .costs .now) (start .args .store .now) (start .args .margins .now))) refl (c .if1 .taken)
 
 slice-relend-prefix-copy : tie.Need-slice-relend-prefix-copy
-slice-relend-prefix-copy c = omega (arith, room (c .before) (c .if1 .left))
+slice-relend-prefix-copy c =
+    let at-fault = c .before in
+    let at-index = at-fault .before .before .before .before .before .before in
+    let at-long = at-index .before in
+    let start = at-long .before .before .before .before .before .before .before .before .before .before .before in
+    omega (arith, (fits (start .args .numbers) (start .args .degrees .now) (start .args .columns .now) (start .args .weights .now) (start .pre .coded) (at-long .long .result) (at-index .index .result) (at-long .long .ensures .0) (at-index .index .ensures .0) (start .args .frame .now) (start .args .symbols .now) (start .args .costs .now) (start .args .store .now) (start .args .margins .now) (at-fault .fault .result) (at-fault .fault .ensures) (c .if1 .left)))
 
 slice-aggregate-copy : tie.Need-slice-aggregate-copy
-slice-aggregate-copy c = simp length-take (omega (arith, room (c .before .before) (c .before .if1 .left)))
+slice-aggregate-copy c =
+    let at-if1 = c .before in
+    let at-fault = at-if1 .before in
+    let at-index = at-fault .before .before .before .before .before .before in
+    let at-long = at-index .before in
+    let start = at-long .before .before .before .before .before .before .before .before .before .before .before in
+    simp length-take (omega (arith, (fits (start .args .numbers) (start .args .degrees .now) (start .args .columns .now) (start .args .weights .now) (start .pre .coded) (at-long .long .result) (at-index .index .result) (at-long .long .ensures .0) (at-index .index .ensures .0) (start .args .frame .now) (start .args .symbols .now) (start .args .costs .now) (start .args .store .now) (start .args .margins .now) (at-fault .fault .result) (at-fault .fault .ensures) (at-if1 .if1 .left))))
 
 copy-requires : tie.Need-copy-requires
 copy-requires c κs =
-    let a = start (c .before .before) .args in
-    sym (length-take-le (length (a .frame .now)) (a .costs .now) (omega (arith, room (c .before .before) (c .before .if1 .left))))
+    let at-if1 = c .before in
+    let at-fault = at-if1 .before in
+    let at-index = at-fault .before .before .before .before .before .before in
+    let at-long = at-index .before in
+    let start = at-long .before .before .before .before .before .before .before .before .before .before .before in
+    sym (length-take-le (length (start .args .frame .now)) (start .args .costs .now) (omega (arith, (fits (start .args .numbers) (start .args .degrees .now) (start .args .columns .now) (start .args .weights .now) (start .pre .coded) (at-long .long .result) (at-index .index .result) (at-long .long .ensures .0) (at-index .index .ensures .0) (start .args .frame .now) (start .args .symbols .now) (start .args .costs .now) (start .args .store .now) (start .args .margins .now) (at-fault .fault .result) (at-fault .fault .ensures) (at-if1 .if1 .left)))))
+
+slice-relend-prefix-run-to-margins : tie.Need-slice-relend-prefix-run-to-margins
+slice-relend-prefix-run-to-margins c =
+    let at-if1 = c .before .before .before .before in
+    let at-fault = at-if1 .before in
+    let at-index = at-fault .before .before .before .before .before .before in
+    let at-long = at-index .before in
+    let start = at-long .before .before .before .before .before .before .before .before .before .before .before in
+    omega (arith, (fits (start .args .numbers) (start .args .degrees .now) (start .args .columns .now) (start .args .weights .now) (start .pre .coded) (at-long .long .result) (at-index .index .result) (at-long .long .ensures .0) (at-index .index .ensures .0) (start .args .frame .now) (start .args .symbols .now) (start .args .costs .now) (start .args .store .now) (start .args .margins .now) (at-fault .fault .result) (at-fault .fault .ensures) (at-if1 .if1 .left)))
 
 slice-aggregate-run-to-margins : tie.Need-slice-aggregate-run-to-margins
 slice-aggregate-run-to-margins c =
-    let s = start (c .before .before .before .before .before .before) in
-    let a = s .args in
-    degree-slice (s .pre .code) (a .first) (a .n) (a .m) (a .g) (a .limit) (a .degrees .now) (a .columns .now) (a .weights .now) (s .pre .coded)
-
-slice-relend-prefix-run-to-margins : tie.Need-slice-relend-prefix-run-to-margins
-slice-relend-prefix-run-to-margins c = omega (arith, room (c .before .before .before .before .before .before) (c .before .before .before .before .before .if1 .left))
-
-slice-aggregate-run-to-margins-2 : tie.Need-slice-aggregate-run-to-margins-2
-slice-aggregate-run-to-margins-2 c =
-    let k = c .before .before .before .before .before .before .before in
-    let a = start k .args in
-    sym (length-take-le (a .n) (a .symbols .now) (omega (arith, room k (c .before .before .before .before .before .before .if1 .left))))
+    let at-if1 = c .before .before .before .before .before in
+    let at-fault = at-if1 .before in
+    let at-index = at-fault .before .before .before .before .before .before in
+    let at-long = at-index .before in
+    let start = at-long .before .before .before .before .before .before .before .before .before .before .before in
+    sym (length-take-le (at-long .long .result) (start .args .symbols .now) (omega (arith, (fits (start .args .numbers) (start .args .degrees .now) (start .args .columns .now) (start .args .weights .now) (start .pre .coded) (at-long .long .result) (at-index .index .result) (at-long .long .ensures .0) (at-index .index .ensures .0) (start .args .frame .now) (start .args .symbols .now) (start .args .costs .now) (start .args .store .now) (start .args .margins .now) (at-fault .fault .result) (at-fault .fault .ensures) (at-if1 .if1 .left)))))
 
 slice-relend-prefix-run-to-margins-2 : tie.Need-slice-relend-prefix-run-to-margins-2
 slice-relend-prefix-run-to-margins-2 c =
-    let o = c .before .before .before .before in
-    let k = o .before .before .before in
-    let a = start k .args in
-    front-room (a .costs .now) (o .copy .last .1 .0) (length (a .frame .now)) (omega (arith, room k (o .before .before .if1 .left))) (o .copy .kept .1 .0)
+    let at-copy = c .before .before .before in
+    let at-if1 = at-copy .before .before in
+    let at-fault = at-if1 .before in
+    let at-index = at-fault .before .before .before .before .before .before in
+    let at-long = at-index .before in
+    let start = at-long .before .before .before .before .before .before .before .before .before .before .before in
+    (front-room (start .args .costs .now) (at-copy .copy .last .1 .0) (length (start .args .frame .now)) (omega (arith, (fits (start .args .numbers) (start .args .degrees .now) (start .args .columns .now) (start .args .weights .now) (start .pre .coded) (at-long .long .result) (at-index .index .result) (at-long .long .ensures .0) (at-index .index .ensures .0) (start .args .frame .now) (start .args .symbols .now) (start .args .costs .now) (start .args .store .now) (start .args .margins .now) (at-fault .fault .result) (at-fault .fault .ensures) (at-if1 .if1 .left)))) (at-copy .copy .kept .1 .0))
+
+slice-aggregate-run-to-margins-2 : tie.Need-slice-aggregate-run-to-margins-2
+slice-aggregate-run-to-margins-2 c =
+    let at-copy = c .before .before .before .before in
+    let at-if1 = at-copy .before .before in
+    let at-fault = at-if1 .before in
+    let at-index = at-fault .before .before .before .before .before .before in
+    let at-long = at-index .before in
+    let start = at-long .before .before .before .before .before .before .before .before .before .before .before in
+    sym (length-take-le (length (start .args .frame .now)) _ (front-room (start .args .costs .now) (at-copy .copy .last .1 .0) (length (start .args .frame .now)) (omega (arith, (fits (start .args .numbers) (start .args .degrees .now) (start .args .columns .now) (start .args .weights .now) (start .pre .coded) (at-long .long .result) (at-index .index .result) (at-long .long .ensures .0) (at-index .index .ensures .0) (start .args .frame .now) (start .args .symbols .now) (start .args .costs .now) (start .args .store .now) (start .args .margins .now) (at-fault .fault .result) (at-fault .fault .ensures) (at-if1 .if1 .left)))) (at-copy .copy .kept .1 .0)))
+
+slice-relend-prefix-run-to-margins-3 : tie.Need-slice-relend-prefix-run-to-margins-3
+slice-relend-prefix-run-to-margins-3 c =
+    let at-if1 = c .before .before .before .before .before .before .before in
+    let at-fault = at-if1 .before in
+    let at-index = at-fault .before .before .before .before .before .before in
+    let at-long = at-index .before in
+    let start = at-long .before .before .before .before .before .before .before .before .before .before .before in
+    omega (arith, (fits (start .args .numbers) (start .args .degrees .now) (start .args .columns .now) (start .args .weights .now) (start .pre .coded) (at-long .long .result) (at-index .index .result) (at-long .long .ensures .0) (at-index .index .ensures .0) (start .args .frame .now) (start .args .symbols .now) (start .args .costs .now) (start .args .store .now) (start .args .margins .now) (at-fault .fault .result) (at-fault .fault .ensures) (at-if1 .if1 .left)))
 
 slice-aggregate-run-to-margins-3 : tie.Need-slice-aggregate-run-to-margins-3
 slice-aggregate-run-to-margins-3 c =
-    let o = c .before .before .before .before .before in
-    let k = o .before .before .before in
-    let a = start k .args in
-    sym (length-take-le (length (a .frame .now)) _ (front-room (a .costs .now) (o .copy .last .1 .0) (length (a .frame .now)) (omega (arith, room k (o .before .before .if1 .left))) (o .copy .kept .1 .0)))
-
-slice-relend-prefix-run-to-margins-3 : tie.Need-slice-relend-prefix-run-to-margins-3
-slice-relend-prefix-run-to-margins-3 c = omega (arith, room (c .before .before .before .before .before .before .before .before .before) (c .before .before .before .before .before .before .before .before .if1 .left))
-
-slice-aggregate-run-to-margins-4 : tie.Need-slice-aggregate-run-to-margins-4
-slice-aggregate-run-to-margins-4 c =
-    let k = c .before .before .before .before .before .before .before .before .before .before in
-    let a = start k .args in
-    sym (length-take-le (a .n) (a .margins .now) (omega (arith, room k (c .before .before .before .before .before .before .before .before .before .if1 .left))))
+    let at-if1 = c .before .before .before .before .before .before .before .before in
+    let at-fault = at-if1 .before in
+    let at-index = at-fault .before .before .before .before .before .before in
+    let at-long = at-index .before in
+    let start = at-long .before .before .before .before .before .before .before .before .before .before .before in
+    sym (length-take-le (at-long .long .result) (start .args .margins .now) (omega (arith, (fits (start .args .numbers) (start .args .degrees .now) (start .args .columns .now) (start .args .weights .now) (start .pre .coded) (at-long .long .result) (at-index .index .result) (at-long .long .ensures .0) (at-index .index .ensures .0) (start .args .frame .now) (start .args .symbols .now) (start .args .costs .now) (start .args .store .now) (start .args .margins .now) (at-fault .fault .result) (at-fault .fault .ensures) (at-if1 .if1 .left)))))
 
 run-to-margins-requires : tie.Need-run-to-margins-requires
 run-to-margins-requires c κs =
-    let o = c .before .before .before .before .before .before .before .before .before in
-    let k = o .before .before .before in
-    let z = o .before .before .if1 .left in
-    let s = start k in
-    let a = s .args in
-    let y = length-take-le (a .n) (a .symbols .now) (omega (arith, room k z)) in (
-      (
-        copied-room (s .pre .code) (a .first) (a .n) (a .m) (a .g) (a .limit) (a .degrees .now) (a .columns .now) (a .weights .now) (s .pre .coded) (a .frame .now) (a .symbols .now) (a .costs .now) (a .store .now) (a .margins .now) (k .fault .result) (k .fault .ensures) z (o .copy .last .1 .0) (o .copy .ensures) (λ x. omega (arith, k .before .before .before .before .before .before .before .before .before .before .before .before .shared-slice-known4 .given x)) (take (a .n) (a .symbols .now)) y,
-        (s .pre .arrived, s .pre .sent),
-      ),
-      length-take-le (a .n) (a .margins .now) (omega (arith, room k z)) ∙ sym y,
-    )
+    let at-copy = c .before .before .before .before .before .before .before .before in
+    let at-if1 = at-copy .before .before in
+    let at-fault = at-if1 .before in
+    let at-index = at-fault .before .before .before .before .before .before in
+    let at-long = at-index .before in
+    let at-shared-slice-known4 = at-long .before .before .before .before .before .before .before in
+    let start = at-shared-slice-known4 .before .before .before .before in
+    (copied-room (start .args .numbers) (start .args .degrees .now) (start .args .columns .now) (start .args .weights .now) (start .pre .coded) (at-long .long .result) (at-index .index .result) (at-long .long .ensures .0) (at-index .index .ensures .0) (start .args .frame .now) (start .args .symbols .now) (start .args .costs .now) (start .args .store .now) (start .args .margins .now) (at-fault .fault .result) (at-fault .fault .ensures) (at-if1 .if1 .left) (at-copy .copy .last .1 .0) (at-copy .copy .ensures) (λ x. omega (arith, at-shared-slice-known4 .shared-slice-known4 .given x)) (take (at-long .long .result) (start .args .symbols .now)) (start .args .arrived .now) (start .args .sent .now) (length-take-le (at-long .long .result) (start .args .symbols .now) (omega (arith, (fits (start .args .numbers) (start .args .degrees .now) (start .args .columns .now) (start .args .weights .now) (start .pre .coded) (at-long .long .result) (at-index .index .result) (at-long .long .ensures .0) (at-index .index .ensures .0) (start .args .frame .now) (start .args .symbols .now) (start .args .costs .now) (start .args .store .now) (start .args .margins .now) (at-fault .fault .result) (at-fault .fault .ensures) (at-if1 .if1 .left))))) (start .pre .arrived) (start .pre .sent), (length-take-le (at-long .long .result) (start .args .margins .now) (omega (arith, (fits (start .args .numbers) (start .args .degrees .now) (start .args .columns .now) (start .args .weights .now) (start .pre .coded) (at-long .long .result) (at-index .index .result) (at-long .long .ensures .0) (at-index .index .ensures .0) (start .args .frame .now) (start .args .symbols .now) (start .args .costs .now) (start .args .store .now) (start .args .margins .now) (at-fault .fault .result) (at-fault .fault .ensures) (at-if1 .if1 .left))))) ∙ at-long .long .ensures .0)
 
 same-length-5 : tie.Need-same-length-5
 same-length-5 c = search needs
@@ -139,17 +166,21 @@ same-length-10 c = search needs
 
 returns-2 : tie.Need-returns-2
 returns-2 c =
-    let u = c .before .before .before .before .before .before .before .before .before .before .before .before in
-    let o = u .before .before .before .before .before .before .before .before .before .before in
-    let k = o .before .before .before in
-    let z = o .before .before .if1 .left in
-    let a = start k .args in
-    λ (C : Code) H. stop-copied C (a .first) (a .n) (a .m) (a .g) (a .limit) (a .degrees .now) (a .columns .now) (a .weights .now) H (a .frame .now) (a .symbols .now) (a .costs .now) (a .store .now) (a .margins .now) (k .fault .result) (k .fault .ensures) z (o .copy .last .1 .0) (o .copy .ensures) (u .run-to-margins .result) _ _ _ _ (take (a .n) (a .symbols .now)) (take (a .n) (a .margins .now)) (length-take-le (a .n) (a .symbols .now) (omega (arith, room k z))) (length-take-le (a .n) (a .margins .now) (omega (arith, room k z))) (u .run-to-margins .ensures .0) (u .run-to-margins .ensures .1 .0) (u .run-to-margins .ensures .1 .1)
+    let at-run-to-margins = c .before .before .before .before .before .before .before .before .before .before .before .before in
+    let at-copy = at-run-to-margins .before .before .before .before .before .before .before .before .before in
+    let at-if1 = at-copy .before .before in
+    let at-fault = at-if1 .before in
+    let at-index = at-fault .before .before .before .before .before .before in
+    let at-long = at-index .before in
+    let start = at-long .before .before .before .before .before .before .before .before .before .before .before in
+    stop-copied (start .args .numbers) (start .args .degrees .now) (start .args .columns .now) (start .args .weights .now) (start .pre .coded) (at-long .long .result) (at-index .index .result) (at-long .long .ensures .0) (at-index .index .ensures .0) (start .args .frame .now) (start .args .symbols .now) (start .args .costs .now) (start .args .store .now) (start .args .margins .now) (at-fault .fault .result) (at-fault .fault .ensures) (at-if1 .if1 .left) (at-copy .copy .last .1 .0) (at-copy .copy .ensures) (at-run-to-margins .run-to-margins .result) _ _ _ _ (at-run-to-margins .run-to-margins .ensures .0) (at-run-to-margins .run-to-margins .ensures .1 .0) (at-run-to-margins .run-to-margins .ensures .1 .1)
 
 pub under-code-spec : {M : Type 1} → statement M
 under-code-spec =
     tie.close
     (tie.spec
+    long-requires
+    index-requires
     slice-aggregate-fault
     fault-requires
     same-length
@@ -160,13 +191,12 @@ under-code-spec =
     slice-relend-prefix-copy
     slice-aggregate-copy
     copy-requires
-    slice-aggregate-run-to-margins
     slice-relend-prefix-run-to-margins
-    slice-aggregate-run-to-margins-2
+    slice-aggregate-run-to-margins
     slice-relend-prefix-run-to-margins-2
-    slice-aggregate-run-to-margins-3
+    slice-aggregate-run-to-margins-2
     slice-relend-prefix-run-to-margins-3
-    slice-aggregate-run-to-margins-4
+    slice-aggregate-run-to-margins-3
     run-to-margins-requires
     same-length-5
     same-length-6

@@ -1,5 +1,5 @@
 -- The expansion buffer is cleared in the first iteration; later expand accepts the old record.
-use Rattle.layered.proofs.Turns.{recall-first, recall-later}
+use Rattle.layered.proofs.Updates.{recall-first, recall-later}
 use borrow.Author.Needs.{needs}
 use Rattle.layered.proofs.update.recall.Statement.{statement}
 use Rattle.layered.proofs.update.recall.Tie as tie

@@ -1,5 +1,5 @@
 -- messages accepts, and fills both buffers.
-use Rattle.layered.proofs.Turns.{sent-is}
+use Rattle.layered.proofs.Updates.{sent-is}
 use borrow.Author.Needs.{needs}
 use Rattle.layered.proofs.update.send.Statement.{statement}
 use Rattle.layered.proofs.update.send.Tie as tie

@@ -1,42 +1,45 @@
 -- Each call's equation is one hypothesis of update-is; the lengths that the calls ask for are kept by the calls before them.
 use native.Mathlib.Omega.{arith}
-use Rattle.layered.proofs.Turns.{gather-fits, send-fits, scatter-fits, update-is}
 use borrow.Author.Needs.{needs}
+use Rattle.layered.proofs.Updates.{gather-fits, send-fits, scatter-fits, update-is}
 use Rattle.layered.proofs.update.update.Statement.{statement}
 use Rattle.layered.proofs.update.update.Tie as tie
 
 size-requires : tie.Need-size-requires
 size-requires c κs = search needs
 
+wide-requires : tie.Need-wide-requires
+wide-requires c κs = search needs
+
 recall-requires : tie.Need-recall-requires
 recall-requires c κs = search needs
 
 gather-requires : tie.Need-gather-requires
 gather-requires c κs =
-    let r = c .before .before .before .before .before in
-    let z = r .before .before .before in
-    let s = z .before .before .before .before .before .before .before in
-    let a = s .args in
-    gather-fits (a .first) (a .g) (a .start) (a .columns .now) (a .weights .now) (a .costs .now) (a .bytes .now) (a .arrived .now) (a .sent .now) (s .pre) (z .size .result) (r .recall .last .1 .1 .1 .1 .0) (z .size .ensures .0) (omega (arith, r .recall .kept))
+    let at-recall = c .before .before .before .before .before in
+    let at-wide = at-recall .before .before .before in
+    let at-size = at-wide .before in
+    let start = at-size .before .before .before .before .before .before .before in
+    rw (at-wide .wide .ensures .0) (gather-fits (start .args .numbers .first) (start .args .numbers .scale) (start .args .start) (start .args .columns .now) (start .args .weights .now) (start .args .costs .now) (start .args .bytes .now) (start .args .arrived .now) (start .args .sent .now) (start .pre) (at-size .size .result) (at-recall .recall .last .1 .1 .1 .1 .0) (at-size .size .ensures .0) (omega (arith, at-recall .recall .kept)))
 
 send-requires : tie.Need-send-requires
 send-requires c κs =
-    let g = c .before .before .before .before .before in
-    let r = g .before .before .before .before .before .before in
-    let z = r .before .before .before in
-    let s = z .before .before .before .before .before .before .before in
-    let a = s .args in
-    send-fits (a .first) (a .g) (a .start) (a .columns .now) (a .weights .now) (a .costs .now) (a .bytes .now) (a .arrived .now) (a .sent .now) (s .pre) (z .size .result) (r .recall .last .1 .1 .1 .1 .0) (g .gather .last .1 .1 .1 .1 .1 .0) (r .recall .last .1 .1 .1 .1 .0) (z .size .ensures .0) (r .recall .ensures) (g .gather .ensures) (omega (arith, r .recall .kept))
+    let at-gather = c .before .before .before .before .before in
+    let at-recall = at-gather .before .before .before .before .before .before in
+    let at-wide = at-recall .before .before .before in
+    let at-size = at-wide .before in
+    let start = at-size .before .before .before .before .before .before .before in
+    send-fits (start .args .numbers .first) (start .args .numbers .scale) (start .args .start) (start .args .columns .now) (start .args .weights .now) (start .args .costs .now) (start .args .bytes .now) (start .args .arrived .now) (start .args .sent .now) (start .pre) (at-size .size .result) (at-recall .recall .last .1 .1 .1 .1 .0) (at-gather .gather .last .1 .1 .1 .1 .1 .0) (at-recall .recall .last .1 .1 .1 .1 .0) (at-size .size .ensures .0) (at-recall .recall .ensures) (rw (at-wide .wide .ensures .0) at (at-gather .gather .ensures)) (omega (arith, at-recall .recall .kept))
 
 scatter-requires : tie.Need-scatter-requires
 scatter-requires c κs =
-    let d = c .before .before .before .before .before .before .before in
-    let g = d .before .before .before .before .before .before in
-    let r = g .before .before .before .before .before .before in
-    let z = r .before .before .before in
-    let s = z .before .before .before .before .before .before .before in
-    let a = s .args in
-    scatter-fits (a .first) (a .g) (a .start) (a .columns .now) (a .weights .now) (a .costs .now) (a .bytes .now) (a .arrived .now) (a .sent .now) (s .pre) (z .size .result) (g .gather .last .1 .1 .1 .1 .1 .0) (d .send .last .1 .1 .1 .1 .0) (z .size .ensures .0) (omega (arith, g .gather .kept)) (omega (arith, d .send .kept, r .recall .kept))
+    let at-send = c .before .before .before .before .before .before .before in
+    let at-gather = at-send .before .before .before .before .before .before in
+    let at-recall = at-gather .before .before .before .before .before .before in
+    let at-wide = at-recall .before .before .before in
+    let at-size = at-wide .before in
+    let start = at-size .before .before .before .before .before .before .before in
+    rw (at-wide .wide .ensures .0) (scatter-fits (start .args .numbers .first) (start .args .numbers .scale) (start .args .start) (start .args .columns .now) (start .args .weights .now) (start .args .costs .now) (start .args .bytes .now) (start .args .arrived .now) (start .args .sent .now) (start .pre) (at-size .size .result) (at-gather .gather .last .1 .1 .1 .1 .1 .0) (at-send .send .last .1 .1 .1 .1 .0) (at-size .size .ensures .0) (omega (arith, at-gather .gather .kept)) (omega (arith, at-send .send .kept, at-recall .recall .kept)))
 
 same-length : tie.Need-same-length
 same-length c = search needs
@@ -52,20 +55,21 @@ same-length-4 c = search needs
 
 returns : tie.Need-returns
 returns c =
-    let t = c .before .before in
-    let d = t .before .before .before .before .before .before .before .before in
-    let g = d .before .before .before .before .before .before in
-    let r = g .before .before .before .before .before .before in
-    let z = r .before .before .before in
-    let s = z .before .before .before .before .before .before .before in
-    let a = s .args in
-    update-is (a .first) (a .g) (a .start) (a .columns .now) (a .weights .now) (a .costs .now) (a .bytes .now) (a .arrived .now) (a .sent .now) (s .pre) (z .size .result) (r .recall .last .1 .1 .1 .1 .0) (g .gather .last .1 .1 .1 .1 .1 .0) _ _ _ (z .size .ensures .0) (r .recall .ensures) (g .gather .ensures) (d .send .ensures .0) (d .send .ensures .1) (t .scatter .ensures)
+    let at-scatter = c .before .before in
+    let at-send = at-scatter .before .before .before .before .before .before .before .before in
+    let at-gather = at-send .before .before .before .before .before .before in
+    let at-recall = at-gather .before .before .before .before .before .before in
+    let at-wide = at-recall .before .before .before in
+    let at-size = at-wide .before in
+    let start = at-size .before .before .before .before .before .before .before in
+    update-is (start .args .numbers .first) (start .args .numbers .scale) (start .args .start) (start .args .columns .now) (start .args .weights .now) (start .args .costs .now) (start .args .bytes .now) (start .args .arrived .now) (start .args .sent .now) (start .pre) (at-size .size .result) (at-recall .recall .last .1 .1 .1 .1 .0) (at-gather .gather .last .1 .1 .1 .1 .1 .0) _ _ _ (at-size .size .ensures .0) (at-recall .recall .ensures) (rw (at-wide .wide .ensures .0) at (at-gather .gather .ensures)) (at-send .send .ensures .0) (at-send .send .ensures .1) (rw (at-wide .wide .ensures .0) at (at-scatter .scatter .ensures))
 
 pub update-spec : {M : Type 1} → statement M
 update-spec =
     tie.close
     (tie.spec
     size-requires
+    wide-requires
     recall-requires
     gather-requires
     send-requires

@@ -1,5 +1,6 @@
 // The numbers of a code line before its checks.
 use crate::Header;
+use crate::Numbers;
 use crate::reader;
 ghost use mathlib.Core.Path.{_≡_};
 ghost use Rattle.codeline.specs.Answers.{headerNumbers};
@@ -59,13 +60,13 @@ pub fn head(code: &[u8]) -> Front
         return refused(8);
     }
     Front {
-        header: Header::Read {
+        header: Header::Read(Numbers {
             first,
             columns: n.value as u16,
             checks: m.value as u8,
             scale: g.value as u8,
             limit: i.value as u8,
-        },
+        }),
         next: i.next,
     }
 }

@@ -1,5 +1,5 @@
 -- Expand, gather, messages and scatter make one update: each loop's list is cut into the columns' parts, expand and messages accept what the update
--- gives them, and an expansion is what the machine heard.
+-- gives them, and an expansion is the message of the old record.
 use mathlib.Core.Path.{_≡_, refl, sym, ap, ap₂, _∙_}
 use mathlib.Core.Bool.{Bool, true, false}
 use mathlib.Core.List.{List, _++_, map, append-assoc, append-nil}
@@ -27,7 +27,7 @@ use Rattle.trellis.proofs.Messages.{ready-messages}
 use Rattle.checknode.specs.Answers.{weightOk, weightsOk, zeroOk, messagesCases, messagesLeaves, messagesSent, expandLeaves}
 use Rattle.machine.specs.CodeLine.{edgeAt, columnOf}
 use Rattle.machine.specs.Machine.{scaled, incoming, outgoing, arriving, spread}
-use Rattle.machine.specs.Lent.{weightsOf, heard}
+use Rattle.machine.specs.Lent.{weightsOf, messageLent, arrivingLent, recordLent, costsLent}
 use Rattle.machine.specs.inner.Tables.{edgesOf}
 use Rattle.machine.proofs.Lists.{at-upTo, map-after}
 use Rattle.machine.proofs.Updates.{length-incoming, zero-incoming}
@@ -35,7 +35,7 @@ use Rattle.machine.proofs.Ranges.{column-room}
 use Rattle.machine.proofs.Lent.{arriving-ext, spread-ext}
 use Rattle.machine.proofs.Edges.{length-edges, column-edge, weight-edge, weights-edges}
 use Rattle.layered.specs.inner.Columns.{oneColumn, gathered as gatheredCosts, GatherRoom, scattered, ScatterRoom}
-use Rattle.layered.specs.inner.Turns.{oldCosts, columnsNow, recordNow, costsNow, Weighed, RecallRoom, SendRoom, UpdateRoom}
+use Rattle.layered.specs.inner.Updates.{oldCosts, Weighed, RecallRoom, SendRoom, UpdateRoom}
 use Rattle.layered.proofs.Columns.{scaled-at, length-part, length-gathered}
 
 -- a check's columns as a list over its edges
@@ -91,9 +91,9 @@ module _ (first : ℕ) (cs ws : List ℕ) (same : length cs ≡ length ws) where
       go (suc k) h = rw (column-edge cs ws same k, column-at (sizeOf first) ws Q k (omega arith), go k (omega arith))
 
 -- what an expansion has for column n, scaled
-heard-expansion : (first g : ℕ) (ws r : List ℕ) (n : ℕ) → n < length ws → map (scaled g) (part (expansion (ruleFor first) ws r) (n * sizeOf first) (sizeOf first)) ≡ heard (ruleFor first) g false ws r n
-unfolding heard expansion
-heard-expansion first g ws r n h =
+message-expansion : (first g : ℕ) (ws r : List ℕ) (n : ℕ) → n < length ws → map (scaled g) (part (expansion (ruleFor first) ws r) (n * sizeOf first) (sizeOf first)) ≡ messageLent (ruleFor first) g false ws r n
+unfolding messageLent expansion
+message-expansion first g ws r n h =
     let f : ℕ → List ℕ = λ n. map (expandAt (ruleFor first) ws r n) (upTo (sizeOf first)) in
     let e : part (each f (upTo (length ws))) (n * sizeOf first) (sizeOf first) ≡ f n =
     ap (λ a. part (each f (upTo (length ws))) a (sizeOf first)) (mul-comm n (sizeOf first))
@@ -102,9 +102,9 @@ heard-expansion first g ws r n h =
     rw e (map-after (scaled g) (expandAt (ruleFor first) ws r n) (upTo (sizeOf first)))
 
 -- and zeros
-heard-zeros : (first g : ℕ) (ws r : List ℕ) (n : ℕ) → n < length ws → map (scaled g) (part (tab (λ x. 0) (length ws * sizeOf first)) (n * sizeOf first) (sizeOf first)) ≡ heard (ruleFor first) g true ws r n
-unfolding heard
-heard-zeros first g ws r n h =
+message-zeros : (first g : ℕ) (ws r : List ℕ) (n : ℕ) → n < length ws → map (scaled g) (part (tab (λ x. 0) (length ws * sizeOf first)) (n * sizeOf first) (sizeOf first)) ≡ messageLent (ruleFor first) g true ws r n
+unfolding messageLent
+message-zeros first g ws r n h =
     ext-getD 0 (map (scaled g) (part z (n * q) q)) (map (λ x. 0) (upTo q)) (a ∙ sym (length-map (upTo q) (λ x. 0) ∙ length-count 0 q)) (λ x i.
     let j : x < q = omega (arith, a) in
     let y : getD (part z (n * q) q) x 0 ≡ 0 = rw (getD-take, getD-drop) (getD-tab (λ x. 0) (length ws * q) (n * q + x) (omega (arith, column-room n (length ws) q h))) in
@@ -122,10 +122,10 @@ heard-zeros first g ws r n h =
     a : length (map (scaled g) (part z (n * q) q)) ≡ q
     a = length-map (part z (n * q) q) (scaled g) ∙ length-part z (n * q) q room
 
-pub heard-old : (first g : ℕ) (start : Bool) (ws r : List ℕ) (n : ℕ) → n < length ws → map (scaled g) (part (oldCosts first start ws r) (n * sizeOf first) (sizeOf first)) ≡ heard (ruleFor first) g start ws r n
+pub message-old : (first g : ℕ) (start : Bool) (ws r : List ℕ) (n : ℕ) → n < length ws → map (scaled g) (part (oldCosts first start ws r) (n * sizeOf first) (sizeOf first)) ≡ messageLent (ruleFor first) g start ws r n
 unfolding oldCosts
-heard-old first g true ws r n h = heard-zeros first g ws r n h
-heard-old first g false ws r n h = heard-expansion first g ws r n h
+message-old first g true ws r n h = message-zeros first g ws r n h
+message-old first g false ws r n h = message-expansion first g ws r n h
 
 -- check and expand accept: none of 6, 9, 11
 pub weights-pass : (first : ℕ) (ws : List ℕ) → Weighed first ws → weightsOk (sizeOf first) ws ≡ true
@@ -182,11 +182,11 @@ module _ (first g : ℕ) (start : Bool) (cs ws P r Q S : List ℕ) (U : UpdateRo
   abbrev pub arrived : List ℕ
   arrived = gatheredCosts P cs (oldCosts first start ws r) g (sizeOf first) (length cs) Q
 
-  pub arrived-columns : columnsOf (sizeOf first) ws arrived ≡ columnsNow first g start cs ws r P
+  pub arrived-columns : columnsOf (sizeOf first) ws arrived ≡ arrivingLent (ruleFor first) g start (edgesOf cs ws) r P
   arrived-columns =
       let e : length (edgesOf cs ws) ≡ length cs = length-edges cs ws (U .same) in
       gathered-arriving first cs ws (U .same) P (oldCosts first start ws r) Q g
-      ∙ arriving-ext (sizeOf first) (edgesOf cs ws) _ _ P (λ n h. heard-old first g start ws r n (omega (arith, U .same)) ∙ ap (λ w. heard (ruleFor first) g start w r n) (sym (weights-edges cs ws (U .same))))
+      ∙ arriving-ext (sizeOf first) (edgesOf cs ws) _ _ P (λ n h. message-old first g start ws r n (omega (arith, U .same)) ∙ ap (λ w. messageLent (ruleFor first) g start w r n) (sym (weights-edges cs ws (U .same))))
 
   pub arrived-ready : Ready first ws arrived
   arrived-ready =
@@ -227,22 +227,22 @@ module _ (first g : ℕ) (start : Bool) (cs ws P r Q S : List ℕ) (U : UpdateRo
       rw e record { columns = U .columns; for-q = rw (U .same, k, U .for-costs) (omega arith); for-new = rw (U .same, l, U .recall .full) (omega arith); scale = U .scale; some = pow-pos (powerOf first) }
 
   -- and what they leave
-  costs-is : scattered arrived (expansion (ruleFor first) ws (recordOf (ruleFor first) (columnsOf (sizeOf first) ws arrived))) cs g (sizeOf first) (length cs) P ≡ costsNow first g start cs ws r P
-  unfolding costsNow
+  costs-is : scattered arrived (expansion (ruleFor first) ws (recordOf (ruleFor first) (columnsOf (sizeOf first) ws arrived))) cs g (sizeOf first) (length cs) P ≡ costsLent (ruleFor first) g start (edgesOf cs ws) r P
+  unfolding costsLent
   costs-is =
       let k : length (edgesOf cs ws) ≡ length cs = length-edges cs ws (U .same) in
       let new : List ℕ = recordOf (ruleFor first) (columnsOf (sizeOf first) ws arrived) in
       scattered-spread first cs ws (U .same) P arrived (expansion (ruleFor first) ws new) g
-      ∙ spread-ext (sizeOf first) (edgesOf cs ws) (columnsOf (sizeOf first) ws arrived) _ (heard (ruleFor first) g false (weightsOf (edgesOf cs ws)) new) P (λ n h.
-      heard-expansion first g ws new n (omega (arith, U .same)) ∙ ap (λ w. heard (ruleFor first) g false w new n) (sym (weights-edges cs ws (U .same))))
-      ∙ ap (λ c. spread (sizeOf first) (edgesOf cs ws) c (heard (ruleFor first) g false (weightsOf (edgesOf cs ws)) (recordOf (ruleFor first) c)) P) arrived-columns
+      ∙ spread-ext (sizeOf first) (edgesOf cs ws) (columnsOf (sizeOf first) ws arrived) _ (messageLent (ruleFor first) g false (weightsOf (edgesOf cs ws)) new) P (λ n h.
+      message-expansion first g ws new n (omega (arith, U .same)) ∙ ap (λ w. messageLent (ruleFor first) g false w new n) (sym (weights-edges cs ws (U .same))))
+      ∙ ap (λ c. spread (sizeOf first) (edgesOf cs ws) c (messageLent (ruleFor first) g false (weightsOf (edgesOf cs ws)) (recordOf (ruleFor first) c)) P) arrived-columns
 
   pub update-is : (q : ℕ) (old now bytes new last : List ℕ) → q ≡ sizeOf first → old ≡ oldCosts first start ws r → now ≡ gatheredCosts P cs old g q (length cs) Q
       → bytes ≡ recordOf (ruleFor first) (columnsOf (sizeOf first) ws now)
       → new ≡ allSent (ruleFor first) (columnsOf (sizeOf first) ws now)
       → last ≡ scattered now new cs g q (length cs) P
-      → (last ≡ costsNow first g start cs ws r P) × (bytes ≡ recordNow first g start cs ws r P)
-  unfolding recordNow
+      → (last ≡ costsLent (ruleFor first) g start (edgesOf cs ws) r P) × (bytes ≡ recordLent (ruleFor first) g start (edgesOf cs ws) r P)
+  unfolding recordLent
   update-is q old now bytes new last e o n b s l =
       let i : now ≡ arrived = n ∙ rw (o, e) in
       (l ∙ rw (s, i, e, ← ready-messages first ws arrived arrived-ready) costs-is, b ∙ rw i (ap (recordOf (ruleFor first)) arrived-columns))

@@ -8,16 +8,16 @@ use borrow.Author.Needs.{needs}
 use borrow.Author.Tests.{lt-ltb, le-ltb}
 use lib.ListN.{length, getD}
 use Rattle.machine.specs.CodeLine.{wordAt}
-use Rattle.codeline.specs.inner.Reading.{ByteAt, WordAt, fromFirst, fromColumns, fromChecks, fromScale, fromLimit, headOf}
-use Rattle.codeline.proofs.Parsing.{byte-there, word-there, tested, first-tested, inside, head-read}
-use Rattle.codeline.proofs.numbers.head.Statement.{statement}
-use Rattle.codeline.proofs.numbers.head.Tie as tie
+use Rattle.codeline.specs.inner.Reading.{ByteAt, WordAt, headOf}
+use Rattle.codeline.proofs.Parsing.{byte-there, word-there, tested, first-tested, inside, headFrom, head-read}
+use Rattle.codeline.proofs.head.head.Statement.{statement}
+use Rattle.codeline.proofs.head.head.Tie as tie
 
 -- the line, the first byte, N, M, g and I; and what is left of the line past each test
 abbrev line1 : tie.Else1 → List ℕ
 line1 c = c .before .before .before .args .code .now
 
-past1 : (c : tie.Else1) → headOf (line1 c) ≡ fromFirst (line1 c)
+past1 : (c : tie.Else1) → headOf (line1 c) ≡ headFrom 1 (line1 c)
 unfolding headOf
 past1 c = simp (le-ltb (length (line1 c)) 6 (omega arith))
 
@@ -27,7 +27,7 @@ first c = c .byte-at .ensures
 abbrev line2 : tie.Else2 → List ℕ
 line2 c = line1 (c .before .before .before .before)
 
-past2 : (c : tie.Else2) → headOf (line2 c) ≡ fromColumns (line2 c)
+past2 : (c : tie.Else2) → headOf (line2 c) ≡ headFrom 2 (line2 c)
 past2 c =
     let w = c .before .before .before in
     past1 (w .before) ∙ first-tested _ (getD (line2 c) 0 0) _ false _ _ (c .before .accepted .ensures) (first w .0) (c .if2 .left)
@@ -40,7 +40,7 @@ columns c =
 abbrev line3 : tie.Else3 → List ℕ
 line3 c = line2 (c .before .before .before)
 
-past3 : (c : tie.Else3) → headOf (line3 c) ≡ fromChecks (line3 c)
+past3 : (c : tie.Else3) → headOf (line3 c) ≡ headFrom 4 (line3 c)
 past3 c =
     let w = c .before .before in
     past2 (w .before) ∙ tested _ (wordAt (line3 c) 1) 1 256 _ false _ _ (c .before .outside .ensures) (columns w .0) (c .if3 .left)
@@ -53,7 +53,7 @@ checks c =
 abbrev line4 : tie.Else4 → List ℕ
 line4 c = line3 (c .before .before .before)
 
-past4 : (c : tie.Else4) → headOf (line4 c) ≡ fromScale (line4 c)
+past4 : (c : tie.Else4) → headOf (line4 c) ≡ headFrom 6 (line4 c)
 past4 c =
     let w = c .before .before in
     past3 (w .before) ∙ tested _ (getD (line4 c) 3 0) 1 128 _ false _ _ (c .before .outside2 .ensures) (checks w .0) (c .if4 .left)
@@ -66,7 +66,7 @@ scale c =
 abbrev line5 : tie.Else5 → List ℕ
 line5 c = line4 (c .before .before .before)
 
-past5 : (c : tie.Else5) → headOf (line5 c) ≡ fromLimit (line5 c)
+past5 : (c : tie.Else5) → headOf (line5 c) ≡ headFrom 8 (line5 c)
 past5 c =
     let w = c .before .before in
     past4 (w .before) ∙ tested _ (getD (line5 c) 4 0) 1 16 _ false _ _ (c .before .outside3 .ensures) (scale w .0) (c .if5 .left)

@@ -1,7 +1,7 @@
 -- The answer is the test of its branch.
 use borrow.Author.Tests.{lt-ltb, le-ltb}
-use Rattle.codeline.proofs.numbers.outside.Statement.{statement}
-use Rattle.codeline.proofs.numbers.outside.Tie as tie
+use Rattle.codeline.proofs.head.outside.Statement.{statement}
+use Rattle.codeline.proofs.head.outside.Tie as tie
 
 returns : tie.Need-returns
 returns c = simp (lt-ltb (c .before .args .x) (c .before .args .low) (c .if1 .taken))

@@ -1,4 +1,5 @@
--- One update of a check over its columns and weights, its record and the costs. proofs/Turns.antt shows that this is the machine's turn.
+-- What the functions of one update ask of a check's columns and weights, its record and the costs. proofs/Updates.antt shows that together they are
+-- costsLent and recordLent of the machine.
 use mathlib.Core.Path.{_≡_}
 use mathlib.Core.Bool.{Bool, false, true}
 use mathlib.Core.Logic.{_≢_}
@@ -6,29 +7,14 @@ use mathlib.Core.List.{List}
 use Prim.Native.Nat.{ℕ, _+_, _*_, _≤_, _<_}
 use lib.ListN.{length, getD}
 use Rattle.trellis.specs.Lists.{pick, tab}
-use Rattle.trellis.specs.Check.{Column}
-use Rattle.trellis.specs.Record.{recordOf, recordLength, recordOk, expansion}
+use Rattle.trellis.specs.Record.{recordLength, recordOk, expansion}
 use Rattle.trellis.specs.Rules.{firstOk, sizeOf, ruleFor}
 use Rattle.trellis.specs.Ready.{Ready}
-use Rattle.machine.specs.Machine.{spread}
-use Rattle.machine.specs.Lent.{weightsOf, heard, gathered}
-use Rattle.machine.specs.inner.Tables.{edgesOf}
 use Rattle.machine.specs.inner.InRange.{Below}
 
 -- what the old record sent, before scaling: its expansion; 0 in the first iteration
 unfoldable pub oldCosts : ℕ → Bool → List ℕ → List ℕ → List ℕ
 oldCosts first start ws r = pick start (tab (λ x. 0) (length ws * sizeOf first)) (expansion (ruleFor first) ws r)
-
--- the columns of the update, its record, and P after it
-abbrev pub columnsNow : ℕ → ℕ → Bool → List ℕ → List ℕ → List ℕ → List ℕ → List Column
-columnsNow first g start cs ws r P = gathered (ruleFor first) g start (edgesOf cs ws) r P
-
-unfoldable pub recordNow : ℕ → ℕ → Bool → List ℕ → List ℕ → List ℕ → List ℕ → List ℕ
-recordNow first g start cs ws r P = recordOf (ruleFor first) (columnsNow first g start cs ws r P)
-
-unfoldable pub costsNow : ℕ → ℕ → Bool → List ℕ → List ℕ → List ℕ → List ℕ → List ℕ
-costsNow first g start cs ws r P =
-    spread (sizeOf first) (edgesOf cs ws) (columnsNow first g start cs ws r P) (heard (ruleFor first) g false (weightsOf (edgesOf cs ws)) (recordOf (ruleFor first) (columnsNow first g start cs ws r P))) P
 
 -- the weights of an accepted check
 pub record Weighed (first : ℕ) (ws : List ℕ) : Type 0 where
