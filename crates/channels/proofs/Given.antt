@@ -15,9 +15,9 @@ use Rattle.trellis.proofs.Places.{length-count}
 use Rattle.machine.specs.CodeLine.{good, Code, size, numbersOf, parse}
 use Rattle.machine.specs.Decoding.{Buffers, lending}
 use Rattle.machine.proofs.Rooms.{used-high, costs-high}
-use Rattle.codeline.specs.declared.Header.{Header}
-use Rattle.codeline.specs.declared.Header.the-variants.{Refused as HeaderRefused}
-use Rattle.codeline.specs.declared.Numbers.{Numbers}
+use Rattle.codeline.specs.declared.answers.Header.{Header}
+use Rattle.codeline.specs.declared.answers.Header.the-variants.{Refused as HeaderRefused}
+use Rattle.codeline.specs.declared.answers.Numbers.{Numbers}
 use Rattle.codeline.specs.inner.Coding.{codeOf, Coded}
 use Rattle.codeline.specs.Answers.{headerNumbers}
 use Rattle.codeline.proofs.Answered.{header-refused}

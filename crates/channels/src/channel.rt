@@ -1,6 +1,6 @@
 // One channel in its parts of the buffers: its load and its next iteration.
 use crate::service::Layout;
-use layered::Stage;
+use layered::answers::Stage;
 use layered::frame;
 use layered::num;
 use layered::stages;

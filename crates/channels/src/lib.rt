@@ -1,21 +1,13 @@
 // One check layer, eight channels: up to eight frames under one code line, with one allowance of iterations for all.
+pub mod answers;
 mod channel;
 mod service;
 mod whole;
 
+use crate::answers::Served;
 ghost use Rattle.machine.specs.Decoding.{lending};
 ghost use Rattle.channels.specs.Channels.{channels};
 ghost use Rattle.channels.specs.Answers.{Gives};
-
-// The call's number, the iterations spent of the allowance, and each channel's status with its iterations; 0 for a channel that there is not,
-// and all 0 but the number where the whole call is refused.
-#[repr(C)]
-pub struct Served {
-    pub number: u8,
-    pub spent: u16,
-    pub status: [u8; 8],
-    pub iterations: [u8; 8],
-}
 
 // Decodes `count` frames, which stand end to end in `frames`; what channel c receives stands in the c-th part of each buffer. The channels are
 // served by number in turn, one iteration each, until every one is finished or the allowance is spent. A channel's status is 0 found, 1 not

@@ -1,6 +1,6 @@
 // The channels in turn: all loaded, then rounds in which each that is running gets one iteration.
 use crate::channel;
-use codeline::Numbers;
+use codeline::answers::Numbers;
 ghost use mathlib.Core.Path.{_≡_};
 ghost use mathlib.Core.List.{List};
 ghost use Prim.Native.Nat.{ℕ};

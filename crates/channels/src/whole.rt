@@ -1,9 +1,9 @@
 // The whole call: its refusals, the code line read once, and the service.
-use crate::Served;
+use crate::answers::Served;
 use crate::service;
 use crate::service::Layout;
-use codeline::Header;
-use codeline::Numbers;
+use codeline::answers::Header;
+use codeline::answers::Numbers;
 use layered::frame;
 use layered::num;
 ghost use mathlib.Core.Path.{_≡_};

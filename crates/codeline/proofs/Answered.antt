@@ -7,9 +7,9 @@ use lib.ListN.{length, take, drop}
 use lib.Seq.{length-take-le, take-at}
 use Rattle.machine.specs.CodeLine.{Read, good, bad, Code, Numbers, numbersOf, parse}
 use Rattle.machine.specs.inner.Tables.{Tabled}
-use Rattle.codeline.specs.declared.Header.{Header}
-use Rattle.codeline.specs.declared.Header.the-variants.{Read as HeaderRead, Refused as HeaderRefused}
-use Rattle.codeline.specs.declared.Numbers.{Numbers as LineNumbers}
+use Rattle.codeline.specs.declared.answers.Header.{Header}
+use Rattle.codeline.specs.declared.answers.Header.the-variants.{Read as HeaderRead, Refused as HeaderRefused}
+use Rattle.codeline.specs.declared.answers.Numbers.{Numbers as LineNumbers}
 use Rattle.codeline.specs.Answers.{numbersIn, headerNumbers, degreesOf, columnsOf, weightsOf, leftIn}
 use Rattle.codeline.specs.inner.Reading.{CountFits, checksIn, handed}
 

@@ -11,9 +11,9 @@ use Rattle.machine.proofs.Lines.{parse-good}
 use Rattle.machine.proofs.Places.{start-length}
 use Rattle.machine.proofs.Edges.{length-table}
 use Rattle.machine.proofs.InTables.{checks-say, before-own}
-use Rattle.codeline.specs.declared.Numbers.{Numbers}
-use Rattle.codeline.specs.declared.Header.{Header}
-use Rattle.codeline.specs.declared.Header.the-variants.{Read as HeaderRead}
+use Rattle.codeline.specs.declared.answers.Numbers.{Numbers}
+use Rattle.codeline.specs.declared.answers.Header.{Header}
+use Rattle.codeline.specs.declared.answers.Header.the-variants.{Read as HeaderRead}
 use Rattle.codeline.specs.Answers.{headerNumbers, degreesOf, columnsOf, weightsOf, leftIn}
 use Rattle.codeline.specs.inner.Coding.{codeOf, Coded}
 use Rattle.codeline.proofs.Answered.{Accepted, header-read, tables-left}

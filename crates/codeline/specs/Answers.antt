@@ -6,10 +6,10 @@ use lib.ListN.{length, drop}
 use Rattle.machine.specs.CodeLine.{Read, good, bad, Code, Numbers}
 use Rattle.machine.specs.Machine.{used}
 use Rattle.machine.specs.inner.Tables.{tablesOf}
-use Rattle.codeline.specs.declared.Summary.{Summary}
-use Rattle.codeline.specs.declared.Numbers.{Numbers as LineNumbers}
-use Rattle.codeline.specs.declared.Header.{Header}
-use Rattle.codeline.specs.declared.Header.the-variants.{Read as HeaderRead, Refused as HeaderRefused}
+use Rattle.codeline.specs.declared.answers.Summary.{Summary}
+use Rattle.codeline.specs.declared.answers.Numbers.{Numbers as LineNumbers}
+use Rattle.codeline.specs.declared.answers.Header.{Header}
+use Rattle.codeline.specs.declared.answers.Header.the-variants.{Read as HeaderRead, Refused as HeaderRefused}
 
 abbrev pub numbersIn : LineNumbers → Numbers
 numbersIn k = record { first = k .first; columns = k .columns; checks = k .checks; scale = k .scale; limit = k .limit }

@@ -1,11 +1,11 @@
 // The numbers of a code line before its checks.
-use crate::Header;
-use crate::Numbers;
+use crate::answers::Header;
+use crate::answers::Numbers;
 use crate::reader;
 ghost use mathlib.Core.Path.{_≡_};
 ghost use Rattle.codeline.specs.Answers.{headerNumbers};
 ghost use Rattle.codeline.specs.inner.Reading.{isOutside, headOf, HeadFits};
-ghost use Rattle.codeline.specs.declared.Header.the-variants.{Refused as HeaderRefused};
+ghost use Rattle.codeline.specs.declared.answers.Header.the-variants.{Refused as HeaderRefused};
 
 // What stands before the checks, and the place behind it.
 pub struct Front {

@@ -1,5 +1,5 @@
 // What a code line says to whoever lends the buffers.
-use crate::Summary;
+use crate::answers::Summary;
 ghost use mathlib.Core.Path.{_≡_};
 ghost use Prim.Native.Nat.{_+_, _-_, _*_, _/_, _≤_};
 ghost use Rattle.trellis.specs.Record.{groupLength};

@@ -1,4 +1,5 @@
 // The code line: its numbers, and its checks in tables.
+pub mod answers;
 mod checks;
 mod head;
 mod lending;
@@ -6,24 +7,11 @@ mod num;
 mod reader;
 mod tables;
 
+use crate::answers::Header;
+use crate::answers::Summary;
 ghost use mathlib.Core.Path.{_≡_};
 ghost use Rattle.machine.specs.CodeLine.{parse, numbersOf};
 ghost use Rattle.codeline.specs.Answers.{headerNumbers, summaryOf, Tells, degreesOf, columnsOf, weightsOf, leftIn};
-
-// The numbers of a code line: the first byte, N, M, g and I.
-pub struct Numbers {
-    pub first: u8,
-    pub columns: u16,
-    pub checks: u8,
-    pub scale: u8,
-    pub limit: u8,
-}
-
-// They, or the number of the refusal.
-pub enum Header {
-    Read(Numbers),
-    Refused(u8),
-}
 
 // The numbers of a code line, whose checks are read too.
 pub fn code_line(code: &[u8]) -> Header
@@ -34,18 +22,6 @@ pub fn code_line(code: &[u8]) -> Header
     let mut weights = [0u8; 1024];
     let r = tables::read(code, &mut degrees, &mut columns, &mut weights);
     r.header
-}
-
-// What a code line says to whoever lends the buffers: 0 or the number of its refusal, its numbers, and the length of its store in bytes.
-#[repr(C)]
-pub struct Summary {
-    pub number: u8,
-    pub first: u8,
-    pub columns: u16,
-    pub checks: u8,
-    pub scale: u8,
-    pub limit: u8,
-    pub store: u32,
 }
 
 // All 0 but the number where the line is refused.

@@ -1,5 +1,5 @@
 // The checks of a code line in tables: reading them, and handing over what was read.
-use crate::Header;
+use crate::answers::Header;
 use crate::checks;
 use crate::checks::Checks;
 use crate::head;

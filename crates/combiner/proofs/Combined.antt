@@ -19,9 +19,9 @@ use Rattle.machine.proofs.Lists.{map-after}
 use Rattle.machine.proofs.Lines.{parse-good}
 use Rattle.machine.proofs.Ranges.{column-room, frame-fits}
 use Rattle.machine.proofs.Combining.{length-combined, fault-none}
-use Rattle.codeline.specs.declared.Header.{Header}
-use Rattle.codeline.specs.declared.Numbers.{Numbers}
-use Rattle.codeline.specs.declared.Header.the-variants.{Read as HeaderRead, Refused as HeaderRefused}
+use Rattle.codeline.specs.declared.answers.Header.{Header}
+use Rattle.codeline.specs.declared.answers.Numbers.{Numbers}
+use Rattle.codeline.specs.declared.answers.Header.the-variants.{Read as HeaderRead, Refused as HeaderRefused}
 use Rattle.codeline.specs.Answers.{headerNumbers}
 use Rattle.codeline.proofs.Answered.{Accepted, header-refused, header-read}
 use Rattle.layered.specs.inner.Frames.{frameFaultOf}

@@ -3,7 +3,7 @@ mod columns;
 mod combining;
 
 use checknode::Written;
-use codeline::Header;
+use codeline::answers::Header;
 use layered::num;
 ghost use mathlib.Core.Path.{_≡_};
 ghost use Rattle.checknode.specs.Answers.{writtenReply};

@@ -19,9 +19,9 @@ use Rattle.machine.specs.inner.Accepted.{GoodCode}
 use Rattle.machine.proofs.Lines.{parse-good}
 use Rattle.machine.proofs.Places.{count, degree-at, column-flat, weight-flat, sum-flat, all-columns, all-weights}
 use Rattle.machine.proofs.Encoding.{all-ext, lastOwn, encodable-last, more-columns, others-lower, encode-none}
-use Rattle.codeline.specs.declared.Numbers.{Numbers}
-use Rattle.codeline.specs.declared.Header.{Header}
-use Rattle.codeline.specs.declared.Header.the-variants.{Read as HeaderRead, Refused as HeaderRefused}
+use Rattle.codeline.specs.declared.answers.Numbers.{Numbers}
+use Rattle.codeline.specs.declared.answers.Header.{Header}
+use Rattle.codeline.specs.declared.answers.Header.the-variants.{Read as HeaderRead, Refused as HeaderRefused}
 use Rattle.codeline.specs.Answers.{headerNumbers}
 use Rattle.codeline.proofs.Answered.{Accepted, header-refused, header-read}
 use Rattle.encoder.specs.inner.Words.{lastPlace, ownAt, encodeOn, ownTo, formedOn, encodeFaultOf, Leaves}

@@ -4,7 +4,7 @@ use crate::form;
 use crate::message;
 use crate::num;
 use checknode::Written;
-use codeline::Header;
+use codeline::answers::Header;
 ghost use mathlib.Core.Path.{_≡_};
 ghost use Rattle.checknode.specs.Answers.{writtenReply};
 ghost use Rattle.machine.specs.Encoding.{encoding};

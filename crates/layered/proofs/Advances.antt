@@ -23,10 +23,10 @@ use Rattle.trellis.proofs.Loops.{length-tab}
 use Rattle.machine.proofs.Changed.{redone, redecided-lent}
 use Rattle.machine.proofs.EarlyPassing.{next-check, check-small, advancing-start, advanced, next-formed}
 use Rattle.machine.proofs.InTables.{columns-length, degree-is, column-part}
-use Rattle.codeline.specs.declared.Numbers.{Numbers}
+use Rattle.codeline.specs.declared.answers.Numbers.{Numbers}
 use Rattle.codeline.specs.Answers.{numbersIn}
 use Rattle.codeline.specs.inner.Coding.{codeOf}
-use Rattle.layered.specs.declared.Stopped.the-variants.{Found, NotFound}
+use Rattle.layered.specs.declared.answers.Stopped.the-variants.{Found, NotFound}
 use Rattle.layered.specs.declared.parity.CheckAt.{CheckAt}
 use Rattle.layered.specs.declared.place.Place.{Place}
 use Rattle.layered.specs.inner.Parity.{EdgeOf}

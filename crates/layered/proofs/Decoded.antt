@@ -25,15 +25,15 @@ use Rattle.machine.proofs.Ranges.{frame-ranged}
 use Rattle.machine.proofs.Buffers.{room-of}
 use Rattle.machine.proofs.Lent.{run-stands}
 use Rattle.machine.proofs.InTables.{place-is, bytes-take}
-use Rattle.codeline.specs.declared.Header.{Header}
-use Rattle.codeline.specs.declared.Header.the-variants.{Refused as HeaderRefused}
-use Rattle.codeline.specs.declared.Numbers.{Numbers}
+use Rattle.codeline.specs.declared.answers.Header.{Header}
+use Rattle.codeline.specs.declared.answers.Header.the-variants.{Refused as HeaderRefused}
+use Rattle.codeline.specs.declared.answers.Numbers.{Numbers}
 use Rattle.codeline.specs.Answers.{numbersIn, headerNumbers}
 use Rattle.codeline.specs.inner.Coding.{codeOf, Coded}
 use Rattle.codeline.proofs.Answered.{header-refused}
-use Rattle.layered.specs.declared.Outcome.{Outcome}
-use Rattle.layered.specs.declared.Outcome.the-variants.{Found, NotFound}
-use Rattle.layered.specs.declared.Answer.the-variants.{Decoded}
+use Rattle.layered.specs.declared.answers.Outcome.{Outcome}
+use Rattle.layered.specs.declared.answers.Outcome.the-variants.{Found, NotFound}
+use Rattle.layered.specs.declared.answers.Answer.the-variants.{Decoded}
 use Rattle.layered.specs.Answers.{answerReply}
 use Rattle.machine.specs.inner.InRange.{Below}
 use Rattle.layered.specs.inner.Iterations.{endedIn, RunRoom}

@@ -11,14 +11,14 @@ use Rattle.machine.specs.inner.LentEarly.{Halted, halted, stopLent}
 use Rattle.machine.specs.Decoding.{Buffers, lending, outcome, holding, Leaves}
 use Rattle.machine.specs.Early.{mostUpdates, earlyUnder, decodingEarly, DecodesEarly}
 use Rattle.machine.proofs.EarlyLent.{early-stands}
-use Rattle.codeline.specs.declared.Header.{Header}
-use Rattle.codeline.specs.declared.Header.the-variants.{Refused as HeaderRefused}
-use Rattle.codeline.specs.declared.Numbers.{Numbers}
+use Rattle.codeline.specs.declared.answers.Header.{Header}
+use Rattle.codeline.specs.declared.answers.Header.the-variants.{Refused as HeaderRefused}
+use Rattle.codeline.specs.declared.answers.Numbers.{Numbers}
 use Rattle.codeline.specs.Answers.{headerNumbers}
 use Rattle.codeline.specs.inner.Coding.{codeOf, Coded}
-use Rattle.layered.specs.declared.Stopped.{Stopped}
-use Rattle.layered.specs.declared.Stopped.the-variants.{Found, NotFound}
-use Rattle.layered.specs.declared.EarlyAnswer.the-variants.{Decoded}
+use Rattle.layered.specs.declared.answers.Stopped.{Stopped}
+use Rattle.layered.specs.declared.answers.Stopped.the-variants.{Found, NotFound}
+use Rattle.layered.specs.declared.answers.EarlyAnswer.the-variants.{Decoded}
 use Rattle.layered.specs.Answers.{earlyReply}
 use Rattle.layered.specs.inner.Frames.{faultOf, earlyOf}
 use Rattle.layered.specs.inner.Early.{haltedIn}

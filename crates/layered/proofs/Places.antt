@@ -21,7 +21,7 @@ use Rattle.machine.proofs.Ranges.{column-room}
 use Rattle.machine.proofs.Lent.{place-suc, place-mono}
 use Rattle.machine.proofs.Rooms.{used-high}
 use Rattle.machine.proofs.InTables.{count, in-columns, in-weights, check-is, columns-length, weights-length, same-length, degree-is, column-part, weight-part, place-is}
-use Rattle.codeline.specs.declared.Numbers.{Numbers}
+use Rattle.codeline.specs.declared.answers.Numbers.{Numbers}
 use Rattle.codeline.specs.Answers.{numbersIn}
 use Rattle.codeline.specs.inner.Coding.{codeOf}
 use Rattle.layered.specs.inner.Updates.{UpdateRoom}

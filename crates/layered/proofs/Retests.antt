@@ -21,7 +21,7 @@ use Rattle.machine.specs.Machine.{symbols, settled}
 use Rattle.machine.specs.inner.Tables.{before, tableAt}
 use Rattle.machine.proofs.Ranges.{column-room}
 use Rattle.machine.proofs.InTables.{in-columns, column-in, degree-is}
-use Rattle.codeline.specs.declared.Numbers.{Numbers}
+use Rattle.codeline.specs.declared.answers.Numbers.{Numbers}
 use Rattle.codeline.specs.Answers.{numbersIn}
 use Rattle.codeline.specs.inner.Coding.{codeOf}
 use Rattle.layered.specs.declared.parity.CheckAt.{CheckAt}

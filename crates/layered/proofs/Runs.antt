@@ -12,7 +12,7 @@ use Rattle.machine.specs.CodeLine.{Code}
 use Rattle.machine.specs.Lent.{Lent, lent, updateLent, iterationLent}
 use Rattle.machine.proofs.Passing.{updates-before, update-needs, iteration-passable}
 use Rattle.machine.proofs.InTables.{count}
-use Rattle.codeline.specs.declared.Numbers.{Numbers}
+use Rattle.codeline.specs.declared.answers.Numbers.{Numbers}
 use Rattle.codeline.specs.Answers.{numbersIn}
 use Rattle.codeline.specs.inner.Coding.{codeOf, Coded}
 use Rattle.layered.specs.inner.Parity.{SettledRoom}

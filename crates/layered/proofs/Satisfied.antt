@@ -24,7 +24,7 @@ use Rattle.machine.specs.inner.Tables.{before, term}
 use Rattle.machine.proofs.Lists.{all-not}
 use Rattle.machine.proofs.Ranges.{column-room}
 use Rattle.machine.proofs.InTables.{count, degree-is, in-columns, in-weights, column-in, weight-in, term-in}
-use Rattle.codeline.specs.declared.Numbers.{Numbers}
+use Rattle.codeline.specs.declared.answers.Numbers.{Numbers}
 use Rattle.codeline.specs.Answers.{numbersIn}
 use Rattle.codeline.specs.inner.Coding.{codeOf}
 use Rattle.layered.specs.declared.parity.CheckAt.{CheckAt}

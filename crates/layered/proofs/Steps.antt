@@ -22,9 +22,9 @@ use Rattle.machine.proofs.Ranges.{frame-ranged}
 use Rattle.machine.proofs.Lent.{place-suc, place-mono}
 use Rattle.machine.proofs.InTables.{in-weights, weights-length, weight-part, degree-is, place-is, before-take, bytes-take}
 use Rattle.machine.proofs.Tested.{tested}
-use Rattle.codeline.specs.declared.Header.{Header}
-use Rattle.codeline.specs.declared.Header.the-variants.{Refused as HeaderRefused}
-use Rattle.codeline.specs.declared.Numbers.{Numbers}
+use Rattle.codeline.specs.declared.answers.Header.{Header}
+use Rattle.codeline.specs.declared.answers.Header.the-variants.{Refused as HeaderRefused}
+use Rattle.codeline.specs.declared.answers.Numbers.{Numbers}
 use Rattle.codeline.specs.Answers.{numbersIn, headerNumbers}
 use Rattle.codeline.specs.inner.Coding.{codeOf, Coded}
 use Rattle.codeline.proofs.Answered.{header-refused}

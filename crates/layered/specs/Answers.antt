@@ -2,14 +2,14 @@
 use Prim.Native.Nat.{ℕ}
 use Rattle.trellis.specs.Reply.{Reply, refusal, foundIn, notFoundIn}
 use Rattle.machine.specs.Moments.{Stage as Ends}
-use Rattle.layered.specs.declared.Outcome.the-variants.{Found, NotFound}
-use Rattle.layered.specs.declared.Answer.{Answer}
-use Rattle.layered.specs.declared.Answer.the-variants.{Decoded, Refused}
-use Rattle.layered.specs.declared.Stage.{Stage}
-use Rattle.layered.specs.declared.Stage.the-variants.{Running, Found as StageFound, NotFound as StageNotFound, Refused as StageRefused}
-use Rattle.layered.specs.declared.Stopped.the-variants.{Found as FoundEarly, NotFound as NotFoundEarly}
-use Rattle.layered.specs.declared.EarlyAnswer.{EarlyAnswer}
-use Rattle.layered.specs.declared.EarlyAnswer.the-variants.{Decoded as DecodedEarly, Refused as RefusedEarly}
+use Rattle.layered.specs.declared.answers.Outcome.the-variants.{Found, NotFound}
+use Rattle.layered.specs.declared.answers.Answer.{Answer}
+use Rattle.layered.specs.declared.answers.Answer.the-variants.{Decoded, Refused}
+use Rattle.layered.specs.declared.answers.Stage.{Stage}
+use Rattle.layered.specs.declared.answers.Stage.the-variants.{Running, Found as StageFound, NotFound as StageNotFound, Refused as StageRefused}
+use Rattle.layered.specs.declared.answers.Stopped.the-variants.{Found as FoundEarly, NotFound as NotFoundEarly}
+use Rattle.layered.specs.declared.answers.EarlyAnswer.{EarlyAnswer}
+use Rattle.layered.specs.declared.answers.EarlyAnswer.the-variants.{Decoded as DecodedEarly, Refused as RefusedEarly}
 
 abbrev pub answerReply : Answer → Reply
 answerReply (Decoded (Found t)) = foundIn t

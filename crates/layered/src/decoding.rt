@@ -1,11 +1,11 @@
 // Decoding over lent tables and lists to work in: the code is read, then its refusals, or the run.
-use crate::Answer;
-use crate::Counted;
+use crate::answers::Answer;
+use crate::answers::Counted;
 use crate::frame;
 use crate::iterate;
 use crate::num;
-use codeline::Header;
-use codeline::Numbers;
+use codeline::answers::Header;
+use codeline::answers::Numbers;
 ghost use mathlib.Core.Path.{_≡_};
 ghost use Prim.Native.Nat.{_≤_};
 ghost use Rattle.machine.specs.CodeLine.{parse, numbersOf, columnsRead};

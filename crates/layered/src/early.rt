@@ -1,12 +1,12 @@
 // Stopping inside an iteration: the checks are updated one after the other, and after each update its columns are decided again and the test is
 // made where a symbol changed, from a check on that was not satisfied at the last test.
-use crate::Stopped;
+use crate::answers::Stopped;
 use crate::num;
 use crate::parity;
 use crate::parity::CheckAt;
 use crate::place;
 use crate::place::Place;
-use codeline::Numbers;
+use codeline::answers::Numbers;
 ghost use mathlib.Core.Path.{_≡_};
 ghost use mathlib.Core.Bool.{true};
 ghost use Prim.Native.Nat.{_+_, _*_, _≤_, _<_};

@@ -1,10 +1,10 @@
 // One iteration and the run, over the lent buffers and the tables of a code.
-use crate::Outcome;
+use crate::answers::Outcome;
 use crate::num;
 use crate::parity;
 use crate::place;
 use crate::place::Place;
-use codeline::Numbers;
+use codeline::answers::Numbers;
 ghost use mathlib.Core.Path.{_≡_};
 ghost use mathlib.Core.Bool.{true};
 ghost use lib.ListN.{length};

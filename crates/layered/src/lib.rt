@@ -1,4 +1,5 @@
 // Above the check layer and the code line: the layered decoder.
+pub mod answers;
 mod column;
 mod decoding;
 mod early;
@@ -12,6 +13,10 @@ pub mod stages;
 mod stopping;
 mod update;
 
+use crate::answers::Answer;
+use crate::answers::Counted;
+use crate::answers::EarlyAnswer;
+use crate::answers::Stage;
 ghost use mathlib.Core.Path.{_≡_};
 ghost use Prim.Native.Nat.{_≤_};
 ghost use Rattle.machine.specs.CodeLine.{parse, numbersOf, columnsRead};
@@ -19,18 +24,6 @@ ghost use Rattle.machine.specs.Decoding.{lending, Decodes};
 ghost use Rattle.machine.specs.Early.{DecodesEarly};
 ghost use Rattle.machine.specs.Moments.{Moves, loading, iterating};
 ghost use Rattle.layered.specs.Answers.{answerReply, earlyReply, stageOf};
-
-// How a run of the machine ended, with its iterations.
-pub enum Outcome {
-    Found(u8),
-    NotFound(u8),
-}
-
-// A decoding's outcome, or the number of the refusal.
-pub enum Answer {
-    Decoded(Outcome),
-    Refused(u8),
-}
 
 // Decodes a frame of N times q costs under a code line: found or not found with the iterations made, the decisions in `symbols`, the costs P
 // in `costs`, the records in `store`, the decisions' margins in `margins`. Refused: the code line's 5 to 11; 12, cost count; 13, a column
@@ -46,12 +39,6 @@ pub fn decode(
     ensures { λ r. ⌜ Decodes (now (code .entry)) (now (frame .entry)) (lending (now (symbols .entry)) (now (costs .entry)) (now (store .entry)) (now (margins .entry))) (answerReply r) (lending (now (symbols .exit)) (now (costs .exit)) (now (store .exit)) (now (margins .exit))) ⌝ }
 {
     decode_counted(code, frame, symbols, costs, store, margins).answer
-}
-
-// A decoding's answer, with N of a code line that is accepted: the line is read once for both.
-pub struct Counted {
-    pub answer: Answer,
-    pub columns: usize,
 }
 
 // The same call for whoever goes on with the N symbols.
@@ -86,18 +73,6 @@ pub fn decode_counted(
     )
 }
 
-// How a run that may stop inside an iteration ended, with its check updates.
-pub enum Stopped {
-    Found(u16),
-    NotFound(u16),
-}
-
-// Where such a decoding stopped, or the number of the refusal.
-pub enum EarlyAnswer {
-    Decoded(Stopped),
-    Refused(u8),
-}
-
 // Decodes a frame as decode does, but stops "as soon as the decisions satisfy all checks, tested at the start and after each check update": found or
 // not found with the check updates made. Symbols, margins, costs and the records of updated checks are those of that moment; checks not yet updated keep
 // the old bytes of their place in the store. Refuses as decode does.
@@ -129,14 +104,6 @@ pub fn decode_early(
         &mut arrived,
         &mut sent,
     )
-}
-
-// Where a load or an iteration ended.
-pub enum Stage {
-    Running,
-    Found,
-    NotFound,
-    Refused(u8),
 }
 
 // Loads a frame and runs the first test: the buffers hold the first decisions with their margins and the frame as costs; the store is only

@@ -2,7 +2,7 @@
 use crate::num;
 use checknode::Decision;
 use checknode::Element;
-use codeline::Numbers;
+use codeline::answers::Numbers;
 ghost use mathlib.Core.Path.{_≡_};
 ghost use Prim.Native.Nat.{_*_, _^_, _≤_, _<_};
 ghost use lib.Dec.{eqb};

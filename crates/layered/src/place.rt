@@ -1,7 +1,7 @@
 // A check in the tables and the store: where it stands, one update of it, and the check behind it.
 use crate::num;
 use crate::update;
-use codeline::Numbers;
+use codeline::answers::Numbers;
 ghost use mathlib.Core.Path.{_≡_};
 ghost use Prim.Native.Nat.{_+_};
 ghost use lib.Dec.{eqb};

@@ -1,12 +1,12 @@
 // A load and one iteration: decoding's refusals, then the first test, or the iteration from the lent costs and records and the test after it.
-use crate::Stage;
+use crate::answers::Stage;
 use crate::frame;
 use crate::iterate;
 use crate::num;
 use crate::parity;
 use crate::resume;
-use codeline::Header;
-use codeline::Numbers;
+use codeline::answers::Header;
+use codeline::answers::Numbers;
 ghost use mathlib.Core.Path.{_≡_};
 ghost use Rattle.machine.specs.Machine.{settled, symbols as symbolsOf, margins as marginsOf};
 ghost use Rattle.machine.specs.Lent.{lent, iterationLent};

@@ -1,10 +1,10 @@
 // Decoding that may stop inside an iteration, over lent tables and lists to work in: the code is read, then its refusals, or the run.
-use crate::EarlyAnswer;
+use crate::answers::EarlyAnswer;
 use crate::early;
 use crate::frame;
 use crate::num;
-use codeline::Header;
-use codeline::Numbers;
+use codeline::answers::Header;
+use codeline::answers::Numbers;
 ghost use mathlib.Core.Path.{_≡_};
 ghost use Rattle.machine.specs.Decoding.{lending, Leaves};
 ghost use Rattle.machine.specs.Early.{DecodesEarly};

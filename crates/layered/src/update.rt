@@ -1,7 +1,7 @@
 // One update of a check: Q from the costs and the old record, the new record, and the costs again.
 use crate::column;
 use crate::num;
-use codeline::Numbers;
+use codeline::answers::Numbers;
 ghost use mathlib.Core.Path.{_≡_};
 ghost use lib.ListN.{length};
 ghost use Rattle.trellis.specs.Lists.{tab};

@@ -2,10 +2,10 @@
 use mathlib.Core.Path.{_≡_}
 use Prim.Native.Nat.{ℕ, _/_, _%_}
 use Rattle.trellis.specs.Reply.{Reply, foundIn, notFoundIn}
-use Rattle.layered.specs.declared.Outcome.{Outcome}
-use Rattle.layered.specs.declared.Outcome.the-variants.{Found, NotFound}
-use Rattle.layered.specs.declared.Stopped.{Stopped}
-use Rattle.layered.specs.declared.Stopped.the-variants.{Found as FoundEarly, NotFound as NotFoundEarly}
+use Rattle.layered.specs.declared.answers.Outcome.{Outcome}
+use Rattle.layered.specs.declared.answers.Outcome.the-variants.{Found, NotFound}
+use Rattle.layered.specs.declared.answers.Stopped.{Stopped}
+use Rattle.layered.specs.declared.answers.Stopped.the-variants.{Found as FoundEarly, NotFound as NotFoundEarly}
 
 -- What include/petsivola.h reads from a result: PETSIVOLA_NUMBER is document 01's number (0 accepted or found, 1 not found, else the refusal's),
 -- PETSIVOLA_VALUE the value (the product, the bytes written, t, or the check updates; 0 on a refusal). The two fix the result: number times 65,536, plus the value

@@ -1,13 +1,13 @@
 // The public calls for C and Rust: include/petsivola.h has each with its parameters. A slice is a pointer and a length.
-use channels::Served;
+use channels::answers::Served;
 use checknode::Element;
 use checknode::Written;
-use codeline::Summary;
-use layered::Answer;
-use layered::EarlyAnswer;
-use layered::Outcome;
-use layered::Stopped;
-use window::Registers;
+use codeline::answers::Summary;
+use layered::answers::Answer;
+use layered::answers::EarlyAnswer;
+use layered::answers::Outcome;
+use layered::answers::Stopped;
+use window::registers::Registers;
 ghost use mathlib.Core.Path.{_≡_};
 ghost use Prim.Native.Nat.{_≤_};
 ghost use Rattle.checknode.specs.Answers.{elementReply, productReply, writtenReply, checkReply, checkLeaves, expandReply, expandLeaves};

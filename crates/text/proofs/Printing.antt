@@ -22,7 +22,7 @@ use Rattle.machine.proofs.Lines.{parse-good}
 use Rattle.machine.proofs.Rooms.{roomy}
 use Rattle.machine.proofs.Buffers.{accepted-call}
 use Rattle.layered.specs.Answers.{answerReply}
-use Rattle.layered.specs.declared.Answer.{Answer}
+use Rattle.layered.specs.declared.answers.Answer.{Answer}
 use Rattle.text.specs.inner.Lines.{asLine, over}
 
 pub two-set : (l : List ℕ) (a b : ℕ) → length l ≡ 2 → set (set l 0 a) 1 b ≡ a ∷ b ∷ []

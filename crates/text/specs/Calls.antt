@@ -5,7 +5,7 @@ use mathlib.Core.List.{List, [], _∷_, _++_}
 use Prim.Native.Nat.{ℕ}
 use lib.ListN.{length, take}
 use Rattle.machine.specs.inner.Blocks.{fedOut, closeOut}
-use Rattle.text.specs.declared.State.{State}
+use Rattle.text.specs.declared.state.State.{State}
 use Rattle.text.specs.inner.Held.{Held, held, keptOf, putAt, fedHeld, closeHeld}
 
 -- one call of feed: the bytes of its block, the output buffer before it, and the state and the buffers after it

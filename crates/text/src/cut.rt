@@ -1,7 +1,7 @@
 // The input cut into lines, block by block, and its end.
-use crate::State;
 use crate::line_end;
 use crate::num;
+use crate::state::State;
 ghost use mathlib.Core.Path.{_≡_};
 ghost use mathlib.Core.Bool.{false};
 ghost use mathlib.Core.List.{[], _∷_, _++_};

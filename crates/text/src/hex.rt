@@ -1,10 +1,12 @@
 // A line of text: hexadecimal digits, two a byte.
+use checknode::Written;
 ghost use mathlib.Core.Path.{_≡_};
 ghost use mathlib.Core.Bool.{true};
 ghost use mathlib.Core.List.{_++_};
 ghost use Prim.Native.Nat.{_/_, _<_, _≤_};
 ghost use lib.ListN.{length, drop};
-ghost use Rattle.machine.specs.Line.{isDigit, digit, lineBytes};
+ghost use Rattle.checknode.specs.Answers.{writtenReply};
+ghost use Rattle.machine.specs.Line.{isDigit, digit, lineBytes, lineReply, lineLeaves};
 ghost use Rattle.text.specs.inner.Digits.{digitAnswer, digitsFault, allDigits};
 
 // A digit's value, or the number of the refusal.
@@ -63,4 +65,27 @@ pub fn fill(text: &[u8], out: &mut [u8])
         out[i] = high * 16 + low;
         i += 1;
     }
+}
+
+// "Line: 15, 14, 2."; nothing is written before the last of these is tested.
+pub fn line(text: &[u8], out: &mut [u8]) -> Written
+    ensures { λ r. ⌜ writtenReply r ≡ lineReply (now (text .entry)) (now (out .entry)) ⌝ }
+    ensures { λ _. ⌜ now (out .exit) ≡ lineLeaves (now (text .entry)) (now (out .entry)) ⌝ }
+{
+    if 32768 < text.len() {
+        return Written::Refused(15);
+    }
+    if text.len() % 2 != 0 {
+        return Written::Refused(14);
+    }
+    let k = fault(text);
+    if k != 0 {
+        return Written::Refused(k);
+    }
+    let n = text.len() / 2;
+    if out.len() < n {
+        return Written::Refused(2);
+    }
+    fill(text, out);
+    Written::Bytes(n)
 }

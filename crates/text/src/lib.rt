@@ -4,7 +4,9 @@ mod hex;
 mod line_end;
 mod num;
 mod print;
+pub mod state;
 
+use crate::state::State;
 use checknode::Written;
 ghost use mathlib.Core.Path.{_≡_};
 ghost use mathlib.Core.List.{_++_};
@@ -20,22 +22,7 @@ pub fn line(text: &[u8], out: &mut [u8]) -> Written
     ensures { λ r. ⌜ writtenReply r ≡ lineReply (now (text .entry)) (now (out .entry)) ⌝ }
     ensures { λ _. ⌜ now (out .exit) ≡ lineLeaves (now (text .entry)) (now (out .entry)) ⌝ }
 {
-    if 32768 < text.len() {
-        return Written::Refused(15);
-    }
-    if text.len() % 2 != 0 {
-        return Written::Refused(14);
-    }
-    let k = hex::fault(text);
-    if k != 0 {
-        return Written::Refused(k);
-    }
-    let n = text.len() / 2;
-    if out.len() < n {
-        return Written::Refused(2);
-    }
-    hex::fill(text, out);
-    Written::Bytes(n)
+    hex::line(text, out)
 }
 
 // The line that the program prints for a frame's line of text, with its end, and how many bytes it has. The longest has 517 bytes: 256
@@ -44,30 +31,7 @@ pub fn frame_line(code: &[u8], text: &[u8], out: &mut [u8; 517]) -> usize
     ensures { λ r. ⌜ r ≡ length (frameLine (now (code .entry)) (now (text .entry))) ⌝ }
     ensures { λ _. ⌜ now (out .exit) ≡ frameLine (now (code .entry)) (now (text .entry)) ++ drop (length (frameLine (now (code .entry)) (now (text .entry)))) (now (out .entry)) ⌝ }
 {
-    let mut bytes = [0u8; 16384];
-    let mut symbols = [0u8; 256];
-    let mut costs = [0u16; 16384];
-    let mut store = [0u8; 57472];
-    let mut margins = [0u16; 256];
-    print::text_in(
-        code,
-        text,
-        &mut bytes,
-        &mut symbols,
-        &mut costs,
-        &mut store,
-        &mut margins,
-        out,
-    )
-}
-
-// What is kept from block to block beside the two buffers: how many bytes of the line so far, how many of the code line (0 before it is read),
-// and whether a refused code line has ended the program; and how many bytes the last call printed. All 0 and false at the start.
-pub struct State {
-    pub len: usize,
-    pub code: usize,
-    pub ended: bool,
-    pub full: usize,
+    print::frame_line(code, text, out)
 }
 
 // One block of the input, its first n bytes: what is kept after it, and in `out` what is printed for it, `full` bytes. The longest is 512 and

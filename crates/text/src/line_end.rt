@@ -1,8 +1,10 @@
 // What happens where a line ends: the code line is read and kept or refused, a frame is printed.
-use crate::State;
+use crate::hex;
 use crate::num;
+use crate::print;
+use crate::state::State;
 use checknode::Written;
-use codeline::Header;
+use codeline::answers::Header;
 ghost use mathlib.Core.Path.{_≡_};
 ghost use mathlib.Core.Bool.{false, not};
 ghost use mathlib.Core.List.{_++_};
@@ -25,13 +27,13 @@ fn put(row: &[u8], n: usize, out: &mut [u8], full: usize) -> usize
     e
 }
 
-// Prints what crate::frame_line gives, and returns how many bytes are then printed.
+// Prints what print::frame_line gives, and returns how many bytes are then printed.
 fn print_in(code: &[u8], text: &[u8], row: &mut [u8; 517], out: &mut [u8], full: usize) -> usize
     requires { ⌜ full + length (frameLine (now code) (now text)) ≤ length (now out) ⌝ }
     ensures { λ r. ⌜ r ≡ full + length (frameLine (now (code .entry)) (now (text .entry))) ⌝ }
     ensures { λ _. ⌜ now (out .exit) ≡ putAt (now (out .entry)) full (frameLine (now (code .entry)) (now (text .entry))) ⌝ }
 {
-    let n = crate::frame_line(code, text, row);
+    let n = print::frame_line(code, text, row);
     put(row, n, out, full)
 }
 
@@ -50,7 +52,7 @@ fn code_bytes(text: &[u8], code: &mut [u8]) -> usize
     ensures { λ r. ⌜ (r ≡ length (codeBytes (now (text .entry)))) × (r ≤ 16384) ⌝ }
     ensures { λ _. ⌜ now (code .exit) ≡ codeBytes (now (text .entry)) ++ drop (length (codeBytes (now (text .entry)))) (now (code .entry)) ⌝ }
 {
-    match crate::line(text, code) {
+    match hex::line(text, code) {
         Written::Bytes(n) => n,
         Written::Refused(_) => 0,
     }

@@ -1,11 +1,12 @@
 // The printed line of a frame: decoded from its line of text, and printed as two hexadecimal digits a byte.
+use crate::hex;
 use checknode::Written;
-use layered::Answer;
-use layered::Outcome;
+use layered::answers::Answer;
+use layered::answers::Outcome;
 ghost use mathlib.Core.Path.{_≡_};
-ghost use mathlib.Core.List.{_∷_};
+ghost use mathlib.Core.List.{_∷_, _++_};
 ghost use Prim.Native.Nat.{_+_, _*_, _<_, _≤_};
-ghost use lib.ListN.{length};
+ghost use lib.ListN.{length, drop};
 ghost use Rattle.machine.specs.CodeLine.{parse};
 ghost use Rattle.machine.specs.Printing.{digitOf, digitsOf, said, printed, ofFrame, frameLine};
 ghost use Rattle.layered.specs.Answers.{answerReply};
@@ -107,8 +108,32 @@ pub fn text_in(
     ensures { λ r. ⌜ r ≡ length (frameLine (now (code .entry)) (now (text .entry))) ⌝ }
     ensures { λ _. ⌜ now (out .exit) ≡ over (frameLine (now (code .entry)) (now (text .entry))) (now (out .entry)) ⌝ }
 {
-    match crate::line(text, bytes) {
+    match hex::line(text, bytes) {
         Written::Refused(k) => answer(Answer::Refused(k), &symbols[..0], out),
         Written::Bytes(n) => frame_in(code, &bytes[..n], symbols, costs, store, margins, out),
     }
+}
+
+// The same in an array for the longest line, with the room that a decoding takes.
+pub fn frame_line(code: &[u8], text: &[u8], out: &mut [u8; 517]) -> usize
+    ensures { λ r. ⌜ r ≡ length (frameLine (now (code .entry)) (now (text .entry))) ⌝ }
+    ensures { λ _. ⌜ now (out .exit)
+        ≡ frameLine (now (code .entry)) (now (text .entry))
+        ++ drop (length (frameLine (now (code .entry)) (now (text .entry)))) (now (out .entry)) ⌝ }
+{
+    let mut bytes = [0u8; 16384];
+    let mut symbols = [0u8; 256];
+    let mut costs = [0u16; 16384];
+    let mut store = [0u8; 57472];
+    let mut margins = [0u16; 256];
+    text_in(
+        code,
+        text,
+        &mut bytes,
+        &mut symbols,
+        &mut costs,
+        &mut store,
+        &mut margins,
+        out,
+    )
 }

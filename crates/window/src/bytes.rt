@@ -1,6 +1,6 @@
 // Changes of the registers that touch no buffer.
-use crate::Registers;
-use layered::Stage;
+use crate::registers::Registers;
+use layered::answers::Stage;
 ghost use mathlib.Core.Path.{_≡_};
 ghost use lib.Dec.{eqb};
 ghost use Rattle.trellis.specs.Lists.{pick};

@@ -1,6 +1,6 @@
 // Byte 0: "Command 1 loads the lent code and frame and runs the first test; 2 runs one iteration if running; 3 clears pending".
-use crate::Registers;
 use crate::bytes;
+use crate::registers::Registers;
 ghost use mathlib.Core.Path.{_≡_};
 ghost use Rattle.machine.specs.Decoding.{lending};
 ghost use Rattle.window.specs.Window.{load, second, command};

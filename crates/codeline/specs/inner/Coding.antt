@@ -6,7 +6,7 @@ use Rattle.machine.specs.CodeLine.{Code}
 use Rattle.machine.specs.inner.Tables.{before, codeIn}
 use Rattle.machine.specs.inner.Accepted.{GoodCode}
 use Rattle.codeline.specs.Answers.{numbersIn}
-use Rattle.codeline.specs.declared.Numbers.{Numbers}
+use Rattle.codeline.specs.declared.answers.Numbers.{Numbers}
 
 abbrev pub codeOf : Numbers → List ℕ → List ℕ → List ℕ → Code
 codeOf k ds cs ws = codeIn (numbersIn k) ds cs ws

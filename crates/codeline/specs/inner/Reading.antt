@@ -9,8 +9,8 @@ use Rattle.trellis.specs.Refusals.{refusedBy}
 use Rattle.machine.specs.CodeLine.{Read, good, bad, Code, Edge as Pair, edge, wordAt, headTests, Numbers}
 use Rattle.machine.specs.inner.Tables.{Flat, flat, Tables, tables}
 use Rattle.codeline.specs.Answers.{degreesOf, columnsOf, weightsOf}
-use Rattle.codeline.specs.declared.Header.{Header}
-use Rattle.codeline.specs.declared.Header.the-variants.{Read as HeaderRead, Refused as HeaderRefused}
+use Rattle.codeline.specs.declared.answers.Header.{Header}
+use Rattle.codeline.specs.declared.answers.Header.the-variants.{Read as HeaderRead, Refused as HeaderRefused}
 use Rattle.codeline.specs.declared.reader.Field.{Field}
 use Rattle.codeline.specs.declared.checks.Edge.{Edge}
 use Rattle.codeline.specs.declared.checks.Edge.the-variants.{Is, Refused as EdgeRefused}

@@ -14,10 +14,10 @@ use Rattle.machine.specs.Lent.{Lent, lent}
 use Rattle.machine.specs.inner.LentEarly.{Halted, halted, stopLent}
 use Rattle.machine.specs.inner.Tables.{before, tableAt}
 use Rattle.machine.specs.inner.InRange.{Advancing}
-use Rattle.codeline.specs.declared.Numbers.{Numbers}
+use Rattle.codeline.specs.declared.answers.Numbers.{Numbers}
 use Rattle.codeline.specs.inner.Coding.{codeOf, Coded}
-use Rattle.layered.specs.declared.Stopped.{Stopped}
-use Rattle.layered.specs.declared.Stopped.the-variants.{Found, NotFound}
+use Rattle.layered.specs.declared.answers.Stopped.{Stopped}
+use Rattle.layered.specs.declared.answers.Stopped.the-variants.{Found, NotFound}
 use Rattle.layered.specs.declared.parity.CheckAt.{CheckAt}
 use Rattle.layered.specs.declared.place.Place.{Place}
 use Rattle.layered.specs.inner.Parity.{EdgeOf, SettledRoom}

@@ -10,7 +10,7 @@ use Rattle.machine.specs.CodeLine.{good, Code, frameTests}
 use Rattle.machine.specs.inner.Tables.{bytesBefore}
 use Rattle.machine.specs.Decoding.{Buffers, After, roomTests, admittedUnder, decodingUnder}
 use Rattle.machine.specs.Early.{earlyUnder}
-use Rattle.codeline.specs.declared.Numbers.{Numbers}
+use Rattle.codeline.specs.declared.answers.Numbers.{Numbers}
 use Rattle.codeline.specs.inner.Coding.{Coded}
 
 -- a frame's refusal by the first byte and N

@@ -7,10 +7,10 @@ use lib.ListN.{length}
 use Rattle.machine.specs.Machine.{found, notFound}
 use Rattle.machine.specs.Lent.{Lent, lent, Ended, ended}
 use Rattle.machine.specs.inner.InRange.{Passable}
-use Rattle.codeline.specs.declared.Numbers.{Numbers}
+use Rattle.codeline.specs.declared.answers.Numbers.{Numbers}
 use Rattle.codeline.specs.inner.Coding.{codeOf, Coded}
-use Rattle.layered.specs.declared.Outcome.{Outcome}
-use Rattle.layered.specs.declared.Outcome.the-variants.{Found, NotFound}
+use Rattle.layered.specs.declared.answers.Outcome.{Outcome}
+use Rattle.layered.specs.declared.answers.Outcome.the-variants.{Found, NotFound}
 
 -- an outcome with what the buffers then hold
 abbrev pub endedIn : Outcome → Lent → Ended

@@ -11,7 +11,7 @@ use Rattle.machine.specs.CodeLine.{Code, power, check}
 use Rattle.machine.specs.Machine.{satisfied}
 use Rattle.machine.specs.inner.Tables.{before}
 use Rattle.machine.specs.inner.InRange.{Ranged}
-use Rattle.codeline.specs.declared.Numbers.{Numbers}
+use Rattle.codeline.specs.declared.answers.Numbers.{Numbers}
 use Rattle.codeline.specs.inner.Coding.{codeOf, Coded}
 use Rattle.layered.specs.declared.parity.CheckAt.{CheckAt}
 

@@ -10,7 +10,7 @@ use Rattle.machine.specs.Machine.{used}
 use Rattle.machine.specs.Lent.{lent}
 use Rattle.machine.specs.inner.Tables.{before, bytesBefore}
 use Rattle.machine.specs.inner.InRange.{Ranged, Formed}
-use Rattle.codeline.specs.declared.Numbers.{Numbers}
+use Rattle.codeline.specs.declared.answers.Numbers.{Numbers}
 use Rattle.codeline.specs.inner.Coding.{codeOf, Coded}
 use Rattle.layered.specs.declared.place.Place.{Place}
 

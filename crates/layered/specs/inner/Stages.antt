@@ -14,7 +14,7 @@ use Rattle.machine.specs.CodeLine.{good, Code, zeroIn}
 use Rattle.machine.specs.Decoding.{Buffers, admittedUnder}
 use Rattle.machine.specs.Moments.{Stage as Ends, Moment, loadingUnder, resumableUnder, iteratingUnder}
 use Rattle.machine.specs.inner.Tables.{before, bytesBefore, tableAt}
-use Rattle.codeline.specs.declared.Numbers.{Numbers}
+use Rattle.codeline.specs.declared.answers.Numbers.{Numbers}
 use Rattle.layered.specs.Answers.{ends}
 use Rattle.layered.specs.inner.Parity.{SettledRoom}
 use Rattle.layered.specs.inner.Iterations.{IterateRoom}

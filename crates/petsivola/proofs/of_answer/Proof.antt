@@ -2,9 +2,9 @@
 use mathlib.Core.Path.{_≡_, refl, subst}
 use native.Mathlib.Omega.{arith}
 use Rattle.layered.specs.Answers.{answerReply}
-use Rattle.layered.specs.declared.Outcome.{Outcome}
-use Rattle.layered.specs.declared.Outcome.the-variants.{Found, NotFound}
-use Rattle.layered.specs.declared.Answer.the-variants.{Decoded}
+use Rattle.layered.specs.declared.answers.Outcome.{Outcome}
+use Rattle.layered.specs.declared.answers.Outcome.the-variants.{Found, NotFound}
+use Rattle.layered.specs.declared.answers.Answer.the-variants.{Decoded}
 use Rattle.petsivola.specs.Packed.{Packs, outcomeReply}
 use borrow.Author.Needs.{needs}
 use Rattle.petsivola.proofs.of_answer.Statement.{statement}

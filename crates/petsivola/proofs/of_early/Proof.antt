@@ -2,9 +2,9 @@
 use mathlib.Core.Path.{_≡_, refl, subst}
 use native.Mathlib.Omega.{arith}
 use Rattle.layered.specs.Answers.{earlyReply}
-use Rattle.layered.specs.declared.Stopped.{Stopped}
-use Rattle.layered.specs.declared.Stopped.the-variants.{Found, NotFound}
-use Rattle.layered.specs.declared.EarlyAnswer.the-variants.{Decoded}
+use Rattle.layered.specs.declared.answers.Stopped.{Stopped}
+use Rattle.layered.specs.declared.answers.Stopped.the-variants.{Found, NotFound}
+use Rattle.layered.specs.declared.answers.EarlyAnswer.the-variants.{Decoded}
 use Rattle.petsivola.specs.Packed.{Packs, stoppedReply}
 use borrow.Author.Needs.{needs}
 use Rattle.petsivola.proofs.of_early.Statement.{statement}

@@ -9,7 +9,7 @@ use Rattle.trellis.specs.Lists.{pick}
 use Rattle.machine.specs.Line.{lineBytes, lineCases}
 use Rattle.machine.specs.CodeLine.{Read, good, bad, Code, parse}
 use Rattle.machine.specs.inner.Blocks.{Kept, first, later, ended}
-use Rattle.text.specs.declared.State.{State}
+use Rattle.text.specs.declared.state.State.{State}
 
 -- how many bytes of the line so far, how many of the code line (0 before it is read), whether the program has ended; and the two buffers
 pub record Held : Type 0 where

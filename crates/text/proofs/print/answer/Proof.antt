@@ -3,7 +3,7 @@ use mathlib.Core.Path.{ap, _∙_}
 use borrow.Author.Needs.{needs}
 use Rattle.trellis.specs.Reply.{refusal, foundIn, notFoundIn}
 use Rattle.layered.specs.Answers.{answerReply}
-use Rattle.layered.specs.declared.Answer.the-variants.{Decoded}
+use Rattle.layered.specs.declared.answers.Answer.the-variants.{Decoded}
 use Rattle.text.proofs.Printing.{line-of, length-of}
 use Rattle.text.proofs.print.answer.Statement.{statement}
 use Rattle.text.proofs.print.answer.Tie as tie

@@ -7,8 +7,8 @@ use lib.Dec.{ltb}
 use lib.ListN.{length}
 use Rattle.machine.specs.Line.{lineReply, lineLeaves, lineOk}
 use Rattle.text.proofs.Digits.{fault-none, fault-some}
-use Rattle.text.proofs.line.Statement.{statement}
-use Rattle.text.proofs.line.Tie as tie
+use Rattle.text.proofs.hex.line.Statement.{statement}
+use Rattle.text.proofs.hex.line.Tie as tie
 
 -- past 15 and 14
 accepted : (c : tie.Else3) → (ltb 32768 (length (c .before .before .before .before .before .before .args .text .now)) ≡ false) × (lineOk (c .before .before .before .before .before .before .args .text .now) ≡ true)
