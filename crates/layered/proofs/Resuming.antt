@@ -14,7 +14,7 @@ use Rattle.trellis.specs.Lists.{pick, allTo, part}
 use Rattle.trellis.specs.Record.{groupLength, recordOk}
 use Rattle.trellis.specs.Rules.{powerOf, sizeOf, ruleFor}
 use Rattle.trellis.specs.Reply.{Reply, accepted, refusal}
-use Rattle.checknode.specs.Answers.{expandReply}
+use Rattle.expansion.specs.Answers.{expandReply}
 use Rattle.machine.specs.CodeLine.{zeroIn}
 use Rattle.machine.specs.inner.Tables.{before}
 use Rattle.machine.proofs.Lists.{all-not}

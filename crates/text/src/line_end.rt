@@ -1,8 +1,8 @@
 // What happens where a line ends: the code line is read and kept or refused, a frame is printed.
 use crate::State;
 use crate::num;
-use checknode::Written;
 use codeline::Header;
+use field::Written;
 ghost use mathlib.Core.Path.{_≡_};
 ghost use mathlib.Core.Bool.{false, not};
 ghost use mathlib.Core.List.{_++_};

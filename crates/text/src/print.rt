@@ -1,5 +1,5 @@
 // The printed line of a frame: decoded from its line of text, and printed as two hexadecimal digits a byte.
-use checknode::Written;
+use field::Written;
 use layered::Answer;
 use layered::Outcome;
 ghost use mathlib.Core.Path.{_≡_};
