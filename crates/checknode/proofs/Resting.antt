@@ -26,8 +26,10 @@ use Rattle.engine.specs.inner.Terms.{termOf, sumTo}
 use Rattle.engine.specs.inner.Rests.{lineAt}
 use Rattle.engine.proofs.Lines.{placed-row}
 use Rattle.engine.proofs.Record.{shift-is, record-parts}
-use Rattle.tables.specs.Calls.{inRange, sentLeaves, groupsLength, groupsLeave}
-use Rattle.tables.proofs.Meaning.{Asked, sent-means, groups-mean}
+use Rattle.tables.specs.Calls.{inRange, sentLeaves}
+use Rattle.groups.specs.Calls.{groupsLength, groupsLeave}
+use Rattle.tables.proofs.Meaning.{Asked, sent-means}
+use Rattle.groups.proofs.Meaning.{groups-mean}
 use Rattle.checknode.specs.inner.Asks.{shiftsOf}
 use Rattle.field.specs.Answers.{rowOf}
 use Rattle.checknode.specs.inner.Lines.{restsOf, sideOf, Rests, sentFrom, sentColumn, SendsRoom}

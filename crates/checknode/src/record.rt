@@ -102,7 +102,7 @@ fn record_with(
     let e = out.len();
     field::rows(rules::power(first), weights, rows);
     rests_in(first, weights, costs, rows, rests, &mut out[..d]);
-    tables::groups(rules::rule_of(first), d, rests, &mut out[d..e]);
+    groups::groups(rules::rule_of(first), d, rests, &mut out[d..e]);
 }
 
 // The record, in parts of the room.
