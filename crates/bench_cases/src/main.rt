@@ -1,7 +1,7 @@
 // Runs the cases of document 01's bench table, with the degrees of document 02, through the public calls and prints what they answer, a line
 // each; the file stdout beside src/ holds what is expected.
-use checknode::Element;
-use checknode::Written;
+use field::Element;
+use field::Written;
 use libc::STDOUT_FILENO;
 
 fn digit(n: u8) -> u8 {
@@ -27,7 +27,7 @@ fn end_line() {
 }
 
 fn product_case(p: u8, a: u8, b: u8) {
-    match checknode::product(p, a, b) {
+    match field::product(p, a, b) {
         Element::Is(x) => {
             io::write_all(STDOUT_FILENO, b"product ");
             print_byte(x);
@@ -79,10 +79,10 @@ fn expand_case(answer: Written, weights: &[u8], record: &[u8]) {
     match answer {
         Written::Bytes(n) => {
             if n <= record.len() {
-                print_count(checknode::expand(2, weights, &record[..n], &mut out));
+                print_count(expansion::expand(2, weights, &record[..n], &mut out));
             }
         }
-        Written::Refused(_) => print_count(checknode::expand(2, weights, b"", &mut out)),
+        Written::Refused(_) => print_count(expansion::expand(2, weights, b"", &mut out)),
     }
 }
 

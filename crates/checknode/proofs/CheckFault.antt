@@ -3,7 +3,7 @@ use mathlib.Core.Path.{_≡_, refl, _∙_, sym}
 use mathlib.Core.Bool.{Bool, true, false, not}
 use mathlib.Core.Logic.{_≢_}
 use mathlib.Core.List.{List}
-use Prim.Native.Nat.{ℕ, _+_, _-_, _*_, _^_, _≤_, _<_}
+use Prim.Native.Nat.{ℕ, _-_, _*_, _≤_, _<_}
 use native.Mathlib.Decide.{ℕ-discrete}
 use native.Mathlib.Omega.{arith}
 use borrow.Author.Tests.{eq-eqb, ne-eqb, lt-ltb, le-ltb}
@@ -14,9 +14,10 @@ use Rattle.trellis.specs.Record.{recordLength}
 use Rattle.trellis.specs.Rules.{ruleFor, sizeOf, firstOk}
 use Rattle.trellis.specs.Ready.{Ready}
 use Rattle.trellis.proofs.Tests.{of-true}
-use Rattle.checknode.specs.Answers.{weightsOk, zeroOk, checkCases, checkFault}
-use Rattle.checknode.specs.inner.Asks.{weightsFault}
-use Rattle.checknode.proofs.Refusals.{Weighed, at-least, no-fault, fault-case, rest-case, ready-law}
+use Rattle.field.specs.Answers.{weightsOk, weightsFault}
+use Rattle.checknode.specs.Answers.{zeroOk, checkCases, checkFault}
+use Rattle.field.proofs.Weighed.{Weighed, at-least, no-fault, fault-case, rest-case}
+use Rattle.checknode.proofs.Zeros.{ready-law}
 
 module _ (first : ℕ) (ws cs : List ℕ) (room : ℕ) where
   -- the tests in their order

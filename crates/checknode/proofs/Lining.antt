@@ -12,12 +12,14 @@ use Rattle.trellis.specs.Field.{xor, product}
 use Rattle.trellis.specs.Check.{firstZero}
 use Rattle.trellis.specs.Rules.{powerOf, sizeOf}
 use Rattle.trellis.specs.Ready.{Ready}
-use Rattle.engine.specs.inner.Lines.{placed}
-use Rattle.checknode.specs.inner.Asks.{Times}
-use Rattle.checknode.specs.inner.Lines.{PlaceRoom, LinesRoom, rowOf, restsFrom, restsOf, sentFrom, sentColumn, SendRoom, SendsRoom}
 use Rattle.trellis.proofs.Loops.{length-tab, getD-tab, tab-more, length-even, block-more}
-use Rattle.checknode.proofs.Filling.{column-term}
-use Rattle.checknode.proofs.Turns.{part-is}
+use Rattle.trellis.proofs.Ready.{ready-low, costs-length}
+use Rattle.engine.specs.inner.Lines.{placed}
+use Rattle.field.specs.Answers.{rowOf}
+use Rattle.field.proofs.Blocks.{part-room, block-at}
+use Rattle.field.proofs.Filling.{row-full}
+use Rattle.checknode.specs.inner.Lines.{PlaceRoom, ColumnRoom, LinesRoom, lineFrom, restsFrom, restsOf, sentFrom, sentColumn, SendRoom, SendsRoom}
+use Rattle.checknode.proofs.Turns.{part-is, ready-times}
 
 pub rest-below : (costs row line : List ℕ) (s x : ℕ) → PlaceRoom costs row s line → x < length costs → xor (getD row x 0) s < length line
 unfolding xor
@@ -47,15 +49,30 @@ unfolding placed
 length-placed costs row s zero l = refl
 length-placed costs row s (suc q) l = simp length-set (length-placed costs row s q l)
 
-pub line-room : (p h : ℕ) (costs line : List ℕ) {row : List ℕ} {z : ℕ} → Times p h → row ≡ tab (product p h) (2 ^ p) → z ≡ firstZero costs → firstZero costs < 2 ^ p → length costs ≡ 2 ^ p → 2 ^ p ≤ length line
-    → PlaceRoom costs row (getD row z 0) line
-line-room p h costs line {row} {z} T e k l o u =
-    let at : (x : ℕ) → x < 2 ^ p → getD row x 0 < 2 ^ p = λ x i. rw (e, getD-tab (product p h) (2 ^ p) x i) (T .closed x i) in
-    record { p = p; wide = u; full = omega (arith, ap length e, length-tab (product p h) (2 ^ p)); below = λ x i. at x (omega arith); s-below = at z (omega arith) }
+pub place-room : (costs row line : List ℕ) {z : ℕ} → ColumnRoom costs row line → z ≡ firstZero costs → PlaceRoom costs row (getD row z 0) line
+place-room costs row line {z} C e =
+    record {
+      p = C .p;
+      wide = C .wide;
+      full = omega (arith, C .of-costs, C .of-row);
+      below = λ x i. C .below x (omega (arith, C .of-costs));
+      s-below = C .below z (omega (arith, C .zero));
+    }
 
-pub line-done : (p h : ℕ) (costs : List ℕ) (l : ℕ) {row line o : List ℕ} {z : ℕ} → row ≡ tab (product p h) (2 ^ p) → z ≡ firstZero costs → firstZero costs < 2 ^ p → length costs ≡ 2 ^ p
-    → line ≡ tab (λ a. 0) l → o ≡ placed costs row (getD row z 0) (length costs) line → o ≡ restsFrom p h costs l
-line-done p h costs l e k u o c s = rw (s, c, column-term p h costs e k u, o, e) refl
+-- the products of column n's weight, among those of all
+pub row-at : (p : ℕ) (ws rows : List ℕ) (n w : ℕ) → rows ≡ blocks (rowOf p ws) (length ws) → n < length ws → w ≡ 2 ^ p → take (n * w + w - n * w) (drop (n * w) rows) ≡ rowOf p ws n
+row-at p ws rows n w e h k = rw (add-sub-cancel-left (n * w) w, e, k) (block-at (2 ^ p) (rowOf p ws) (row-full p ws) (length ws) n h)
+
+pub rows-length : (p : ℕ) (ws rows : List ℕ) → rows ≡ blocks (rowOf p ws) (length ws) → length rows ≡ length ws * 2 ^ p
+rows-length p ws rows e = ap length e ∙ length-even (rowOf p ws) (2 ^ p) (row-full p ws) (length ws)
+
+pub column-term : (p h : ℕ) (costs : List ℕ) {row : List ℕ} {z : ℕ} → row ≡ tab (product p h) (2 ^ p) → z ≡ firstZero costs → firstZero costs < 2 ^ p
+    → getD row z 0 ≡ product p h (firstZero costs)
+column-term p h costs e k l = rw (e, k) (getD-tab (product p h) (2 ^ p) (firstZero costs) l)
+
+pub line-done : (p h : ℕ) (costs : List ℕ) (l : ℕ) {row line o : List ℕ} → row ≡ tab (product p h) (2 ^ p) → firstZero costs < 2 ^ p → length costs ≡ 2 ^ p
+    → line ≡ tab (λ a. 0) l → o ≡ lineFrom costs row line → o ≡ restsFrom p h costs l
+line-done p h costs l e u o c s = rw (s, c, column-term p h costs e refl u, o, e) refl
 
 -- fresh room is cleared, and so is each part of cleared room
 pub cleared-room : (n : ℕ) → replicate n 0 ≡ tab (λ a. 0) (length {A = ℕ} (replicate n 0))
@@ -73,20 +90,51 @@ cleared-part l a n e =
     ∙ getD-tab (λ a. 0) (length l) (a + i) (omega arith) ∙ sym (getD-tab (λ a. 0) (length (part l a n)) i h))
 
 -- each column's part of the room
-pub row-full : (p : ℕ) (ws : List ℕ) (n : ℕ) → length (rowOf p ws n) ≡ 2 ^ p
-row-full p ws n = length-tab _ (2 ^ p)
-
 pub rests-full : (p : ℕ) (ws cs : List ℕ) (l n : ℕ) → length (restsOf p ws cs l n) ≡ l
 rests-full p ws cs l n = length-placed _ _ _ (2 ^ p) (tab (λ a. 0) l) ∙ length-tab _ l
 
-pub lines-room : (first l : ℕ) (ws cs rows lines out : List ℕ) → Ready first ws cs → LinesRoom (powerOf first) l (length ws) rows lines out → (n : ℕ) → n < length ws → (w : ℕ) → w ≡ sizeOf first
-    → (n * w + w ≤ length cs) × (n * w + w ≤ length rows) × (n * l + l ≤ length lines) × (n < length out)
-lines-room first l ws cs rows lines out D R n h w e =
-    let a : n * w + w ≤ length ws * w = rw suc-mul at (mul-le-mul-right w h) in
-    let b : n * l + l ≤ length ws * l = rw suc-mul at (mul-le-mul-right l h) in
-    let c : length cs ≡ length ws * w = D .count ∙ ap (λ k. length ws * k) (sym e) in
-    let r : length rows ≡ length ws * w = R .of-rows ∙ ap (λ k. length ws * k) (sym e) in
-    (omega arith, omega arith, omega (arith, R .of-lines), omega (arith, R .of-out))
+module _ (first l : ℕ) (ws cs rows lines out : List ℕ) (D : Ready first ws cs) (E : rows ≡ blocks (rowOf (powerOf first) ws) (length ws)) where
+  pub lines-room : LinesRoom (powerOf first) l (length ws) lines out → (n : ℕ) → n < length ws → (w : ℕ) → w ≡ sizeOf first
+      → (n * w + w ≤ length cs) × (n * w + w ≤ length rows) × (n * l + l ≤ length lines) × (n < length out)
+  lines-room R n h w e =
+      let a : n * w + w ≤ length ws * w = part-room n (length ws) w h in
+      let b : n * l + l ≤ length ws * l = part-room n (length ws) l h in
+      let c : length cs ≡ length ws * w = D .count ∙ ap (λ k. length ws * k) (sym e) in
+      let r : length rows ≡ length ws * w = rows-length (powerOf first) ws rows E ∙ ap (λ k. length ws * k) (sym e) in
+      (omega arith, omega arith, omega (arith, R .of-lines), omega (arith, R .of-out))
+
+  -- column n, of the parts of costs and products
+  pub column-room : (n : ℕ) → n < length ws → (w : ℕ) → w ≡ sizeOf first → (line : List ℕ) → sizeOf first ≤ length line
+      → ColumnRoom (take (n * w + w - n * w) (drop (n * w) cs)) (take (n * w + w - n * w) (drop (n * w) rows)) line
+  column-room n h w e line k =
+      let p : ℕ = powerOf first in
+      let c = part-is first ws cs D n h w e in
+      let r = row-at p ws rows n w E h e in
+      record {
+        p = p;
+        low = ready-low first ws cs D;
+        of-costs = ap length c ∙ costs-length first ws cs D n h;
+        of-row = ap length r ∙ row-full p ws n;
+        wide = k;
+        below = λ x i. rw (r, getD-tab (product p (getD ws n 0)) (2 ^ p) x i) (ready-times first ws cs D n h .closed x i);
+        zero = rw c (D .zeros n h);
+      }
+
+  -- what a turn leaves of it
+  pub column-turn : (n : ℕ) → n < length ws → (w : ℕ) → w ≡ sizeOf first
+      → {s : ℕ} → s ≡ getD (take (n * w + w - n * w) (drop (n * w) rows)) (firstZero (take (n * w + w - n * w) (drop (n * w) cs))) 0
+      → s ≡ product (powerOf first) (getD ws n 0) (firstZero (take (n * w + w - n * w) (drop (n * w) cs)))
+  column-turn n h w e o =
+      let z : firstZero (take (n * w + w - n * w) (drop (n * w) cs)) < sizeOf first = rw (part-is first ws cs D n h w e) (D .zeros n h) in
+      o ∙ column-term (powerOf first) (getD ws n 0) (take (n * w + w - n * w) (drop (n * w) cs)) (row-at (powerOf first) ws rows n w E h e) refl z
+
+  pub line-turn : (n : ℕ) → n < length ws → (w : ℕ) → w ≡ sizeOf first → {line o : List ℕ} → line ≡ tab (λ a. 0) (length line)
+      → o ≡ lineFrom (take (n * w + w - n * w) (drop (n * w) cs)) (take (n * w + w - n * w) (drop (n * w) rows)) line
+      → o ≡ restsFrom (powerOf first) (getD ws n 0) (take (n * w + w - n * w) (drop (n * w) cs)) (length line)
+  line-turn n h w e {line} c o =
+      let q = part-is first ws cs D n h w e in
+      line-done (powerOf first) (getD ws n 0) (take (n * w + w - n * w) (drop (n * w) cs)) (length line) (row-at (powerOf first) ws rows n w E h e)
+      (rw q (D .zeros n h)) (ap length q ∙ costs-length first ws cs D n h) c o
 
 -- the lines that are not yet reached are as they were
 pub line-cleared : (p : ℕ) (ws cs : List ℕ) (l n : ℕ) (lines₀ lines : List ℕ) → lines₀ ≡ tab (λ a. 0) (length lines₀)
@@ -99,10 +147,6 @@ line-cleared p ws cs l n lines₀ lines z e =
     rw d (cleared-part lines₀ (n * l) (n * l + l - n * l) z)
 
 -- a turn of the loop over the columns
-pub rows-turn : (p : ℕ) (ws : List ℕ) (n w : ℕ) (rows₀ rows : List ℕ) {r : List ℕ} → w ≡ 2 ^ p → rows ≡ blocks (rowOf p ws) n ++ drop (n * 2 ^ p) rows₀ → r ≡ tab (product p (getD ws n 0)) (2 ^ p)
-    → take (n * w) rows ++ (r ++ drop (n * w + w - n * w) (drop (n * w) rows)) ≡ blocks (rowOf p ws) (n + 1) ++ drop ((n + 1) * 2 ^ p) rows₀
-rows-turn p ws n w rows₀ rows e h k = rw e (block-more (rowOf p ws) (2 ^ p) (row-full p ws) rows₀ rows n h k)
-
 pub lines-turn : (first : ℕ) (ws cs : List ℕ) (l n : ℕ) → Ready first ws cs → n < length ws → (w : ℕ) (lines₀ lines : List ℕ) {r : List ℕ} → w ≡ sizeOf first → lines ≡ blocks (restsOf (powerOf first) ws cs l) n ++ drop (n * l) lines₀
     → length lines₀ ≡ length ws * l → length lines ≡ length lines₀ → r ≡ restsFrom (powerOf first) (getD ws n 0) (take (n * w + w - n * w) (drop (n * w) cs)) (length (take (n * l + l - n * l) (drop (n * l) lines)))
     → take (n * l) lines ++ (r ++ drop (n * l + l - n * l) (drop (n * l) lines)) ≡ blocks (restsOf (powerOf first) ws cs l) (n + 1) ++ drop ((n + 1) * l) lines₀

@@ -1,7 +1,7 @@
 -- The engine's calls on an accepted check: the lines are the columns', so what `tables` leaves is what is left of 255 after each sent cost; with the
 -- shifts that gives the record, and by symbols the sent costs.
-use mathlib.Core.Path.{_≡_, refl, sym, ap, ap₂, _∙_}
-use mathlib.Core.Bool.{Bool, true, false}
+use mathlib.Core.Path.{_≡_, refl, sym, ap, _∙_}
+use mathlib.Core.Bool.{Bool}
 use mathlib.Core.List.{List, [], _∷_, _++_, map, append-nil}
 use Prim.Native.Nat.{ℕ, zero, suc, _+_, _-_, _*_, _^_, _≤_, _<_, max}
 use native.Mathlib.Nat.{zero-add, mul-comm, mul-le-mul, le-refl}
@@ -9,16 +9,15 @@ use native.Mathlib.Decide.{decLe}
 use native.Mathlib.Omega.{arith}
 use lib.Pow.{pow-mono}
 use borrow.Author.Tests.{le-leb}
-use lib.Dec.{leb}
 use lib.ListN.{length, take, drop, getD, drop-of-length-le, length-take, length-drop}
 use lib.Seq.{getD-take, getD-drop, take-at, drop-at, drop-drop}
 use Rattle.trellis.specs.Lists.{tab, blocks, part, each, upTo, countFrom}
 use Rattle.trellis.specs.Field.{xor, product}
-use Rattle.trellis.specs.Check.{Column, column, weigh, decision, shift, sent, sentAt, allSent}
+use Rattle.trellis.specs.Check.{Column, column, weigh, shift, sent, sentAt, allSent}
 use Rattle.trellis.specs.Record.{recordOf, groupLength, recordLength, group}
-use Rattle.trellis.specs.Rules.{ruleFor, powerOf, sizeOf, mostOf, greatestOf, columnsOf, costsAt}
+use Rattle.trellis.specs.Rules.{ruleFor, powerOf, sizeOf, mostOf, greatestOf, columnsOf}
 use Rattle.trellis.specs.Ready.{Ready}
-use Rattle.trellis.proofs.Xor.{xor-lt, xor-comm}
+use Rattle.trellis.proofs.Xor.{xor-lt}
 use Rattle.trellis.proofs.Loops.{length-tab, getD-tab, tab-ext, map-tab, blocks-ext, each-blocks}
 use Rattle.trellis.proofs.Rules.{most-some, most-few}
 use Rattle.trellis.proofs.Ready.{length-columns, column-at, ready-low, ready-high, ready-proper}
@@ -27,13 +26,17 @@ use Rattle.engine.specs.inner.Terms.{termOf, sumTo}
 use Rattle.engine.specs.inner.Rests.{lineAt}
 use Rattle.engine.proofs.Lines.{placed-row}
 use Rattle.engine.proofs.Record.{shift-is, record-parts}
-use Rattle.tables.specs.Calls.{side, inRange, sentLeaves, groupsLength, groupsLeave}
-use Rattle.tables.proofs.Meaning.{Asked, sent-means, groups-mean}
+use Rattle.tables.specs.Calls.{inRange, sentLeaves}
+use Rattle.groups.specs.Calls.{groupsLength, groupsLeave}
+use Rattle.tables.proofs.Meaning.{Asked, sent-means}
+use Rattle.groups.proofs.Meaning.{groups-mean}
 use Rattle.checknode.specs.inner.Asks.{shiftsOf}
-use Rattle.checknode.specs.inner.Lines.{rowOf, restsOf, sideOf, Rests, sentFrom, sentColumn, SendsRoom}
-use Rattle.checknode.proofs.Blocks.{in-block}
+use Rattle.field.specs.Answers.{rowOf}
+use Rattle.checknode.specs.inner.Lines.{restsOf, sideOf, Rests, sentFrom, sentColumn, SendsRoom}
+use Rattle.field.proofs.Blocks.{in-block}
+use Rattle.field.proofs.Filling.{row-full}
 use Rattle.checknode.proofs.Turns.{ready-times}
-use Rattle.checknode.proofs.Lining.{row-full, rests-full}
+use Rattle.checknode.proofs.Lining.{rests-full}
 
 -- elements that are bytes, in a part too
 take-bytes : (n : ℕ) (l : List ℕ) → ((i : ℕ) → getD l i 0 ≤ 255) → (i : ℕ) → getD (take n l) i 0 ≤ 255

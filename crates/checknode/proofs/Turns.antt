@@ -12,6 +12,7 @@ use Rattle.trellis.specs.Check.{firstZero}
 use Rattle.trellis.specs.Rules.{powerOf, costsAt}
 use Rattle.trellis.specs.Ready.{Ready}
 use Rattle.engine.specs.inner.Terms.{termOf, sumTo}
+use Rattle.field.specs.inner.Asks.{Factors}
 use Rattle.checknode.specs.inner.Asks.{Times}
 use Rattle.trellis.proofs.FieldLaws.{fields-at, has-inverse}
 use Rattle.trellis.proofs.Ready.{ready-low, ready-high}
@@ -42,3 +43,7 @@ module _ (first : ℕ) (ws cs : List ℕ) (D : Ready first ws cs) (n : ℕ) (h :
   pub sum-turn : {sum s : ℕ} → sum ≡ sumTo (termOf p ws cs) n → s ≡ termOf p ws cs n → bitXor sum s ≡ sumTo (termOf p ws cs) (n + 1)
   unfolding xor
   sum-turn e s = rw (e, s, add-one n)
+
+-- the weights are factors
+pub ready-factors : (first : ℕ) (ws cs : List ℕ) → Ready first ws cs → Factors (powerOf first) ws
+ready-factors first ws cs D = record { low = ready-low first ws cs D; high = ready-high first ws cs D; few = D .few; elements = D .weight-small }

@@ -1,6 +1,5 @@
 // The hard decision of a column: the smallest symbol of cost 0, and its margin.
 use crate::Decision;
-use crate::num;
 ghost use mathlib.Core.Path.{_≡_};
 ghost use lib.Dec.{eqb};
 ghost use lib.ListN.{length};
@@ -22,7 +21,7 @@ fn least_but(costs: &[u8], z: usize) -> u8
     let mut least: u8 = 255;
     let mut x = 0;
     while x < costs.len() {
-        least = num::lower(least, but(costs[x], x, z));
+        least = numbers::min_u8(least, but(costs[x], x, z));
         x += 1;
     }
     least
@@ -35,7 +34,7 @@ fn margin_at(costs: &[u8], z: usize) -> u16
     if costs.len() < 2 {
         return 0;
     }
-    num::wide(least_but(costs, z))
+    numbers::u8_to_u16(least_but(costs, z))
 }
 
 // The search yields by `break`. Without a cost of 0 the symbol is the number of costs.

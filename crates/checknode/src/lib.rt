@@ -1,19 +1,15 @@
-// The field and one check: product, a column's hard decision, the packed record of a check's messages, alone and beside the messages, and its expansion.
-mod expansion;
-mod field;
-mod form;
+// One check: a column's hard decision, the packed record of a check's messages, alone and beside the messages.
 mod hard_decision;
 mod lines;
-mod num;
-mod products;
 mod record;
+mod refusals;
 mod send;
-mod table;
-mod tests;
 
+use field::Written;
 ghost use mathlib.Core.Path.{_≡_};
 ghost use Rattle.trellis.specs.Check.{decide as decideOf};
-ghost use Rattle.checknode.specs.Answers.{elementReply, productReply, writtenReply, checkFault, checkReply, checkLeaves, messagesReply, messagesLeaves, messagesSent, expandReply, expandLeaves};
+ghost use Rattle.field.specs.Answers.{writtenReply};
+ghost use Rattle.checknode.specs.Answers.{checkFault, checkReply, checkLeaves, messagesReply, messagesLeaves, messagesSent};
 
 // A hard decision: the symbol and its margin.
 pub struct Decision {
@@ -21,52 +17,20 @@ pub struct Decision {
     pub margin: u16,
 }
 
-// A product, or the number of the refusal.
-pub enum Element {
-    Is(u8),
-    Refused(u8),
-}
-
-// How many bytes were written, or the number of the refusal.
-pub enum Written {
-    Bytes(usize),
-    Refused(u8),
-}
-
-// The product of two elements of the field of 2 ^ p. Refused: 6, p not 2 to 6; 11, a or b no element.
-pub fn product(p: u8, a: u8, b: u8) -> Element
-    ensures { λ r. ⌜ elementReply r ≡ productReply p a b ⌝ }
-{
-    if p < 2 {
-        return Element::Refused(6);
-    }
-    if 6 < p {
-        return Element::Refused(6);
-    }
-    let q = field::size(p);
-    if q <= a {
-        return Element::Refused(11);
-    }
-    if q <= b {
-        return Element::Refused(11);
-    }
-    Element::Is(field::times(p, a, b))
-}
-
-// A column's hard decision, the smallest symbol of cost 0, with its margin: the least cost of the other symbols. Without a cost of 0 it is the
-// number of costs, with margin 0.
+// A column's hard decision, the smallest symbol of cost 0, with its margin: the least cost of the other symbols. Without a cost of 0 it
+// is the number of costs, with margin 0.
 pub fn decide(costs: &[u8]) -> Decision
     ensures { λ r. ⌜ (r .symbol ≡ decideOf (now (costs .entry)) .symbol) × (r .margin ≡ decideOf (now (costs .entry)) .margin) ⌝ }
 {
     hard_decision::decide(costs)
 }
 
-// The number by which a check is refused whose record buffer has `room` bytes, or 0: 6, the first byte; 9, degree not 2 to 32; 11, a weight 0 or
-// no element; 12, cost count; 13, a column without a cost of 0; 4, record buffer too short.
+// The number by which a check is refused whose record buffer has `room` bytes, or 0: 6, the first byte; 9, degree not 2 to 32; 11, a
+// weight 0 or no element; 12, cost count; 13, a column without a cost of 0; 4, record buffer too short.
 pub fn check_fault(first: u8, weights: &[u8], costs: &[u8], room: usize) -> u8
     ensures { λ r. ⌜ r ≡ checkFault first (now (weights .entry)) (now (costs .entry)) room ⌝ }
 {
-    tests::check_fault(first, weights, costs, room)
+    refusals::check_fault(first, weights, costs, room)
 }
 
 // The record of a check: from the first code byte, d weights and d times q costs, column by column, d + (1 + 2k)(q - 1) bytes. Refused as
@@ -75,24 +39,27 @@ pub fn check(first: u8, weights: &[u8], costs: &[u8], out: &mut [u8]) -> Written
     ensures { λ r. ⌜ writtenReply r ≡ checkReply first (now (weights .entry)) (now (costs .entry)) (now (out .entry)) ⌝ }
     ensures { λ _. ⌜ now (out .exit) ≡ checkLeaves first (now (weights .entry)) (now (costs .entry)) (now (out .entry)) ⌝ }
 {
-    let k = tests::check_fault(first, weights, costs, out.len());
+    let k = refusals::check_fault(first, weights, costs, out.len());
     if k != 0 {
         return Written::Refused(k);
     }
     let w = rules::size(first);
-    let n = form::record_bytes(first, weights.len());
+    let n = record::record_bytes(first, weights.len());
     record::record_in(first, w, weights, costs, &mut out[..n]);
     Written::Bytes(n)
 }
 
-// The record of a check and, in a second buffer, its sent costs: d times q bytes, column by column, each column by x. Refused as a check is;
-// last 2, the second buffer too short. The answer is how many bytes the record has, as of a check.
+// The record of a check and, in a second buffer, its sent costs: d times q bytes, column by column, each column by x. Refused as a check
+// is; last 2, the second buffer too short. The answer is how many bytes the record has, as of a check.
 pub fn messages(first: u8, weights: &[u8], costs: &[u8], out: &mut [u8], sent: &mut [u8]) -> Written
-    ensures { λ r. ⌜ writtenReply r ≡ messagesReply first (now (weights .entry)) (now (costs .entry)) (now (out .entry)) (now (sent .entry)) ⌝ }
-    ensures { λ _. ⌜ now (out .exit) ≡ messagesLeaves first (now (weights .entry)) (now (costs .entry)) (now (out .entry)) (now (sent .entry)) ⌝ }
-    ensures { λ _. ⌜ now (sent .exit) ≡ messagesSent first (now (weights .entry)) (now (costs .entry)) (now (out .entry)) (now (sent .entry)) ⌝ }
+    ensures { λ r. ⌜
+        writtenReply r ≡ messagesReply first (now (weights .entry)) (now (costs .entry)) (now (out .entry)) (now (sent .entry)) ⌝ }
+    ensures { λ _. ⌜
+        now (out .exit) ≡ messagesLeaves first (now (weights .entry)) (now (costs .entry)) (now (out .entry)) (now (sent .entry)) ⌝ }
+    ensures { λ _. ⌜
+        now (sent .exit) ≡ messagesSent first (now (weights .entry)) (now (costs .entry)) (now (out .entry)) (now (sent .entry)) ⌝ }
 {
-    let k = tests::check_fault(first, weights, costs, out.len());
+    let k = refusals::check_fault(first, weights, costs, out.len());
     if k != 0 {
         return Written::Refused(k);
     }
@@ -102,30 +69,7 @@ pub fn messages(first: u8, weights: &[u8], costs: &[u8], out: &mut [u8], sent: &
     if sent.len() < m {
         return Written::Refused(2);
     }
-    let n = form::record_bytes(first, d);
+    let n = record::record_bytes(first, d);
     record::messages_in(first, w, weights, costs, &mut out[..n], &mut sent[..m]);
-    Written::Bytes(n)
-}
-
-// The expansion of a record: from the first code byte, d weights and a record, d times q bytes, column by column, each column by x. Refused:
-// 6, the first byte; 9, degree not 2 to 32; 11, a weight 0 or no element; 16, the record's form; 2, buffer too short.
-pub fn expand(first: u8, weights: &[u8], bytes: &[u8], out: &mut [u8]) -> Written
-    ensures { λ r. ⌜ writtenReply r ≡ expandReply first (now (weights .entry)) (now (bytes .entry)) (now (out .entry)) ⌝ }
-    ensures { λ _. ⌜ now (out .exit) ≡ expandLeaves first (now (weights .entry)) (now (bytes .entry)) (now (out .entry)) ⌝ }
-{
-    let k = tests::weights_fault(first, weights);
-    if k != 0 {
-        return Written::Refused(k);
-    }
-    let d = weights.len();
-    let w = rules::size(first);
-    if !form::record_ok(first, bytes, d) {
-        return Written::Refused(16);
-    }
-    let n = d * w;
-    if out.len() < n {
-        return Written::Refused(2);
-    }
-    expansion::expand_in(first, w, weights, bytes, &mut out[..n]);
     Written::Bytes(n)
 }

@@ -1,26 +1,23 @@
-// The lines of one check: for each column, what is left of 255 after the cost of the symbol in each row. Beside them each weight's products
-// with every symbol are kept, for the sent costs.
+// The lines of one check: for each column, what is left of 255 after the cost of the symbol in each row.
 use crate::hard_decision;
-use crate::num;
-use crate::products;
 ghost use mathlib.Core.Path.{_≡_};
-ghost use Prim.Native.Nat.{_-_, _*_, _%_, _^_, _≤_, _<_};
+ghost use Prim.Native.Nat.{_-_, _%_, _<_};
 ghost use lib.ListN.{length, getD};
 ghost use Rattle.trellis.specs.Lists.{tab, blocks};
-ghost use Rattle.trellis.specs.Field.{xor, product};
+ghost use Rattle.trellis.specs.Field.{xor};
 ghost use Rattle.trellis.specs.Check.{firstZero};
 ghost use Rattle.trellis.specs.Rules.{powerOf};
 ghost use Rattle.trellis.specs.Ready.{Ready};
 ghost use Rattle.engine.specs.inner.Terms.{termOf, sumTo};
 ghost use Rattle.engine.specs.inner.Lines.{placed};
-ghost use Rattle.checknode.specs.inner.Asks.{Times, TableFor};
-ghost use Rattle.checknode.specs.inner.Lines.{PlaceRoom, restsFrom, restsOf, rowOf, LinesRoom};
+ghost use Rattle.field.specs.Answers.{rowOf};
+ghost use Rattle.checknode.specs.inner.Lines.{PlaceRoom, ColumnRoom, lineFrom, restsOf, LinesRoom};
 
 // The row of a symbol, from its product.
 fn row_of(product: u8, s: u8) -> usize
     ensures { λ r. ⌜ (r ≡ xor product s) × (r < 256) ⌝ }
 {
-    num::index(product ^ s)
+    numbers::u8_to_usize(product ^ s)
 }
 
 // What is left of 255.
@@ -30,8 +27,8 @@ fn rest_of(cost: u8) -> u8
     255 - cost
 }
 
-// The rests of four symbols, put into their rows. All are read before the first is written: a read behind a write may have to wait until the
-// row of that write is known.
+// The rests of four symbols, put into their rows. All are read before the first is written: a read behind a write may have to wait
+// until the row of that write is known.
 fn put_four(costs: &[u8], row: &[u8], s: u8, line: &mut [u8])
     requires { ⌜ PlaceRoom (now costs) (now row) s (now line) ⌝ }
     requires { ⌜ length (now costs) ≡ 4 ⌝ }
@@ -55,7 +52,8 @@ fn put_four(costs: &[u8], row: &[u8], s: u8, line: &mut [u8])
 fn place(costs: &[u8], row: &[u8], s: u8, line: &mut [u8])
     requires { ⌜ PlaceRoom (now costs) (now row) s (now line) ⌝ }
     requires { ⌜ length (now costs) % 4 ≡ 0 ⌝ }
-    ensures { λ _. ⌜ now (line .exit) ≡ placed (now (costs .entry)) (now (row .entry)) s (length (now (costs .entry))) (now (line .entry)) ⌝ }
+    ensures { λ _. ⌜
+        now (line .exit) ≡ placed (now (costs .entry)) (now (row .entry)) s (length (now (costs .entry))) (now (line .entry)) ⌝ }
 {
     let mut x = 0;
     while x < costs.len() {
@@ -65,44 +63,40 @@ fn place(costs: &[u8], row: &[u8], s: u8, line: &mut [u8])
     }
 }
 
-// One column: its weight's products, and its line. Answers h times z. The line comes cleared: its rows from q on hold no choice, and to
+// One column's line, from its weight's products. Answers h times z. The line comes cleared: its rows from q on hold no choice, and to
 // clear each line here, where fresh room is zeros already, would be a call for each column.
-fn column(p: u8, h: u8, costs: &[u8], table: &[u8], row: &mut [u8], line: &mut [u8]) -> u8
-    requires { ⌜ Times p h ⌝ }
-    requires { ⌜ TableFor p (now table) ⌝ }
-    requires { ⌜ (length (now row) ≡ 2 ^ p) × ((2 ^ p ≤ length (now line)) × ((length (now costs) ≡ 2 ^ p) × (firstZero (now costs) < 2 ^ p))) ⌝ }
-    requires { ⌜ now line ≡ tab (λ a. 0) (length (now line)) ⌝ }
-    ensures { λ r. ⌜ r ≡ product p h (firstZero (now (costs .entry))) ⌝ }
-    ensures { λ _. ⌜ now (row .exit) ≡ tab (product p h) (2 ^ p) ⌝ }
-    ensures { λ _. ⌜ now (line .exit) ≡ restsFrom p h (now (costs .entry)) (length (now (line .entry))) ⌝ }
+fn column(costs: &[u8], row: &[u8], line: &mut [u8]) -> u8
+    requires { ⌜ ColumnRoom (now costs) (now row) (now line) ⌝ }
+    ensures { λ r. ⌜ r ≡ getD (now (row .entry)) (firstZero (now (costs .entry))) 0 ⌝ }
+    ensures { λ _. ⌜ now (line .exit) ≡ lineFrom (now (costs .entry)) (now (row .entry)) (now (line .entry)) ⌝ }
 {
-    products::fill(p, h, table, row);
     let z = hard_decision::decide(costs).symbol;
     let s = row[z];
     place(costs, row, s, line);
     s
 }
 
-// All columns: their products, their lines, l places each, and each h times z, whose sum is the answer.
+// All columns, from the products of their weights: their lines, l places each, and each h times z, whose sum is the answer.
 pub fn lines(
     first: u8,
     l: usize,
     weights: &[u8],
     costs: &[u8],
-    table: &[u8],
-    rows: &mut [u8],
+    rows: &[u8],
     lines: &mut [u8],
     out: &mut [u8],
 ) -> u8
     requires { ⌜ Ready first (now weights) (now costs) ⌝ }
-    requires { ⌜ TableFor (powerOf first) (now table) ⌝ }
-    requires { ⌜ LinesRoom (powerOf first) l (length (now weights)) (now rows) (now lines) (now out) ⌝ }
-    ensures { λ r. ⌜ r ≡ sumTo (termOf (powerOf first) (now (weights .entry)) (now (costs .entry))) (length (now (weights .entry))) ⌝ }
-    ensures { λ _. ⌜ now (rows .exit) ≡ blocks (rowOf (powerOf first) (now (weights .entry))) (length (now (weights .entry))) ⌝ }
-    ensures { λ _. ⌜ now (lines .exit) ≡ blocks (restsOf (powerOf first) (now (weights .entry)) (now (costs .entry)) l) (length (now (weights .entry))) ⌝ }
-    ensures { λ _. ⌜ now (out .exit) ≡ tab (termOf (powerOf first) (now (weights .entry)) (now (costs .entry))) (length (now (weights .entry))) ⌝ }
+    requires { ⌜ now rows ≡ blocks (rowOf (powerOf first) (now weights)) (length (now weights)) ⌝ }
+    requires { ⌜ LinesRoom (powerOf first) l (length (now weights)) (now lines) (now out) ⌝ }
+    ensures { λ r. ⌜
+        r ≡ sumTo (termOf (powerOf first) (now (weights .entry)) (now (costs .entry))) (length (now (weights .entry))) ⌝ }
+    ensures { λ _. ⌜
+        now (lines .exit)
+        ≡ blocks (restsOf (powerOf first) (now (weights .entry)) (now (costs .entry)) l) (length (now (weights .entry))) ⌝ }
+    ensures { λ _. ⌜
+        now (out .exit) ≡ tab (termOf (powerOf first) (now (weights .entry)) (now (costs .entry))) (length (now (weights .entry))) ⌝ }
 {
-    let p = rules::power(first);
     let w = rules::size(first);
     let mut sum: u8 = 0;
     let mut n = 0;
@@ -111,14 +105,7 @@ pub fn lines(
         let e = a + w;
         let b = n * l;
         let f = b + l;
-        let s = column(
-            p,
-            weights[n],
-            &costs[a..e],
-            table,
-            &mut rows[a..e],
-            &mut lines[b..f],
-        );
+        let s = column(&costs[a..e], &rows[a..e], &mut lines[b..f]);
         out[n] = s;
         sum = sum ^ s;
         n += 1;

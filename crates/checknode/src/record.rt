@@ -1,8 +1,7 @@
-// The record of an accepted check, and its sent costs. Lines and tables are worked out in what is left of 255: a choice starts with 255, and each
-// deviation takes its cost off, so that two costs are never added.
+// The record of an accepted check, and its sent costs. Lines and tables are worked out in what is left of 255: a choice starts with
+// 255, and each deviation takes its cost off, so that two costs are never added.
 use crate::lines;
 use crate::send;
-use crate::table;
 ghost use mathlib.Core.Path.{_≡_};
 ghost use Prim.Native.Nat.{_-_, _*_, _≤_, max};
 ghost use lib.ListN.{length};
@@ -11,8 +10,17 @@ ghost use Rattle.trellis.specs.Check.{allSent};
 ghost use Rattle.trellis.specs.Record.{recordOf, recordLength};
 ghost use Rattle.trellis.specs.Rules.{ruleFor, powerOf, sizeOf, columnsOf};
 ghost use Rattle.trellis.specs.Ready.{Ready};
-ghost use Rattle.checknode.specs.inner.Asks.{TableFor, shiftsOf};
-ghost use Rattle.checknode.specs.inner.Lines.{rowOf, RestsRoom, Rests};
+ghost use Rattle.field.specs.Answers.{rowOf};
+ghost use Rattle.checknode.specs.inner.Asks.{shiftsOf};
+ghost use Rattle.checknode.specs.inner.Lines.{RestsRoom, Rests};
+
+// The length of a record of degree d.
+pub fn record_bytes(first: u8, d: usize) -> usize
+    requires { ⌜ d ≤ 32 ⌝ }
+    ensures { λ r. ⌜ r ≡ recordLength (ruleFor first) d ⌝ }
+{
+    d + rules::groups(first)
+}
 
 // The places of a line: the field's rows, and sixteen at least.
 fn side(w: usize) -> usize
@@ -21,98 +29,55 @@ fn side(w: usize) -> usize
     if w < 16 { 16 } else { w }
 }
 
-// Products, rests of the sent costs and shifts, in room of the caller's; that for the lines comes cleared.
+// Rests of the sent costs, and shifts, from the products, in room of the caller's; that for the lines comes cleared.
 fn rests_with(
     first: u8,
     weights: &[u8],
     costs: &[u8],
-    table: &[u8],
-    rows: &mut [u8],
+    rows: &[u8],
     lines: &mut [u8],
     rests: &mut [u8],
     shifts: &mut [u8],
 )
     requires { ⌜ Ready first (now weights) (now costs) ⌝ }
-    requires { ⌜ TableFor (powerOf first) (now table) ⌝ }
-    requires { ⌜ RestsRoom (powerOf first) (length (now weights)) (now rows) (now rests) (now shifts) × (length (now weights) * max 16 (sizeOf first) ≤ length (now lines)) ⌝ }
+    requires { ⌜ now rows ≡ blocks (rowOf (powerOf first) (now weights)) (length (now weights)) ⌝ }
+    requires { ⌜
+        RestsRoom (powerOf first) (length (now weights)) (now rests) (now shifts)
+        × (length (now weights) * max 16 (sizeOf first) ≤ length (now lines)) ⌝ }
     requires { ⌜ now lines ≡ tab (λ a. 0) (length (now lines)) ⌝ }
-    ensures { λ _. ⌜ now (rows .exit) ≡ blocks (rowOf (powerOf first) (now (weights .entry))) (length (now (weights .entry))) ⌝ }
     ensures { λ _. ⌜ Rests first (now (weights .entry)) (now (costs .entry)) (now (rests .exit)) ⌝ }
     ensures { λ _. ⌜ now (shifts .exit) ≡ shiftsOf (powerOf first) (now (weights .entry)) (now (costs .entry)) ⌝ }
 {
     let d = weights.len();
     let l = side(rules::size(first));
     let n = d * l;
-    let sum = lines::lines(
-        first,
-        l,
-        weights,
-        costs,
-        table,
-        rows,
-        &mut lines[..n],
-        shifts,
-    );
+    let sum = lines::lines(first, l, weights, costs, rows, &mut lines[..n], shifts);
     lines::shift_all(shifts, sum);
     tables::sent(rules::rule_of(first), d, &lines[..n], rests);
 }
 
-// The same with room for the lines, fresh and so cleared. The table is copied once for all columns, where it is taken; weights, at most
-// 32, stand for no table.
+// The same with room for the lines, fresh and so cleared: a fourth of it is enough up to 16 rows.
 fn rests_in(
     first: u8,
     weights: &[u8],
     costs: &[u8],
-    rows: &mut [u8],
+    rows: &[u8],
     rests: &mut [u8],
     shifts: &mut [u8],
 )
     requires { ⌜ Ready first (now weights) (now costs) ⌝ }
-    requires { ⌜ RestsRoom (powerOf first) (length (now weights)) (now rows) (now rests) (now shifts) ⌝ }
-    ensures { λ _. ⌜ now (rows .exit) ≡ blocks (rowOf (powerOf first) (now (weights .entry))) (length (now (weights .entry))) ⌝ }
+    requires { ⌜ now rows ≡ blocks (rowOf (powerOf first) (now weights)) (length (now weights)) ⌝ }
+    requires { ⌜ RestsRoom (powerOf first) (length (now weights)) (now rests) (now shifts) ⌝ }
     ensures { λ _. ⌜ Rests first (now (weights .entry)) (now (costs .entry)) (now (rests .exit)) ⌝ }
     ensures { λ _. ⌜ now (shifts .exit) ≡ shiftsOf (powerOf first) (now (weights .entry)) (now (costs .entry)) ⌝ }
 {
-    let p = rules::power(first);
-    if p <= 4 {
+    if rules::power(first) <= 4 {
         let mut lines = [0u8; 512];
-        rests_with(
-            first,
-            weights,
-            costs,
-            weights,
-            rows,
-            &mut lines,
-            rests,
-            shifts,
-        );
+        rests_with(first, weights, costs, rows, &mut lines, rests, shifts);
         return;
     }
     let mut lines = [0u8; 2048];
-    if table::taken(p, weights.len()) {
-        let products = table::products();
-        rests_with(
-            first,
-            weights,
-            costs,
-            &products,
-            rows,
-            &mut lines,
-            rests,
-            shifts,
-        );
-        return;
-    }
-    rests_with(
-        first,
-        weights,
-        costs,
-        weights,
-        rows,
-        &mut lines,
-        rests,
-        shifts,
-    );
+    rests_with(first, weights, costs, rows, &mut lines, rests, shifts);
 }
 
 // The record: the shifts, then the groups. Products and rests are left in their room.
@@ -125,15 +90,19 @@ fn record_with(
     out: &mut [u8],
 )
     requires { ⌜ Ready first (now weights) (now costs) ⌝ }
-    requires { ⌜ (length (now rows) ≡ length (now weights) * sizeOf first) × ((length (now rests) ≡ length (now weights) * max 16 (sizeOf first)) × (length (now out) ≡ recordLength (ruleFor first) (length (now weights)))) ⌝ }
+    requires { ⌜
+        (length (now rows) ≡ length (now weights) * sizeOf first)
+        × ((length (now rests) ≡ length (now weights) * max 16 (sizeOf first))
+        × (length (now out) ≡ recordLength (ruleFor first) (length (now weights)))) ⌝ }
     ensures { λ _. ⌜ now (rows .exit) ≡ blocks (rowOf (powerOf first) (now (weights .entry))) (length (now (weights .entry))) ⌝ }
     ensures { λ _. ⌜ Rests first (now (weights .entry)) (now (costs .entry)) (now (rests .exit)) ⌝ }
     ensures { λ _. ⌜ now (out .exit) ≡ recordOf (ruleFor first) (columnsOf (sizeOf first) (now (weights .entry)) (now (costs .entry))) ⌝ }
 {
     let d = weights.len();
     let e = out.len();
+    field::rows(rules::power(first), weights, rows);
     rests_in(first, weights, costs, rows, rests, &mut out[..d]);
-    tables::groups(rules::rule_of(first), d, rests, &mut out[d..e]);
+    groups::groups(rules::rule_of(first), d, rests, &mut out[d..e]);
 }
 
 // The record, in parts of the room.
@@ -147,7 +116,11 @@ fn record_room(
     out: &mut [u8],
 )
     requires { ⌜ Ready first (now weights) (now costs) ⌝ }
-    requires { ⌜ (w ≡ sizeOf first) × ((length (now weights) * w ≤ length (now rows)) × ((length (now weights) * max 16 w ≤ length (now rests)) × (length (now out) ≡ recordLength (ruleFor first) (length (now weights))))) ⌝ }
+    requires { ⌜
+        (w ≡ sizeOf first)
+        × ((length (now weights) * w ≤ length (now rows))
+        × ((length (now weights) * max 16 w ≤ length (now rests))
+        × (length (now out) ≡ recordLength (ruleFor first) (length (now weights))))) ⌝ }
     ensures { λ _. ⌜ now (out .exit) ≡ recordOf (ruleFor first) (columnsOf (sizeOf first) (now (weights .entry)) (now (costs .entry))) ⌝ }
 {
     let a = weights.len() * w;
@@ -184,7 +157,11 @@ fn messages_with(
     sent: &mut [u8],
 )
     requires { ⌜ Ready first (now weights) (now costs) ⌝ }
-    requires { ⌜ (length (now rows) ≡ length (now weights) * sizeOf first) × ((length (now rests) ≡ length (now weights) * max 16 (sizeOf first)) × ((length (now out) ≡ recordLength (ruleFor first) (length (now weights))) × (length (now sent) ≡ length (now weights) * sizeOf first))) ⌝ }
+    requires { ⌜
+        (length (now rows) ≡ length (now weights) * sizeOf first)
+        × ((length (now rests) ≡ length (now weights) * max 16 (sizeOf first))
+        × ((length (now out) ≡ recordLength (ruleFor first) (length (now weights)))
+        × (length (now sent) ≡ length (now weights) * sizeOf first))) ⌝ }
     ensures { λ _. ⌜ now (out .exit) ≡ recordOf (ruleFor first) (columnsOf (sizeOf first) (now (weights .entry)) (now (costs .entry))) ⌝ }
     ensures { λ _. ⌜ now (sent .exit) ≡ allSent (ruleFor first) (columnsOf (sizeOf first) (now (weights .entry)) (now (costs .entry))) ⌝ }
 {
@@ -205,7 +182,12 @@ fn messages_room(
     sent: &mut [u8],
 )
     requires { ⌜ Ready first (now weights) (now costs) ⌝ }
-    requires { ⌜ (w ≡ sizeOf first) × ((length (now weights) * w ≤ length (now rows)) × ((length (now weights) * max 16 w ≤ length (now rests)) × ((length (now out) ≡ recordLength (ruleFor first) (length (now weights))) × (length (now sent) ≡ length (now weights) * sizeOf first)))) ⌝ }
+    requires { ⌜
+        (w ≡ sizeOf first)
+        × ((length (now weights) * w ≤ length (now rows))
+        × ((length (now weights) * max 16 w ≤ length (now rests))
+        × ((length (now out) ≡ recordLength (ruleFor first) (length (now weights)))
+        × (length (now sent) ≡ length (now weights) * sizeOf first)))) ⌝ }
     ensures { λ _. ⌜ now (out .exit) ≡ recordOf (ruleFor first) (columnsOf (sizeOf first) (now (weights .entry)) (now (costs .entry))) ⌝ }
     ensures { λ _. ⌜ now (sent .exit) ≡ allSent (ruleFor first) (columnsOf (sizeOf first) (now (weights .entry)) (now (costs .entry))) ⌝ }
 {
@@ -233,7 +215,10 @@ pub fn messages_in(
 )
     requires { ⌜ Ready first (now weights) (now costs) ⌝ }
     requires { ⌜ w ≤ 64 ⌝ }
-    requires { ⌜ (w ≡ sizeOf first) × ((length (now out) ≡ recordLength (ruleFor first) (length (now weights))) × (length (now sent) ≡ length (now weights) * sizeOf first)) ⌝ }
+    requires { ⌜
+        (w ≡ sizeOf first)
+        × ((length (now out) ≡ recordLength (ruleFor first) (length (now weights)))
+        × (length (now sent) ≡ length (now weights) * sizeOf first)) ⌝ }
     ensures { λ _. ⌜ now (out .exit) ≡ recordOf (ruleFor first) (columnsOf (sizeOf first) (now (weights .entry)) (now (costs .entry))) ⌝ }
     ensures { λ _. ⌜ now (sent .exit) ≡ allSent (ruleFor first) (columnsOf (sizeOf first) (now (weights .entry)) (now (costs .entry))) ⌝ }
 {

@@ -1,7 +1,6 @@
 // The sent costs of a check, by symbols, from what is left of 255 in each row.
-use crate::num;
 ghost use mathlib.Core.Path.{_≡_};
-ghost use Prim.Native.Nat.{_-_, _*_, _≤_, _<_};
+ghost use Prim.Native.Nat.{_-_, _*_, _<_};
 ghost use lib.ListN.{length};
 ghost use Rattle.trellis.specs.Lists.{tab, blocks};
 ghost use Rattle.checknode.specs.inner.Lines.{sentFrom, sentColumn, SendRoom, SendsRoom};
@@ -20,7 +19,7 @@ fn column(row: &[u8], s: u8, rests: &[u8], out: &mut [u8])
 {
     let mut x = 0;
     while x < out.len() {
-        out[x] = cost_of(rests[num::index(row[x] ^ s)]);
+        out[x] = cost_of(rests[numbers::u8_to_usize(row[x] ^ s)]);
         x += 1;
     }
 }
@@ -28,7 +27,9 @@ fn column(row: &[u8], s: u8, rests: &[u8], out: &mut [u8])
 // All columns: w products and l rests each.
 pub fn columns(w: usize, l: usize, rows: &[u8], shifts: &[u8], rests: &[u8], out: &mut [u8])
     requires { ⌜ SendsRoom w l (now rows) (now shifts) (now rests) (now out) ⌝ }
-    ensures { λ _. ⌜ now (out .exit) ≡ blocks (sentColumn w l (now (rows .entry)) (now (shifts .entry)) (now (rests .entry))) (length (now (shifts .entry))) ⌝ }
+    ensures { λ _. ⌜
+        now (out .exit)
+        ≡ blocks (sentColumn w l (now (rows .entry)) (now (shifts .entry)) (now (rests .entry))) (length (now (shifts .entry))) ⌝ }
 {
     let mut n = 0;
     while n < shifts.len() {

@@ -11,7 +11,7 @@ use Rattle.machine.specs.CodeLine.{Code}
 use Rattle.machine.specs.Decoding.{Accepts}
 use Rattle.machine.specs.Combining.{combining}
 use Rattle.machine.proofs.Combining.{either-order}
-use Rattle.checknode.specs.Answers.{writtenReply}
+use Rattle.field.specs.Answers.{writtenReply}
 use Rattle.combiner.proofs.combine as combine
 use Rattle.combiner.proofs.combine.Kinds as kinds
 use Rattle.combiner.proofs.combine.Reads as reads

@@ -1,12 +1,12 @@
 // Two frames under a code that is read: the refusals in their order, or the combined frame.
 use crate::columns;
-use checknode::Written;
+use field::Written;
 use layered::frame;
 ghost use mathlib.Core.Path.{_≡_};
 ghost use mathlib.Core.Bool.{true};
 ghost use Prim.Native.Nat.{_≤_};
 ghost use Rattle.trellis.specs.Rules.{firstOk};
-ghost use Rattle.checknode.specs.Answers.{writtenReply};
+ghost use Rattle.field.specs.Answers.{writtenReply};
 ghost use Rattle.machine.specs.CodeLine.{good};
 ghost use Rattle.machine.specs.Combining.{combineFault, combiningUnder};
 ghost use Rattle.combiner.specs.inner.Columns.{headed};

@@ -2,11 +2,11 @@
 mod columns;
 mod combining;
 
-use checknode::Written;
 use codeline::answers::Header;
+use field::Written;
 use layered::num;
 ghost use mathlib.Core.Path.{_≡_};
-ghost use Rattle.checknode.specs.Answers.{writtenReply};
+ghost use Rattle.field.specs.Answers.{writtenReply};
 ghost use Rattle.machine.specs.Combining.{combining as combiningOf};
 
 // Combines two frames that are accepted under one code line: at each column and symbol the two costs are added, the column's least is

@@ -17,9 +17,9 @@ use Rattle.trellis.specs.Rules.{powerOf, sizeOf, firstOk, ruleFor}
 use Rattle.trellis.specs.Reply.{Reply, accepted, refusal}
 use Rattle.trellis.specs.Display.{displayed, Stored}
 use Rattle.trellis.proofs.Display.{form-front}
-use Rattle.checknode.specs.Answers.{weightsOk, expandReply}
-use Rattle.checknode.specs.inner.Asks.{weightsFault}
-use Rattle.checknode.proofs.Refusals.{Weighed, no-fault, fault-case, rest-case, weight-at}
+use Rattle.field.specs.Answers.{weightsOk, weightsFault}
+use Rattle.expansion.specs.Answers.{expandReply}
+use Rattle.field.proofs.Weighed.{Weighed, no-fault, fault-case, rest-case, weight-at}
 use Rattle.display.specs.Answers.{displayCases, displayFault, displayReply, displayLeaves}
 use Rattle.display.specs.inner.Showing.{formFault, ShowRoom}
 

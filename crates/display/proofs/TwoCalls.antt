@@ -8,8 +8,8 @@ use denote.Triple.Clauses.{AtExit}
 use borrow.Fn.Kinds.{endedOf}
 use borrow.Fn.World.{ArgsD, ResD}
 use Rattle.trellis.specs.Rules.{powerOf}
-use Rattle.checknode.specs.declared.Written.the-variants.{Bytes}
-use Rattle.checknode.specs.Answers.{writtenReply}
+use Rattle.field.specs.declared.Written.the-variants.{Bytes}
+use Rattle.field.specs.Answers.{writtenReply}
 use Rattle.display.specs.Answers.{displayReply, displayLeaves}
 use Rattle.display.specs.Views.{SameShown}
 use Rattle.display.proofs.Views.{displays-equal}

@@ -21,10 +21,10 @@ use Rattle.trellis.proofs.Sent.{sent-zero}
 use Rattle.trellis.proofs.Records.{record-shift, sent-at}
 use Rattle.trellis.proofs.Ready.{ready-proper, length-columns, column-at}
 use Rattle.trellis.proofs.Messages.{ready-form}
-use Rattle.checknode.specs.Answers.{expandReply}
-use Rattle.checknode.specs.inner.Asks.{weightsFault}
-use Rattle.checknode.proofs.Refusals.{no-fault, fault-case, rest-case, ready-weighed}
-use Rattle.checknode.proofs.TwoCalls.{demand-2-messages}
+use Rattle.expansion.specs.Answers.{expandReply}
+use Rattle.field.specs.Answers.{weightsFault}
+use Rattle.field.proofs.Weighed.{no-fault, fault-case, rest-case, ready-weighed}
+use Rattle.display.proofs.CheckThenExpand.{demand-2-messages}
 use Rattle.display.specs.Answers.{displayFault, displayReply, displayLeaves}
 use Rattle.display.specs.Views.{Displays, Displays-equal, Refuses-alike, Two-views}
 use Rattle.display.proofs.Refusals.{passes, stored, by-fault, accepts}

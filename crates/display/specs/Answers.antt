@@ -8,7 +8,7 @@ use Rattle.trellis.specs.Rules.{powerOf, ruleFor}
 use Rattle.trellis.specs.Display.{displayed}
 use Rattle.trellis.specs.Refusals.{when, unless, refusedBy}
 use Rattle.trellis.specs.Reply.{Reply, accepted, refusal}
-use Rattle.checknode.specs.Answers.{weightTests}
+use Rattle.field.specs.Answers.{weightTests}
 
 -- "Both refuse as expansion does", 6, 9, 11, 16; "the display's buffer is d bytes, refusal 2"
 abbrev pub displayCases {ℓ} : {A : Type ℓ} → ℕ → List ℕ → List ℕ → ℕ → (ℕ → A) → A → A

@@ -8,8 +8,8 @@ use Rattle.trellis.specs.Check.{shift, sent}
 use Rattle.trellis.specs.Field.{product}
 use Rattle.trellis.specs.Rules.{powerOf, sizeOf, ruleFor, columnsOf}
 use Rattle.trellis.specs.Reply.{Reply, accepted}
-use Rattle.checknode.specs.Answers.{expandReply}
-use Rattle.checknode.specs.Demand.{Checks, Expands, Sends}
+use Rattle.expansion.specs.Answers.{expandReply}
+use Rattle.display.specs.Demand.{Checks, Expands, Sends}
 use Rattle.display.specs.Answers.{displayReply, displayLeaves}
 
 -- what a call of display promises: its reply, and the buffer afterwards

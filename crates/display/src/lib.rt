@@ -1,9 +1,9 @@
-// The display's view of a stored record. The bench's view is checknode's expand.
+// The display's view of a stored record. The bench's view is the expansion.
 mod showing;
 
-use checknode::Written;
+use field::Written;
 ghost use mathlib.Core.Path.{_≡_};
-ghost use Rattle.checknode.specs.Answers.{writtenReply};
+ghost use Rattle.field.specs.Answers.{writtenReply};
 ghost use Rattle.display.specs.Answers.{displayReply, displayLeaves};
 
 // Which symbol each column was urged towards: from the first code byte, d weights and a record, d bytes, each the column's shift divided

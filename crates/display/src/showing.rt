@@ -1,5 +1,5 @@
 // The refusals, and the quotients of the shifts.
-use checknode::Written;
+use field::Written;
 ghost use mathlib.Core.Path.{_≡_};
 ghost use Rattle.trellis.specs.Display.{displayed};
 ghost use Rattle.display.specs.Answers.{displayFault};
@@ -10,7 +10,7 @@ fn form_fault(first: u8, weights: &[u8], bytes: &[u8]) -> u8
     ensures { λ r. ⌜ r ≡ formFault first (now (weights .entry)) (now (bytes .entry)) ⌝ }
 {
     let mut none = [0u8; 1];
-    match checknode::expand(first, weights, bytes, &mut none) {
+    match expansion::expand(first, weights, bytes, &mut none) {
         Written::Bytes(_) => 0,
         Written::Refused(k) => k,
     }

@@ -16,7 +16,7 @@ use Rattle.trellis.proofs.Xor.{xor-right}
 use Rattle.trellis.proofs.Recurrence.{product-zero}
 use Rattle.trellis.proofs.FieldLaws.{field, fields-at, inverse, Inverse, has-inverse}
 use Rattle.trellis.proofs.Quotients.{quotient-one, times-one}
-use Rattle.checknode.specs.Answers.{productReply}
+use Rattle.field.specs.Answers.{productReply}
 use Rattle.division.specs.inner.Table.{invertedAt, inverted, allInverted}
 use Rattle.division.specs.Numbers.{divisorOk, quotientOr, DivisorRoom, QuotientRoom}
 

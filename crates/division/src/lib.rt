@@ -1,11 +1,11 @@
 // Division in the field: a product with the inverse, which is read from a table. `times` and `divide` are total, so that every crate above
 // can call them with what it has.
-use checknode::Element;
+use field::Element;
 ghost use mathlib.Core.Path.{_≡_};
 ghost use Prim.Native.Nat.{_^_, _≤_, _<_};
 ghost use lib.Dec.{T};
 ghost use Rattle.trellis.specs.Field.{product};
-ghost use Rattle.checknode.specs.Answers.{productReply};
+ghost use Rattle.field.specs.Answers.{productReply};
 ghost use Rattle.division.specs.inner.Table.{allInverted};
 ghost use Rattle.division.specs.Numbers.{divisorOk, quotientOr, DivisorRoom};
 
@@ -199,7 +199,7 @@ fn inverse(p: u8, h: u8) -> u8
 pub fn times(p: u8, a: u8, b: u8) -> u8
     ensures { λ r. ⌜ r ≡ productReply p a b .value ⌝ }
 {
-    match checknode::product(p, a, b) {
+    match field::product(p, a, b) {
         Element::Is(x) => x,
         Element::Refused(_) => 0,
     }

@@ -5,9 +5,9 @@ mod form;
 mod message;
 mod num;
 
-use checknode::Written;
+use field::Written;
 ghost use mathlib.Core.Path.{_≡_};
-ghost use Rattle.checknode.specs.Answers.{writtenReply};
+ghost use Rattle.field.specs.Answers.{writtenReply};
 ghost use Rattle.machine.specs.Encoding.{encoding};
 
 // Encodes a message of N - M symbols under a code line where N exceeds M and check m, counted from 0, contains column N - M + m and no higher

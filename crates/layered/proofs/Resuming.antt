@@ -16,7 +16,7 @@ use Rattle.trellis.specs.Rules.{firstOk, powerOf, sizeOf, ruleFor}
 use Rattle.trellis.proofs.Recurrence.{size-64}
 use Rattle.trellis.proofs.Rules.{first-power, most-few}
 use Rattle.trellis.specs.Reply.{Reply, accepted, refusal}
-use Rattle.checknode.specs.Answers.{expandReply}
+use Rattle.expansion.specs.Answers.{expandReply}
 use Rattle.machine.specs.CodeLine.{zeroIn}
 use Rattle.machine.specs.inner.Tables.{before, bytesBefore, tableAt}
 use Rattle.machine.proofs.Lists.{all-not}

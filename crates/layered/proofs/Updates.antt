@@ -24,7 +24,9 @@ use Rattle.trellis.proofs.Loops.{length-tab, getD-tab}
 use Rattle.trellis.proofs.Instances.{first-zero}
 use Rattle.trellis.proofs.Ready.{length-columns, column-at}
 use Rattle.trellis.proofs.Messages.{ready-messages}
-use Rattle.checknode.specs.Answers.{weightOk, weightsOk, zeroOk, messagesCases, messagesLeaves, messagesSent, expandLeaves}
+use Rattle.field.specs.Answers.{weightOk, weightsOk}
+use Rattle.checknode.specs.Answers.{zeroOk, messagesCases, messagesLeaves, messagesSent}
+use Rattle.expansion.specs.Answers.{expandLeaves}
 use Rattle.machine.specs.CodeLine.{edgeAt, columnOf}
 use Rattle.machine.specs.Machine.{scaled, incoming, outgoing, arriving, spread}
 use Rattle.machine.specs.Lent.{weightsOf, messageLent, arrivingLent, recordLent, costsLent}

@@ -1,8 +1,8 @@
 // The decisions with their margins, and whether they satisfy every check.
 use crate::num;
 use checknode::Decision;
-use checknode::Element;
 use codeline::answers::Numbers;
+use field::Element;
 ghost use mathlib.Core.Path.{_≡_};
 ghost use Prim.Native.Nat.{_*_, _^_, _≤_, _<_};
 ghost use lib.Dec.{eqb};
@@ -104,7 +104,7 @@ fn times(p: u8, a: u8, b: u8) -> u8
     requires { ⌜ (2 ≤ p) × ((p ≤ 6) × ((a < 2 ^ p) × (b < 2 ^ p))) ⌝ }
     ensures { λ r. ⌜ r ≡ product p a b ⌝ }
 {
-    match checknode::product(p, a, b) {
+    match field::product(p, a, b) {
         Element::Is(x) => x,
         Element::Refused(_) => 0,
     }

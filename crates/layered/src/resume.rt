@@ -1,7 +1,7 @@
 // What an iteration that goes on from lent costs and records tests first.
 use crate::num;
 use crate::parity;
-use checknode::Written;
+use field::Written;
 ghost use mathlib.Core.Path.{_≡_};
 ghost use Prim.Native.Nat.{_*_, _≤_};
 ghost use lib.ListN.{length};
@@ -61,7 +61,7 @@ fn formed(first: u8, weights: &[u8], bytes: &[u8]) -> bool
     ensures { λ r. ⌜ r ≡ recordOk (ruleFor first) (length (now (weights .entry))) (now (bytes .entry)) ⌝ }
 {
     let mut none = [0u8; 1];
-    match checknode::expand(first, weights, bytes, &mut none) {
+    match expansion::expand(first, weights, bytes, &mut none) {
         Written::Bytes(_) => false,
         Written::Refused(k) => k == 2,
     }

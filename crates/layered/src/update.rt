@@ -31,7 +31,7 @@ fn recall(first: u8, start: bool, weights: &[u8], bytes: &[u8], out: &mut [u8])
         clear(out);
         return;
     }
-    checknode::expand(first, weights, bytes, out);
+    expansion::expand(first, weights, bytes, out);
 }
 
 // The record of the check with these costs, and its sent costs.

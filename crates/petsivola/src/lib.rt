@@ -1,8 +1,8 @@
 // The public calls for C and Rust: include/petsivola.h has each with its parameters. A slice is a pointer and a length.
 use channels::answers::Served;
-use checknode::Element;
-use checknode::Written;
 use codeline::answers::Summary;
+use field::Element;
+use field::Written;
 use layered::answers::Answer;
 use layered::answers::EarlyAnswer;
 use layered::answers::Outcome;
@@ -10,7 +10,9 @@ use layered::answers::Stopped;
 use window::registers::Registers;
 ghost use mathlib.Core.Path.{_≡_};
 ghost use Prim.Native.Nat.{_≤_};
-ghost use Rattle.checknode.specs.Answers.{elementReply, productReply, writtenReply, checkReply, checkLeaves, expandReply, expandLeaves};
+ghost use Rattle.field.specs.Answers.{elementReply, productReply, writtenReply};
+ghost use Rattle.checknode.specs.Answers.{checkReply, checkLeaves};
+ghost use Rattle.expansion.specs.Answers.{expandReply, expandLeaves};
 ghost use Rattle.display.specs.Answers.{displayReply, displayLeaves};
 ghost use Rattle.machine.specs.CodeLine.{parse};
 ghost use Rattle.machine.specs.Line.{lineReply, lineLeaves};
@@ -86,7 +88,7 @@ fn of_early(a: EarlyAnswer) -> u32
 pub extern "C" fn petsivola_product(p: u8, a: u8, b: u8) -> u32
     ensures { λ r. ⌜ Packs r (productReply p a b) ⌝ }
 {
-    of_element(checknode::product(p, a, b))
+    of_element(field::product(p, a, b))
 }
 
 #[no_mangle]
@@ -110,7 +112,7 @@ pub extern "C" fn petsivola_expand(first: u8, weights: &[u8], bytes: &[u8], out:
     ensures { λ r. ⌜ Packs r (expandReply first (now (weights .entry)) (now (bytes .entry)) (now (out .entry))) ⌝ }
     ensures { λ _. ⌜ now (out .exit) ≡ expandLeaves first (now (weights .entry)) (now (bytes .entry)) (now (out .entry)) ⌝ }
 {
-    of_written(checknode::expand(first, weights, bytes, out))
+    of_written(expansion::expand(first, weights, bytes, out))
 }
 
 #[no_mangle]

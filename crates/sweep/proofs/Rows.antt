@@ -8,7 +8,7 @@ use native.Mathlib.Omega.{arith}
 use lib.ListN.{length, getD, take, drop}
 use Rattle.trellis.specs.Lists.{tab}
 use Rattle.trellis.specs.Field.{xor}
-use Rattle.checknode.proofs.Refusals.{part-room}
+use Rattle.field.proofs.Blocks.{part-room}
 use Rattle.sweep.specs.inner.Joins.{joinAt, Bytes, cellsBefore, cellsBehind, sentRow}
 
 -- part n from the front and from the back

@@ -22,8 +22,7 @@ use Rattle.trellis.proofs.Records.{shift-small}
 use Rattle.trellis.proofs.Ready.{length-columns, ready-proper}
 use Rattle.trellis.proofs.Sweep.{swept-sent, before-keeps, after-keeps}
 use Rattle.checknode.specs.inner.Asks.{shiftsOf}
-use Rattle.checknode.proofs.Blocks.{block-at, in-block}
-use Rattle.checknode.proofs.Refusals.{part-room}
+use Rattle.field.proofs.Blocks.{block-at, in-block, part-room}
 use Rattle.checknode.proofs.Resting.{column-bytes, shift-at, shifts-length, parts}
 use Rattle.sweep.specs.Kept.{cellCount, cellAt, Kept}
 use Rattle.sweep.specs.inner.Cells.{turnsOf, cellsAfter, tableOf, Swept}

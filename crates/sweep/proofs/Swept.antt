@@ -23,8 +23,7 @@ use Rattle.trellis.proofs.Sent.{Proper, sent-one, symbol}
 use Rattle.trellis.proofs.Ready.{length-columns, column-at, costs-length, ready-high, ready-proper}
 use Rattle.trellis.proofs.Sweep.{swept-none, swept-before, swept-after}
 use Rattle.checknode.specs.inner.Asks.{Times}
-use Rattle.checknode.proofs.Blocks.{block-at}
-use Rattle.checknode.proofs.Refusals.{part-room}
+use Rattle.field.proofs.Blocks.{block-at, part-room}
 use Rattle.checknode.proofs.Turns.{ready-times, part-is}
 use Rattle.sweep.specs.Kept.{cellCount}
 use Rattle.sweep.specs.inner.Cells.{cellsOf, moveCost, deviationAt, layerAt, countAt, stepCells, Sized, stepBy, orderOf, turnsOf, cellsAfter}

@@ -1,7 +1,7 @@
 // A sweep over the columns, from the first to the last or from the last to the first.
 use crate::num;
 use crate::step;
-use checknode::Element;
+use field::Element;
 ghost use mathlib.Core.Path.{_≡_};
 ghost use Prim.Native.Nat.{_*_, _^_, _≤_, _<_};
 ghost use lib.ListN.{length};
@@ -19,7 +19,7 @@ pub fn times(p: u8, a: u8, b: u8) -> u8
     requires { ⌜ (2 ≤ p) × ((p ≤ 6) × ((a < 2 ^ p) × (b < 2 ^ p))) ⌝ }
     ensures { λ r. ⌜ r ≡ product p a b ⌝ }
 {
-    match checknode::product(p, a, b) {
+    match field::product(p, a, b) {
         Element::Is(x) => x,
         Element::Refused(_) => 0,
     }

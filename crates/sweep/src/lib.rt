@@ -6,9 +6,10 @@ mod num;
 mod record;
 mod step;
 
-use checknode::Written;
+use field::Written;
 ghost use mathlib.Core.Path.{_≡_};
-ghost use Rattle.checknode.specs.Answers.{writtenReply, checkReply, checkLeaves};
+ghost use Rattle.field.specs.Answers.{writtenReply};
+ghost use Rattle.checknode.specs.Answers.{checkReply, checkLeaves};
 
 // The record of a check, as `check` writes it, by two sweeps; refused as `check` is.
 pub fn sweep(first: u8, weights: &[u8], costs: &[u8], out: &mut [u8]) -> Written

@@ -1,22 +1,21 @@
 -- Blocks of sixteen rows: exclusive or with multiples of sixteen, lists filled block by block.
 use mathlib.Core.Path.{_≡_, refl, sym, ap, ap₂, _∙_}
-use mathlib.Core.Bool.{Bool, true, false}
+use mathlib.Core.Bool.{Bool}
 use mathlib.Core.List.{List, [], _∷_, _++_, append-assoc, append-nil}
-use Prim.Native.Nat.{ℕ, zero, suc, _+_, _-_, _*_, _/_, _%_, _^_, _≤_, _<_, min, max}
-use native.Mathlib.Nat.{add-zero, add-sub-cancel-left, mod-lt}
-use native.Mathlib.Numerals.{add-one}
+use Prim.Native.Nat.{ℕ, zero, suc, _+_, _-_, _*_, _/_, _%_, _^_, _≤_, _<_, max}
+use native.Mathlib.Nat.{add-zero}
 use native.Mathlib.Omega.{arith}
-use lib.ListN.{length, drop, take, getD, set, length-append, length-take, length-drop, List·getD-append}
+use lib.ListN.{length, drop, take, getD, length-take, length-drop}
 use lib.Seq.{ext-getD, getD-take, getD-drop, take-at, drop-at, drop-drop, take-all}
 use lib.Dec.{ltb}
 use lib.Bits as Bits
-use lib.Bits.{bitXor, xor-shr, xor-mod, xor-zero-l, xor-zero-r}
+use lib.Bits.{bitXor, xor-shr, xor-mod, xor-zero-l}
 use Rattle.trellis.specs.Lists.{tab, pick}
 use Rattle.trellis.specs.Field.{xor}
-use Rattle.trellis.proofs.Xor.{xor-assoc, xor-comm, xor-lt, xor-turn, xor-self, xor-right}
-use Rattle.trellis.proofs.Loops.{tab-whole, tab-length, length-tab, getD-tab, tab-ext}
+use Rattle.trellis.proofs.Xor.{xor-assoc, xor-comm, xor-lt, xor-self, xor-right}
+use Rattle.trellis.proofs.Loops.{tab-length, length-tab, getD-tab, tab-ext}
 use Rattle.tables.specs.declared.num.Four.{Four}
-use Rattle.tables.specs.inner.Lanes.{cut, taken, twoOf, laneAt, lanes, Wide, fourAt, lowAt}
+use Rattle.tables.specs.inner.Lanes.{laneAt, lanes, Wide, fourAt, lowAt}
 
 -- what two numbers share modulo sixteen
 xor-sixteen : (x y : ℕ) → (xor x y / 16 ≡ xor (x / 16) (y / 16)) × (xor x y % 16 ≡ xor (x % 16) (y % 16))

@@ -1,33 +1,23 @@
--- The public calls: what each test leaves.
-use mathlib.Core.Path.{_≡_, refl, sym, ap, ap₂, _∙_}
-use mathlib.Core.Bool.{Bool, true, false, _&&_}
+-- The public call: what each test leaves.
+use mathlib.Core.Path.{_≡_, refl, ap, ap₂, _∙_}
+use mathlib.Core.Bool.{Bool, true, false}
 use mathlib.Core.List.{List, _++_}
-use Prim.Native.Nat.{ℕ, _+_, _-_, _*_, _^_, _≤_, _<_}
+use Prim.Native.Nat.{ℕ, _+_, _-_, _*_, _≤_, _<_}
 use native.Mathlib.Omega.{arith}
 use borrow.Author.Tests.{le-leb, lt-leb}
-use lib.Dec.{leb}
 use lib.ListN.{length, take, drop}
-use Rattle.trellis.specs.Lists.{pick}
 use Rattle.tables.specs.declared.num.Shape.{Shape}
 use Rattle.tables.specs.inner.Tables.{on, sentRows}
-use Rattle.tables.specs.inner.Pairs.{groupRows}
-use Rattle.tables.specs.Calls.{side, inRange, shapeFor, sentFits, sentLeaves, groupsLength, groupsFit, groupsLeave}
+use Rattle.tables.specs.Calls.{side, inRange, shapeFor, sentFits, sentLeaves}
 
 module _ (p k d : ℕ) (lines out : List ℕ) where
   pub sent-none : (g : Bool) → inRange p k d ≡ false → out ≡ sentLeaves p k g d lines out
   unfolding sentLeaves sentFits
   sent-none g e = rw e refl
 
-  pub groups-none : inRange p k d ≡ false → out ≡ groupsLeave p k d lines out
-  unfolding groupsLeave groupsFit
-  groups-none e = rw e refl
-
   module _ (g : Bool) (S : Shape) (e : S ≡ shapeFor p k g) (within : inRange p k d ≡ true) where
     count : d * S .l ≡ d * side p
     count = ap (λ (T : Shape). d * T .l) e
-
-    size : (S .q - 1) * (S .k * 2 + 1) ≡ groupsLength p k
-    size = ap (λ (T : Shape). (T .q - 1) * (T .k * 2 + 1)) e
 
     pub sent-short : length lines < d * S .l → out ≡ sentLeaves p k g d lines out
     unfolding sentLeaves sentFits
@@ -43,18 +33,3 @@ module _ (p k d : ℕ) (lines out : List ℕ) where
     sent-done h m o =
         rw (within, le-leb (d * side p) (length lines) (omega (arith, count)), le-leb (d * side p) (length out) (omega (arith, count)))
         (ap₂ {C = List ℕ} (λ x y. x ++ y) (o ∙ ap (λ (T : Shape). on T sentRows (take (d * T .l) lines) d) e) (ap (λ n. drop n out) count))
-
-    pub groups-short : length lines < d * S .l → out ≡ groupsLeave p k d lines out
-    unfolding groupsLeave groupsFit
-    groups-short h = rw (within, lt-leb (d * side p) (length lines) (omega (arith, count))) refl
-
-    pub groups-tight : d * S .l ≤ length lines → length out < (S .q - 1) * (S .k * 2 + 1) → out ≡ groupsLeave p k d lines out
-    unfolding groupsLeave groupsFit
-    groups-tight h m = rw (within, le-leb (d * side p) (length lines) (omega (arith, count)), lt-leb (groupsLength p k) (length out) (omega (arith, size))) refl
-
-    pub groups-done : d * S .l ≤ length lines → (S .q - 1) * (S .k * 2 + 1) ≤ length out → {r : List ℕ} → r ≡ groupRows (S .q) (S .l) (S .k) (take (d * S .l) lines) d
-        → r ++ drop ((S .q - 1) * (S .k * 2 + 1)) out ≡ groupsLeave p k d lines out
-    unfolding groupsLeave groupsFit
-    groups-done h m o =
-        rw (within, le-leb (d * side p) (length lines) (omega (arith, count)), le-leb (groupsLength p k) (length out) (omega (arith, size)))
-        (ap₂ {C = List ℕ} (λ x y. x ++ y) (o ∙ ap (λ (T : Shape). groupRows (T .q) (T .l) (T .k) (take (d * T .l) lines) d) e) (ap (λ n. drop n out) size))

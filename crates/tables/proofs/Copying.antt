@@ -1,20 +1,20 @@
 -- Copies made by doubling.
 use mathlib.Core.Path.{_≡_, refl, sym, ap, ap₂, _∙_}
 use mathlib.Core.Bool.{Bool, true, false}
-use mathlib.Core.Logic.{_≢_, _⊎_, inl, inr, ⊎-elim}
-use mathlib.Core.List.{List, [], _∷_, _++_}
+use mathlib.Core.Logic.{_⊎_, ⊎-elim}
+use mathlib.Core.List.{List, _++_}
 use Prim.Native.Nat.{ℕ, zero, suc, _+_, _-_, _*_, _/_, _%_, _^_, _≤_, _<_, min, max}
 use native.Mathlib.Nat.{suc-mul, mul-le-mul-right}
 use native.Mathlib.Decide.{decLt}
 use native.Mathlib.Omega.{arith}
-use lib.ListN.{length, drop, take, getD, length-append, length-take, length-drop, List·getD-append}
-use lib.Seq.{getD-take, getD-drop, take-at, drop-at}
+use lib.ListN.{length, drop, take, getD, length-take, List·getD-append}
+use lib.Seq.{getD-take, getD-drop, drop-at}
 use lib.Bits as Bits
-use Rattle.trellis.specs.Lists.{tab, pick}
+use Rattle.trellis.specs.Lists.{tab}
 use Rattle.trellis.specs.Field.{xor}
-use Rattle.trellis.proofs.Xor.{xor-assoc, xor-comm, xor-lt, xor-right}
+use Rattle.trellis.proofs.Xor.{xor-assoc, xor-lt, xor-right}
 use Rattle.trellis.proofs.Loops.{length-tab, getD-tab, tab-ext}
-use Rattle.engine.specs.inner.Rests.{mostTo, meetOf, across}
+use Rattle.engine.specs.inner.Rests.{meetOf, across}
 use Rattle.engine.proofs.RestGroups.{most-ext}
 use Rattle.tables.specs.inner.Lanes.{Flips, Doubled, Copied, cut, taken, rowAt, joinAt}
 use Rattle.tables.specs.inner.Tables.{Table, risenAt}

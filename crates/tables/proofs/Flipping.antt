@@ -1,19 +1,19 @@
 -- Blocks flipped by a bit below sixteen.
 use mathlib.Core.Path.{_≡_, refl, sym, ap, ap₂, _∙_}
 use mathlib.Core.Logic.{_≢_, _⊎_, inl, inr, ⊎-elim}
-use mathlib.Core.List.{List, [], _∷_, _++_, append-assoc, append-nil}
-use Prim.Native.Nat.{ℕ, zero, suc, _+_, _-_, _*_, _/_, _%_, _^_, _≤_, _<_, min, max}
+use mathlib.Core.List.{List, [], _∷_, _++_, append-assoc}
+use Prim.Native.Nat.{ℕ, zero, suc, _+_, _-_, _%_, _≤_, _<_}
 use native.Mathlib.Omega.{arith}
-use lib.ListN.{length, drop, take, getD, set, length-append, length-take, length-drop, List·getD-append}
-use lib.Seq.{ext-getD, getD-take, getD-drop, take-at, drop-at, drop-drop, take-all}
+use lib.ListN.{length, drop, take, getD, length-append, length-take, length-drop, List·getD-append}
+use lib.Seq.{getD-take, getD-drop, take-at, drop-at, drop-drop}
 use lib.Bits as Bits
 use lib.Bits.{bitXor}
-use Rattle.trellis.specs.Lists.{tab, pick}
+use Rattle.trellis.specs.Lists.{tab}
 use Rattle.trellis.specs.Field.{xor}
-use Rattle.trellis.proofs.Xor.{xor-assoc, xor-comm, xor-lt, xor-turn, xor-self, xor-right}
-use Rattle.trellis.proofs.Loops.{tab-whole, tab-length, length-tab, getD-tab, tab-ext}
+use Rattle.trellis.proofs.Xor.{xor-assoc, xor-lt}
+use Rattle.trellis.proofs.Loops.{length-tab, tab-ext}
 use Rattle.tables.specs.inner.Lanes.{lanes, Flips}
-use Rattle.tables.proofs.Blocks.{align, xor-even, tab-append}
+use Rattle.tables.proofs.Blocks.{align, tab-append}
 
 pub flips-small : (f : ℕ) → Flips f → f < 16
 flips-small f F = ⊎-elim (λ (e : f ≡ 1). omega arith) (λ r. ⊎-elim (λ (e : f ≡ 2). omega arith) (λ s. ⊎-elim (λ (e : f ≡ 4). omega arith) (λ (e : f ≡ 8). omega arith) s) r) (F .one)

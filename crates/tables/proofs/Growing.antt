@@ -1,17 +1,16 @@
 -- One column more in the tables.
-use mathlib.Core.Path.{_≡_, refl, sym, ap, ap₂, _∙_}
-use mathlib.Core.Bool.{Bool, true, false}
-use mathlib.Core.List.{List, [], _∷_, _++_, append-assoc, append-nil}
-use Prim.Native.Nat.{ℕ, zero, suc, _+_, _-_, _*_, _/_, _%_, _^_, _≤_, _<_, min, max}
-use native.Mathlib.Nat.{suc-mul, zero-mul, mul-le-mul-right, add-sub-cancel-left}
-use native.Mathlib.Decide.{ℕ-discrete}
+use mathlib.Core.Path.{_≡_, sym, ap, ap₂, _∙_}
+use mathlib.Core.Bool.{Bool}
+use mathlib.Core.List.{List, [], _++_, append-nil}
+use Prim.Native.Nat.{ℕ, zero, suc, _+_, _-_, _*_, _%_, _≤_, _<_, min, max}
+use native.Mathlib.Nat.{suc-mul, mul-le-mul-right}
 use lib.Seq.{take-at, drop-at, drop-drop, take-all, getD-take}
-use Rattle.trellis.proofs.Loops.{length-tab, tab-ext, block-more, block-end}
+use Rattle.trellis.proofs.Loops.{length-tab, tab-ext}
 use native.Mathlib.Omega.{arith}
 use lib.ListN.{length, drop, take, getD, length-append, length-take, length-drop, drop-of-length-le}
 use Rattle.trellis.specs.Lists.{tab, blocks, part, patch}
 use Rattle.tables.specs.inner.Lanes.{Copied, joinAt}
-use Rattle.tables.specs.inner.Tables.{Table, Shaped, risenAt, risenIn, metIn, grownAt, grownList, sentTo, afterTo}
+use Rattle.tables.specs.inner.Tables.{Table, risenAt, risenIn, grownAt, grownList, afterTo}
 use Rattle.tables.proofs.Copying.{rise-is, mul-even}
 use Rattle.tables.proofs.Parts.{past-first, part-front, part-twice, take-front, take-twice, blocks-length, blocks-drop, part-of, patch-turn, fill-end}
 

@@ -1,17 +1,17 @@
 -- Four rows more of two tables joined.
 use mathlib.Core.Path.{_≡_, refl, sym, ap, ap₂, _∙_}
-use mathlib.Core.Bool.{Bool, true, false}
-use mathlib.Core.List.{List, [], _∷_, _++_}
-use Prim.Native.Nat.{ℕ, zero, suc, _+_, _-_, _*_, _/_, _%_, _^_, _≤_, _<_, min, max}
+use mathlib.Core.Bool.{Bool}
+use mathlib.Core.List.{List}
+use Prim.Native.Nat.{ℕ, zero, suc, _+_, _-_, _*_, _/_, _%_, _≤_, _<_, min, max}
 use native.Mathlib.Nat.{suc-mul, mul-le-mul-right}
 use native.Mathlib.Omega.{arith}
 use lib.ListN.{length, getD}
-use Rattle.trellis.specs.Lists.{tab, pick}
+use Rattle.trellis.specs.Lists.{tab}
 use Rattle.trellis.specs.Field.{xor}
-use Rattle.trellis.proofs.Loops.{length-tab, getD-tab, tab-ext}
-use Rattle.engine.specs.inner.Rests.{mostTo, meetOf, across}
+use Rattle.trellis.proofs.Loops.{getD-tab, tab-ext}
+use Rattle.engine.specs.inner.Rests.{mostTo}
 use Rattle.tables.specs.declared.num.Four.{Four}
-use Rattle.tables.specs.inner.Lanes.{cut, taken, twoOf, Wide, fourAt, fourOf, rowAt, joinAt}
+use Rattle.tables.specs.inner.Lanes.{cut, taken, Wide, fourAt, fourOf, rowAt, joinAt}
 use Rattle.tables.specs.inner.Tables.{Shaped}
 use Rattle.tables.proofs.Turns.{list-tab}
 

@@ -1,14 +1,14 @@
 -- The rows of the costs sent, from the tables before and after each column.
-use mathlib.Core.Path.{_≡_, refl, sym, ap, ap₂, _∙_}
+use mathlib.Core.Path.{_≡_, sym, ap, ap₂, _∙_}
 use mathlib.Core.Bool.{Bool, true, false}
-use mathlib.Core.List.{List, [], _∷_, _++_}
+use mathlib.Core.List.{List}
 use Prim.Native.Nat.{ℕ, zero, suc, _+_, _-_, _*_, _≤_, _<_, min, max}
-use native.Mathlib.Nat.{suc-mul, zero-mul, mul-le-mul-right}
+use native.Mathlib.Nat.{suc-mul, mul-le-mul-right}
 use native.Mathlib.Omega.{arith}
 use borrow.Author.Tests.{eq-eqb, ne-eqb}
 use lib.Dec.{eqb}
 use lib.ListN.{length, drop, take, getD, length-take, length-drop}
-use Rattle.trellis.specs.Lists.{pick, tab, blocks, part, patch}
+use Rattle.trellis.specs.Lists.{pick, tab, blocks, part}
 use Rattle.trellis.proofs.Loops.{length-tab}
 use Rattle.tables.specs.inner.Lanes.{Copied, joinAt}
 use Rattle.tables.specs.inner.Tables.{Table, risenAt, metIn, grownAt, grownList, afterTo, beforeTo, lastTable, sentTo, sentRow, sentRows}

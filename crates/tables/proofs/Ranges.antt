@@ -1,14 +1,13 @@
 -- Numbers in range: where parts of a list start, and the shape of tables.
-use mathlib.Core.Path.{_≡_, refl, sym, ap, ap₂, _∙_}
+use mathlib.Core.Path.{_≡_, refl, ap, ap₂, _∙_}
 use mathlib.Core.Bool.{Bool, true, false, _&&_}
-use mathlib.Core.List.{List}
 use Prim.Native.Nat.{ℕ, zero, suc, _+_, _-_, _*_, _%_, _^_, _≤_, _<_, max}
 use native.Mathlib.Nat.{one-mul, mod-eq-of-lt, suc-mul, mul-le-mul-right}
 use native.Mathlib.Omega.{arith}
 use lib.Dec.{leb}
 use lib.Pow.{pow-lt}
 use borrow.Author.Tests.{le-leb, lt-leb, leb-true}
-use Rattle.tables.specs.inner.Tables.{Table, Shaped}
+use Rattle.tables.specs.inner.Tables.{Shaped}
 use Rattle.tables.specs.Calls.{side, inRange, shapeFor}
 use Rattle.tables.specs.declared.num.Shape.{Shape}
 

@@ -1,15 +1,13 @@
 -- Turns of loops that fill a list from the front.
-use mathlib.Core.Path.{_≡_, refl, sym, ap, ap₂, _∙_}
+use mathlib.Core.Path.{_≡_, refl, ap, ap₂, _∙_}
 use mathlib.Core.Bool.{Bool, true, false}
-use mathlib.Core.List.{List, [], _∷_, _++_}
-use Prim.Native.Nat.{ℕ, zero, suc, _+_, _-_, _*_, _/_, _%_, _≤_, _<_, min, max}
-use native.Mathlib.Numerals.{add-one}
+use mathlib.Core.List.{List, _++_}
+use Prim.Native.Nat.{ℕ, _+_, _-_, _*_, _<_, min, max}
 use native.Mathlib.Omega.{arith}
-use lib.ListN.{length, drop, take, getD, set}
+use lib.ListN.{length, drop, getD, set}
 use lib.Seq.{ext-getD}
-use Rattle.trellis.specs.Lists.{tab, pick}
-use Rattle.trellis.specs.Field.{xor}
-use Rattle.trellis.proofs.Loops.{tab-more, tab-seam, tab-whole, length-tab, getD-tab}
+use Rattle.trellis.specs.Lists.{tab}
+use Rattle.trellis.proofs.Loops.{tab-more, tab-whole, length-tab, getD-tab}
 use Rattle.tables.specs.declared.num.Four.{Four}
 use Rattle.tables.specs.inner.Lanes.{cut, taken, twoOf, laneAt, lanes}
 

@@ -1,5 +1,5 @@
--- What the public calls leave. Nothing changes where the rule, the degree or a slice does not fit: a caller above has refused by then, so there is
--- no number for it.
+-- What the public calls leave. Nothing changes where the rule, the degree or a slice does not fit: a caller above has refused by then,
+-- so there is no number for it.
 use mathlib.Core.Bool.{Bool, _&&_}
 use mathlib.Core.List.{List, _++_}
 use Prim.Native.Nat.{ℕ, _+_, _-_, _*_, _^_, max}
@@ -8,7 +8,6 @@ use lib.ListN.{length, take, drop}
 use Rattle.trellis.specs.Lists.{pick}
 use Rattle.tables.specs.declared.num.Shape.{Shape}
 use Rattle.tables.specs.inner.Tables.{sentRows}
-use Rattle.tables.specs.inner.Pairs.{groupRows}
 
 -- rows of a table: q, and sixteen at least
 abbrev pub side : ℕ → ℕ
@@ -29,14 +28,3 @@ sentFits p k d lines out = inRange p k d && (leb (d * side p) (length lines) && 
 unfoldable pub sentLeaves : ℕ → ℕ → Bool → ℕ → List ℕ → List ℕ → List ℕ
 sentLeaves p k greatest d lines out =
     pick (sentFits p k d lines out) (sentRows greatest (2 ^ p) (side p) k (take (d * side p) lines) d ++ drop (d * side p) out) out
-
--- bytes of all groups
-abbrev pub groupsLength : ℕ → ℕ → ℕ
-groupsLength p k = (2 ^ p - 1) * (k * 2 + 1)
-
--- d rows, and room for the groups
-unfoldable pub groupsFit : ℕ → ℕ → ℕ → List ℕ → List ℕ → Bool
-groupsFit p k d sent out = inRange p k d && (leb (d * side p) (length sent) && leb (groupsLength p k) (length out))
-
-unfoldable pub groupsLeave : ℕ → ℕ → ℕ → List ℕ → List ℕ → List ℕ
-groupsLeave p k d sent out = pick (groupsFit p k d sent out) (groupRows (2 ^ p) (side p) k (take (d * side p) sent) d ++ drop (groupsLength p k) out) out

@@ -25,7 +25,9 @@ fn flip1(t: &[u8], o: &mut [u8])
 // A block of s flipped, into another block.
 fn flip1_at(s: &mut [u8], from: usize, to: usize)
     requires { ⌜ (from + 16 ≤ to) × ((to + 16 ≤ length (now s)) × (length (now s) ≤ 65536)) ⌝ }
-    ensures { λ _. ⌜ now (s .exit) ≡ take to (now (s .entry)) ++ (lanes (λ i. getD (now (s .entry)) (from + xor i 1) 0) ++ drop (to + 16) (now (s .entry))) ⌝ }
+    ensures { λ _. ⌜
+        now (s .exit)
+        ≡ take to (now (s .entry)) ++ (lanes (λ i. getD (now (s .entry)) (from + xor i 1) 0) ++ drop (to + 16) (now (s .entry))) ⌝ }
 {
     let mut t = [0u8; 16];
     let a = from + 16;
@@ -62,7 +64,9 @@ fn flip2(t: &[u8], o: &mut [u8])
 // A block of s flipped, into another block.
 fn flip2_at(s: &mut [u8], from: usize, to: usize)
     requires { ⌜ (from + 16 ≤ to) × ((to + 16 ≤ length (now s)) × (length (now s) ≤ 65536)) ⌝ }
-    ensures { λ _. ⌜ now (s .exit) ≡ take to (now (s .entry)) ++ (lanes (λ i. getD (now (s .entry)) (from + xor i 2) 0) ++ drop (to + 16) (now (s .entry))) ⌝ }
+    ensures { λ _. ⌜
+        now (s .exit)
+        ≡ take to (now (s .entry)) ++ (lanes (λ i. getD (now (s .entry)) (from + xor i 2) 0) ++ drop (to + 16) (now (s .entry))) ⌝ }
 {
     let mut t = [0u8; 16];
     let a = from + 16;
@@ -99,7 +103,9 @@ fn flip4(t: &[u8], o: &mut [u8])
 // A block of s flipped, into another block.
 fn flip4_at(s: &mut [u8], from: usize, to: usize)
     requires { ⌜ (from + 16 ≤ to) × ((to + 16 ≤ length (now s)) × (length (now s) ≤ 65536)) ⌝ }
-    ensures { λ _. ⌜ now (s .exit) ≡ take to (now (s .entry)) ++ (lanes (λ i. getD (now (s .entry)) (from + xor i 4) 0) ++ drop (to + 16) (now (s .entry))) ⌝ }
+    ensures { λ _. ⌜
+        now (s .exit)
+        ≡ take to (now (s .entry)) ++ (lanes (λ i. getD (now (s .entry)) (from + xor i 4) 0) ++ drop (to + 16) (now (s .entry))) ⌝ }
 {
     let mut t = [0u8; 16];
     let a = from + 16;
@@ -136,7 +142,9 @@ fn flip8(t: &[u8], o: &mut [u8])
 // A block of s flipped, into another block.
 fn flip8_at(s: &mut [u8], from: usize, to: usize)
     requires { ⌜ (from + 16 ≤ to) × ((to + 16 ≤ length (now s)) × (length (now s) ≤ 65536)) ⌝ }
-    ensures { λ _. ⌜ now (s .exit) ≡ take to (now (s .entry)) ++ (lanes (λ i. getD (now (s .entry)) (from + xor i 8) 0) ++ drop (to + 16) (now (s .entry))) ⌝ }
+    ensures { λ _. ⌜
+        now (s .exit)
+        ≡ take to (now (s .entry)) ++ (lanes (λ i. getD (now (s .entry)) (from + xor i 8) 0) ++ drop (to + 16) (now (s .entry))) ⌝ }
 {
     let mut t = [0u8; 16];
     let a = from + 16;

@@ -74,7 +74,9 @@ fn take_in(shape: Shape, d: usize, n: usize, lines: &[u8], table: &mut [u8], c: 
 fn keep(table: &[u8], i: usize, n: usize, kept: &mut [u8])
     requires { ⌜ ((i < n) × (n ≤ 32)) × ((length (now table) ≤ 192) × (length (now table) % 16 ≡ 0)) ⌝ }
     requires { ⌜ length (now kept) ≡ n * length (now table) ⌝ }
-    ensures { λ _. ⌜ now (kept .exit) ≡ patch (now (kept .entry)) (i * length (now (table .entry))) (length (now (table .entry))) (now (table .entry)) ⌝ }
+    ensures { λ _. ⌜
+        now (kept .exit)
+        ≡ patch (now (kept .entry)) (i * length (now (table .entry))) (length (now (table .entry))) (now (table .entry)) ⌝ }
 {
     let w = table.len();
     let a = num::part_at(i, n, w);

@@ -81,7 +81,9 @@ fn one_block(greatest: bool, q: usize, u: &[u8], s: &[u8], e: &mut [u8])
 fn all_blocks(shape: Shape, u: &[u8], s: &[u8], e: &mut [u8])
     requires { ⌜ Shaped (shape .q) (shape .l) (shape .k) ⌝ }
     requires { ⌜ (length (now u) ≡ shape .l) × ((length (now s) ≡ 16 * shape .l) × (length (now e) ≡ shape .l)) ⌝ }
-    ensures { λ _. ⌜ now (e .exit) ≡ tab (joinAt (shape .greatest) (now (u .entry)) (now (s .entry)) (shape .l) (now (e .entry)) (shape .q)) (shape .l) ⌝ }
+    ensures { λ _. ⌜
+        now (e .exit)
+        ≡ tab (joinAt (shape .greatest) (now (u .entry)) (now (s .entry)) (shape .l) (now (e .entry)) (shape .q)) (shape .l) ⌝ }
 {
     let q = shape.q;
     let l = shape.l;
@@ -98,7 +100,9 @@ fn all_blocks(shape: Shape, u: &[u8], s: &[u8], e: &mut [u8])
 pub fn join(shape: Shape, u: &[u8], s: &[u8], e: &mut [u8])
     requires { ⌜ Shaped (shape .q) (shape .l) (shape .k) ⌝ }
     requires { ⌜ (length (now u) ≡ shape .l) × ((length (now s) ≡ 16 * shape .l) × (length (now e) ≡ shape .l)) ⌝ }
-    ensures { λ _. ⌜ now (e .exit) ≡ tab (joinAt (shape .greatest) (now (u .entry)) (now (s .entry)) (shape .l) (now (e .entry)) (shape .q)) (shape .l) ⌝ }
+    ensures { λ _. ⌜
+        now (e .exit)
+        ≡ tab (joinAt (shape .greatest) (now (u .entry)) (now (s .entry)) (shape .l) (now (e .entry)) (shape .q)) (shape .l) ⌝ }
 {
     if shape.l == 16 {
         one_block(shape.greatest, shape.q, u, s, e);

@@ -4,7 +4,6 @@ mod copies;
 mod grow;
 mod join;
 mod lane;
-mod list;
 mod num;
 mod rows;
 
@@ -13,10 +12,10 @@ use rules::Rule;
 ghost use mathlib.Core.Path.{_≡_};
 ghost use Prim.Native.Nat.{_^_, _≤_};
 ghost use Rattle.tables.specs.inner.Tables.{Shaped};
-ghost use Rattle.tables.specs.Calls.{side, inRange, shapeFor, sentLeaves, groupsLeave};
+ghost use Rattle.tables.specs.Calls.{inRange, shapeFor, sentLeaves};
 
-// Whether rule and degree are in range.
-fn fits(rule: Rule, d: usize) -> bool
+// Whether p is 2 to 6, k 2 to 3 and d 2 to 32.
+pub fn fits(rule: Rule, d: usize) -> bool
     ensures { λ r. ⌜ r ≡ inRange (rule .p) (rule .k) d ⌝ }
 {
     if rule.p < 2 {
@@ -44,7 +43,7 @@ fn shape_of(rule: Rule) -> Shape
     ensures { λ r. ⌜ Shaped (r .q) (r .l) (r .k) × (4 ≤ r .q) ⌝ }
 {
     let q = 1usize << rule.p;
-    let l = num::greater(16, q);
+    let l = numbers::max_usize(16, q);
     Shape {
         q: q,
         l: l,
@@ -53,9 +52,9 @@ fn shape_of(rule: Rule) -> Shape
     }
 }
 
-// The rests of the costs sent to d columns, from the columns' lines: line n and row n start at n times the rows of a table, which are 2 ^ p and
-// at least 16. A line has in row a the rest of the symbol whose weighted difference from the decision is a, and 0 in rows from 2 ^ p on. Nothing
-// changes where p is not 2 to 6, k not 2 to 3, d not 2 to 32, or a slice too short.
+// The rests of the costs sent to d columns, from the columns' lines: line n and row n start at n times the rows of a table, which are 2
+// ^ p and at least 16. A line has in row a the rest of the symbol whose weighted difference from the decision is a, and 0 in rows from
+// 2 ^ p on. Nothing changes where p is not 2 to 6, k not 2 to 3, d not 2 to 32, or a slice too short.
 pub fn sent(rule: Rule, d: usize, lines: &[u8], out: &mut [u8])
     ensures { λ _. ⌜ now (out .exit) ≡ sentLeaves (rule .p) (rule .k) (rule .greatest) d (now (lines .entry)) (now (out .entry)) ⌝ }
 {
@@ -71,24 +70,4 @@ pub fn sent(rule: Rule, d: usize, lines: &[u8], out: &mut [u8])
         return;
     }
     rows::rows(shape, d, &lines[..n], &mut out[..n]);
-}
-
-// The groups of a record from the rests that `sent` writes: for each a from 1 to 2 ^ p - 1, E, then k pairs of column and cost. Nothing changes
-// where p is not 2 to 6, k not 2 to 3, d not 2 to 32, or a slice too short.
-pub fn groups(rule: Rule, d: usize, sent: &[u8], out: &mut [u8])
-    ensures { λ _. ⌜ now (out .exit) ≡ groupsLeave (rule .p) (rule .k) d (now (sent .entry)) (now (out .entry)) ⌝ }
-{
-    if !fits(rule, d) {
-        return;
-    }
-    let shape = shape_of(rule);
-    let n = d * shape.l;
-    if sent.len() < n {
-        return;
-    }
-    let m = (shape.q - 1) * (shape.k * 2 + 1);
-    if out.len() < m {
-        return;
-    }
-    list::groups_in(shape, d, &sent[..n], &mut out[..m]);
 }

@@ -1,9 +1,10 @@
-// Rests of 255: the better of two, what a cost leaves of one. The shape of tables, and where their parts start.
+// Rests of 255: what a cost leaves of one. The shape of tables, and where their parts start.
 ghost use mathlib.Core.Path.{_≡_};
-ghost use Prim.Native.Nat.{_+_, _-_, _*_, _%_, _≤_, _<_, min, max};
+ghost use Prim.Native.Nat.{_+_, _-_, _*_, _%_, _≤_, _<_};
 ghost use Rattle.tables.specs.inner.Lanes.{cut, taken, twoOf};
 
-// Tables of l rows, of which q are asked for; one for each number of deviations from 1 to k; costs joined to their sum, or to their greatest.
+// Tables of l rows, of which q are asked for; one for each number of deviations from 1 to k; costs joined to their sum, or to their
+// greatest.
 pub struct Shape {
     pub q: usize,
     pub l: usize,
@@ -20,18 +21,6 @@ pub struct Four {
     pub w: u8,
 }
 
-pub fn lower(x: u8, y: u8) -> u8
-    ensures { λ r. ⌜ r ≡ min x y ⌝ }
-{
-    if x < y { x } else { y }
-}
-
-pub fn upper(x: u8, y: u8) -> u8
-    ensures { λ r. ⌜ r ≡ max x y ⌝ }
-{
-    if x < y { y } else { x }
-}
-
 // What a cost leaves of a rest. Costs are taken off, never added: "Two costs are never added in a byte."
 pub fn left(r: u8, c: u8) -> u8
     ensures { λ v. ⌜ v ≡ r - c ⌝ }
@@ -39,18 +28,15 @@ pub fn left(r: u8, c: u8) -> u8
     if r < c { 0 } else { r - c }
 }
 
-// A rest as the cost that it is left by.
-pub fn cost(r: u8) -> u8
-    ensures { λ c. ⌜ c ≡ 255 - r ⌝ }
-{
-    255 - r
-}
-
 // What is left of v where x is taken.
 pub fn meet(greatest: bool, v: u8, x: u8) -> u8
     ensures { λ r. ⌜ r ≡ cut greatest v x ⌝ }
 {
-    if greatest { lower(v, x) } else { left(v, x) }
+    if greatest {
+        numbers::min_u8(v, x)
+    } else {
+        left(v, x)
+    }
 }
 
 // A rest as it is taken from another: its cost, or itself where the lesser of two is left.
@@ -64,13 +50,7 @@ pub fn take(greatest: bool, u: u8) -> u8
 pub fn two(greatest: bool, x: u8, s: u8, y: u8, t: u8) -> u8
     ensures { λ r. ⌜ r ≡ twoOf greatest x s y t ⌝ }
 {
-    upper(meet(greatest, s, x), meet(greatest, t, y))
-}
-
-pub fn greater(x: usize, y: usize) -> usize
-    ensures { λ r. ⌜ r ≡ max x y ⌝ }
-{
-    if x < y { y } else { x }
+    numbers::max_u8(meet(greatest, s, x), meet(greatest, t, y))
 }
 
 // The place behind the block of sixteen that starts at v.
@@ -85,14 +65,6 @@ pub fn next(v: usize, n: usize) -> usize
 pub fn part_at(j: usize, n: usize, w: usize) -> usize
     requires { ⌜ (j < n) × ((n ≤ 32) × (w ≤ 192)) ⌝ }
     ensures { λ r. ⌜ (r ≡ j * w) × ((r + w ≤ n * w) × (n * w ≤ 6144)) ⌝ }
-{
-    j * w
-}
-
-// Where j of n parts, each w long, end.
-pub fn edge(j: usize, n: usize, w: usize) -> usize
-    requires { ⌜ (j ≤ n) × ((n ≤ 64) × (w ≤ 192)) ⌝ }
-    ensures { λ r. ⌜ (r ≡ j * w) × (r ≤ n * w) ⌝ }
 {
     j * w
 }

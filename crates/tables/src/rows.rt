@@ -14,7 +14,8 @@ ghost use Rattle.tables.specs.inner.Tables.{Shaped, on, risenIn, metIn, 
 // Both last tables: all deviations before the column, or all after it.
 fn apart(shape: Shape, before: &[u8], after: &[u8], out: &mut [u8])
     requires { ⌜ Shaped (shape .q) (shape .l) (shape .k) ⌝ }
-    requires { ⌜ (length (now before) ≡ shape .k * shape .l) × ((length (now after) ≡ shape .k * shape .l) × (length (now out) ≡ shape .l)) ⌝ }
+    requires { ⌜
+        (length (now before) ≡ shape .k * shape .l) × ((length (now after) ≡ shape .k * shape .l) × (length (now out) ≡ shape .l)) ⌝ }
     ensures { λ _. ⌜ now (out .exit) ≡ on shape sentTo (now (before .entry)) (now (after .entry)) 0 ⌝ }
 {
     let l = shape.l;
@@ -35,7 +36,8 @@ fn rise_both(
     out: &mut [u8],
 )
     requires { ⌜ Shaped (shape .q) (shape .l) (shape .k) ⌝ }
-    requires { ⌜ ((1 ≤ j) × (j < shape .k)) × ((length (now before) ≡ shape .k * shape .l) × (length (now after) ≡ shape .k * shape .l)) ⌝ }
+    requires { ⌜
+        ((1 ≤ j) × (j < shape .k)) × ((length (now before) ≡ shape .k * shape .l) × (length (now after) ≡ shape .k * shape .l)) ⌝ }
     requires { ⌜ (length (now line) ≡ shape .l) × ((length (now c) ≡ 16 * shape .l) × (length (now out) ≡ shape .l)) ⌝ }
     ensures { λ _. ⌜ now (before .exit) ≡ on shape risenIn (now (line .entry)) (now (before .entry)) j ⌝ }
     ensures { λ _. ⌜ now (out .exit) ≡ on shape metIn (now (before .entry)) (now (after .entry)) (now (out .entry)) j ⌝ }
@@ -83,8 +85,13 @@ fn pass_at(
     requires { ⌜ ((1 ≤ n) × (n + 1 < d)) × ((d ≤ 32) × (length (now lines) ≡ d * shape .l)) ⌝ }
     requires { ⌜ (length (now before) ≡ shape .k * shape .l) × (length (now after) ≡ (d - 1) * (shape .k * shape .l)) ⌝ }
     requires { ⌜ (length (now c) ≡ 16 * shape .l) × (length (now out) ≡ d * shape .l) ⌝ }
-    ensures { λ _. ⌜ now (before .exit) ≡ on shape grownList (part (now (lines .entry)) (n * shape .l) (shape .l)) (now (before .entry)) ⌝ }
-    ensures { λ _. ⌜ now (out .exit) ≡ patch (now (out .entry)) (n * shape .l) (shape .l) (on shape sentTo (now (before .entry)) (part (now (after .entry)) ((d - 2 - n) * (shape .k * shape .l)) (shape .k * shape .l)) (shape .k - 1)) ⌝ }
+    ensures { λ _. ⌜
+        now (before .exit) ≡ on shape grownList (part (now (lines .entry)) (n * shape .l) (shape .l)) (now (before .entry)) ⌝ }
+    ensures { λ _. ⌜
+        now (out .exit)
+        ≡ patch (now (out .entry)) (n * shape .l) (shape .l)
+        (on shape sentTo (now (before .entry))
+        (part (now (after .entry)) ((d - 2 - n) * (shape .k * shape .l)) (shape .k * shape .l)) (shape .k - 1)) ⌝ }
 {
     let l = shape.l;
     let w = before.len();
@@ -99,7 +106,8 @@ fn pass_at(
 fn end(shape: Shape, d: usize, n: usize, tables: &[u8], out: &mut [u8])
     requires { ⌜ Shaped (shape .q) (shape .l) (shape .k) ⌝ }
     requires { ⌜ ((n < d) × (d ≤ 32)) × ((length (now tables) ≡ shape .k * shape .l) × (length (now out) ≡ d * shape .l)) ⌝ }
-    ensures { λ _. ⌜ now (out .exit) ≡ patch (now (out .entry)) (n * shape .l) (shape .l) (lastTable (shape .l) (shape .k) (now (tables .entry))) ⌝ }
+    ensures { λ _. ⌜
+        now (out .exit) ≡ patch (now (out .entry)) (n * shape .l) (shape .l) (lastTable (shape .l) (shape .k) (now (tables .entry))) ⌝ }
 {
     let l = shape.l;
     let t = num::part_at(shape.k - 1, shape.k, l);
@@ -115,7 +123,10 @@ fn first(shape: Shape, d: usize, lines: &[u8], after: &[u8], before: &mut [u8], 
     requires { ⌜ ((2 ≤ d) × (d ≤ 32)) × ((length (now lines) ≡ d * shape .l) × (length (now out) ≡ d * shape .l)) ⌝ }
     requires { ⌜ (length (now before) ≡ shape .k * shape .l) × (length (now after) ≡ (d - 1) * (shape .k * shape .l)) ⌝ }
     ensures { λ _. ⌜ now (before .exit) ≡ on shape beforeTo (now (lines .entry)) 0 ⌝ }
-    ensures { λ _. ⌜ now (out .exit) ≡ patch (now (out .entry)) (0 * shape .l) (shape .l) (lastTable (shape .l) (shape .k) (part (now (after .entry)) ((d - 2) * (shape .k * shape .l)) (shape .k * shape .l))) ⌝ }
+    ensures { λ _. ⌜
+        now (out .exit)
+        ≡ patch (now (out .entry)) (0 * shape .l) (shape .l)
+        (lastTable (shape .l) (shape .k) (part (now (after .entry)) ((d - 2) * (shape .k * shape .l)) (shape .k * shape .l))) ⌝ }
 {
     let l = shape.l;
     let w = before.len();

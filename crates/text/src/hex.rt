@@ -1,11 +1,11 @@
 // A line of text: hexadecimal digits, two a byte.
-use checknode::Written;
+use field::Written;
 ghost use mathlib.Core.Path.{_≡_};
 ghost use mathlib.Core.Bool.{true};
 ghost use mathlib.Core.List.{_++_};
 ghost use Prim.Native.Nat.{_/_, _<_, _≤_};
 ghost use lib.ListN.{length, drop};
-ghost use Rattle.checknode.specs.Answers.{writtenReply};
+ghost use Rattle.field.specs.Answers.{writtenReply};
 ghost use Rattle.machine.specs.Line.{isDigit, digit, lineBytes, lineReply, lineLeaves};
 ghost use Rattle.text.specs.inner.Digits.{digitAnswer, digitsFault, allDigits};
 

@@ -7,11 +7,11 @@ mod print;
 pub mod state;
 
 use crate::state::State;
-use checknode::Written;
+use field::Written;
 ghost use mathlib.Core.Path.{_≡_};
 ghost use mathlib.Core.List.{_++_};
 ghost use lib.ListN.{length, take, drop};
-ghost use Rattle.checknode.specs.Answers.{writtenReply};
+ghost use Rattle.field.specs.Answers.{writtenReply};
 ghost use Rattle.machine.specs.Line.{lineReply, lineLeaves};
 ghost use Rattle.machine.specs.Printing.{frameLine};
 ghost use Rattle.machine.specs.inner.Blocks.{fedOut, closeOut};

@@ -1,6 +1,6 @@
 // The printed line of a frame: decoded from its line of text, and printed as two hexadecimal digits a byte.
 use crate::hex;
-use checknode::Written;
+use field::Written;
 use layered::answers::Answer;
 use layered::answers::Outcome;
 ghost use mathlib.Core.Path.{_≡_};

@@ -1,5 +1,5 @@
 -- By the number of the first refusal: the call is refused by it, or record_in is given the record's place.
-use mathlib.Core.Path.{_≡_, _∙_}
+use mathlib.Core.Path.{_≡_}
 use Prim.Native.Nat.{_≤_}
 use native.Mathlib.Omega.{arith}
 use borrow.Author.Needs.{needs}

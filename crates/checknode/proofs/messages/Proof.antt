@@ -1,10 +1,10 @@
 -- By the number of the first refusal, then by the room for the sent costs: the call is refused, or messages_in is given the two places.
-use mathlib.Core.Path.{_≡_, _∙_}
+use mathlib.Core.Path.{_≡_}
 use Prim.Native.Nat.{_≤_}
 use native.Mathlib.Omega.{arith}
 use borrow.Author.Needs.{needs}
 use lib.ListN.{length, length-take}
-use Rattle.checknode.proofs.Refusals.{mul-small}
+use Rattle.field.proofs.Blocks.{mul-small}
 use Rattle.trellis.specs.Rules.{sizeOf}
 use Rattle.trellis.proofs.Recurrence.{size-64}
 use Rattle.checknode.proofs.CheckFault.{Passed, passed}

@@ -17,9 +17,19 @@ pub record PlaceRoom (costs row : List ℕ) (s : ℕ) (line : List ℕ) : Type 0
   pub below : (x : ℕ) → x < length costs → getD row x 0 < 2 ^ p
   pub s-below : s < 2 ^ p
 
--- the products of column n's weight
-abbrev pub rowOf : ℕ → List ℕ → ℕ → List ℕ
-rowOf p ws n = tab (product p (getD ws n 0)) (2 ^ p)
+-- a column of the field of 2 ^ p: its costs, one of them 0, the products of its weight, which are elements, and a line with these rows
+pub record ColumnRoom (costs row line : List ℕ) : Type 0 where
+  pub p : ℕ
+  pub low : 2 ≤ p
+  pub of-costs : length costs ≡ 2 ^ p
+  pub of-row : length row ≡ 2 ^ p
+  pub wide : 2 ^ p ≤ length line
+  pub below : (x : ℕ) → x < 2 ^ p → getD row x 0 < 2 ^ p
+  pub zero : firstZero costs < 2 ^ p
+
+-- its rests, put into their rows
+abbrev pub lineFrom : List ℕ → List ℕ → List ℕ → List ℕ
+lineFrom costs row line = placed costs row (getD row (firstZero costs) 0) (length costs) line
 
 -- a line of l places, from a weight and costs; and column n's
 abbrev pub restsFrom : ℕ → ℕ → List ℕ → ℕ → List ℕ
@@ -28,11 +38,10 @@ restsFrom p h costs l = placed costs (tab (product p h) (2 ^ p)) (product p h (f
 abbrev pub restsOf : ℕ → List ℕ → List ℕ → ℕ → ℕ → List ℕ
 restsOf p ws cs l n = restsFrom p (getD ws n 0) (costsAt (2 ^ p) cs n) l
 
--- room for the products and lines of d columns, that for the lines cleared
-pub record LinesRoom (p l d : ℕ) (rows lines out : List ℕ) : Type 0 where
+-- room for the lines of d columns, cleared, and for their terms
+pub record LinesRoom (p l d : ℕ) (lines out : List ℕ) : Type 0 where
   pub wide : 2 ^ p ≤ l
   pub narrow : l ≤ 64
-  pub of-rows : length rows ≡ d * 2 ^ p
   pub of-lines : length lines ≡ d * l
   pub cleared : lines ≡ tab (λ a. 0) (length lines)
   pub of-out : length out ≡ d
@@ -63,13 +72,13 @@ pub record SendsRoom (w l : ℕ) (rows shifts rests out : List ℕ) : Type 0 whe
 abbrev pub sideOf : ℕ → ℕ
 sideOf p = max 16 (2 ^ p)
 
--- room for the products, rests and shifts of d columns
-pub record RestsRoom (p d : ℕ) (rows rests shifts : List ℕ) : Type 0 where
-  pub of-rows : length rows ≡ d * 2 ^ p
+-- room for the rests and shifts of d columns
+pub record RestsRoom (p d : ℕ) (rests shifts : List ℕ) : Type 0 where
   pub of-rests : length rests ≡ d * sideOf p
   pub of-shifts : length shifts ≡ d
 
 -- what is left of 255 after the cost sent to column n at a, for each column and each a
 pub record Rests (f : ℕ) (ws cs rests : List ℕ) : Type 0 where
   pub full : length rests ≡ length ws * sideOf (powerOf f)
-  pub at : (n a : ℕ) → n < length ws → a < sizeOf f → getD rests (n * sideOf (powerOf f) + a) 0 ≡ 255 - sentAt (ruleFor f) (columnsOf (sizeOf f) ws cs) n a
+  pub at : (n a : ℕ) → n < length ws → a < sizeOf f
+      → getD rests (n * sideOf (powerOf f) + a) 0 ≡ 255 - sentAt (ruleFor f) (columnsOf (sizeOf f) ws cs) n a

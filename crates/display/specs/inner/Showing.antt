@@ -6,7 +6,7 @@ use lib.ListN.{length, getD}
 use Rattle.trellis.specs.Lists.{pick}
 use Rattle.trellis.specs.Record.{recordOk}
 use Rattle.trellis.specs.Rules.{ruleFor}
-use Rattle.checknode.specs.Answers.{weightCases}
+use Rattle.field.specs.Answers.{weightCases}
 use Rattle.division.specs.Numbers.{QuotientRoom}
 
 -- the refusal of an expansion into a buffer that is too short for any

@@ -2,7 +2,7 @@
 use mathlib.Core.Path.{sym, ap, _∙_}
 use borrow.Author.Needs.{needs}
 use Rattle.trellis.specs.Reply.{Reply}
-use Rattle.checknode.specs.Answers.{elementReply}
+use Rattle.field.specs.Answers.{elementReply}
 use Rattle.division.proofs.times.Statement.{statement}
 use Rattle.division.proofs.times.Tie as tie
 

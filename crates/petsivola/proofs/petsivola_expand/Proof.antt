@@ -2,7 +2,7 @@
 use mathlib.Core.Path.{subst}
 use native.Mathlib.Omega.{arith}
 use native.Mathlib.Nat.{le-trans}
-use Rattle.checknode.proofs.Values.{expand-short}
+use Rattle.expansion.proofs.Values.{expand-short}
 use Rattle.petsivola.specs.Packed.{Packs}
 use borrow.Author.Needs.{needs}
 use Rattle.petsivola.proofs.petsivola_expand.Statement.{statement}

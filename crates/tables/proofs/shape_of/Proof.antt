@@ -11,17 +11,17 @@ cast-q c = search needs
 shl-q : tie.Need-shl-q
 shl-q c = search needs
 
-greater-requires : tie.Need-greater-requires
-greater-requires c κs = search needs
+max-usize-requires : tie.Need-max-usize-requires
+max-usize-requires c κs = search needs
 
 cast-t4 : tie.Need-cast-t4
 cast-t4 c = search needs
 
 returns : tie.Need-returns
 returns c =
-    let at-greater = c .before in
-    let start = at-greater .before .before in
-    shape-is (start .args .rule .p) (start .args .rule .k) (start .args .rule .greatest) (omega arith) (omega arith) (omega arith) (omega arith) refl (at-greater .greater .ensures)
+    let at-max = c .before in
+    let start = at-max .before .before in
+    shape-is (start .args .rule .p) (start .args .rule .k) (start .args .rule .greatest) (omega arith) (omega arith) (omega arith) (omega arith) refl (at-max .max-usize .ensures)
 
 pub shape-of-spec : {M : Type 1} → statement M
-shape-of-spec = tie.close (tie.spec cast-q shl-q greater-requires cast-t4 returns)
+shape-of-spec = tie.close (tie.spec cast-q shl-q max-usize-requires cast-t4 returns)

@@ -1,5 +1,5 @@
--- Mirrors the loops over sixteen rows: what they compute, block by block, and what they ask. The reader's definitions are those of engine and
--- trellis; proofs/Meaning.antt ties these to them.
+-- Mirrors the loops over sixteen rows: what they compute, block by block, and what they ask. The reader's definitions are those of
+-- engine and trellis; proofs/Meaning.antt ties these to them.
 use mathlib.Core.Path.{_≡_}
 use mathlib.Core.Bool.{Bool}
 use mathlib.Core.Logic.{_⊎_}

@@ -1,11 +1,11 @@
--- Mirrors the loops over columns: k tables of l rows, end to end, over the columns before and after each one, and the rests of the costs sent.
--- The reader's definitions are those of engine and trellis; proofs/Meaning.antt ties these to them.
+-- Mirrors the loops over columns: k tables of l rows, end to end, over the columns before and after each one, and the rests of the
+-- costs sent. The reader's definitions are those of engine and trellis; proofs/Meaning.antt ties these to them.
 use mathlib.Core.Path.{_≡_}
 use mathlib.Core.Bool.{Bool}
 use mathlib.Core.List.{List}
-use Prim.Native.Nat.{ℕ, zero, suc, _+_, _-_, _*_, _%_, _^_, _≤_, _<_, max}
+use Prim.Native.Nat.{ℕ, zero, suc, _+_, _-_, _*_, _%_, _^_, _≤_, max}
 use lib.Dec.{eqb}
-use lib.ListN.{length, getD}
+use lib.ListN.{getD}
 use Rattle.trellis.specs.Lists.{pick, tab, blocks, part, patch}
 use Rattle.engine.specs.inner.Rests.{meetOf, across}
 use Rattle.tables.specs.declared.num.Shape.{Shape}

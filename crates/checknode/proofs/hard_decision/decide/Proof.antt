@@ -4,7 +4,7 @@ use Prim.Native.Nat.{_+_, _≤_, _<_, _-_}
 use native.Mathlib.Numerals.{add-one}
 use native.Mathlib.Omega.{arith}
 use borrow.Author.Needs.{needs}
-use lib.ListN.{length, drop, getD}
+use lib.ListN.{length, drop}
 use Rattle.trellis.specs.Check.{firstZero}
 use Rattle.trellis.proofs.Margins.{zero-here, zero-later, zero-none, margin-found, margin-none}
 use Rattle.checknode.proofs.hard_decision.decide.Statement.{statement}

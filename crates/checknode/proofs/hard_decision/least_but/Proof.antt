@@ -25,8 +25,8 @@ shared-slice-read-but c = search needs
 but-requires : tie.Need-but-requires Inv-loop μ-loop
 but-requires c κs = search needs
 
-lower-requires : tie.Need-lower-requires Inv-loop μ-loop
-lower-requires c κs = search needs
+min-u8-requires : tie.Need-min-u8-requires Inv-loop μ-loop
+min-u8-requires c κs = search needs
 
 add-x : tie.Need-add-x Inv-loop μ-loop
 add-x c = search needs
@@ -47,4 +47,4 @@ returns c =
 
 pub least-but-spec : {M : Type 1} → statement M
 least-but-spec =
-    tie.close (tie.spec Inv-loop μ-loop loop-holds shared-slice-read-but but-requires lower-requires add-x loop-less loop-again returns)
+    tie.close (tie.spec Inv-loop μ-loop loop-holds shared-slice-read-but but-requires min-u8-requires add-x loop-less loop-again returns)

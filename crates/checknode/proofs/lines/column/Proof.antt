@@ -1,62 +1,40 @@
--- Products, decision, the rests in their rows: each callee's equation in turn.
+-- The decision, then the rests in their rows.
+use mathlib.Core.Path.{ap, _∙_}
+use Prim.Native.Nat.{zero}
+use native.Mathlib.Omega.{arith}
 use borrow.Author.Needs.{needs}
-use lib.ListN.{length}
-use Rattle.checknode.proofs.Filling.{column-term, four-divides}
-use Rattle.checknode.proofs.Lining.{line-room, line-done}
+use lib.ListN.{length, getD}
+use Rattle.field.proofs.Filling.{four-divides}
+use Rattle.checknode.proofs.Lining.{place-room}
+use Rattle.engine.specs.inner.Lines.{placed}
 use Rattle.checknode.proofs.lines.column.Statement.{statement}
 use Rattle.checknode.proofs.lines.column.Tie as tie
-
-fill-requires : tie.Need-fill-requires
-fill-requires c κs = search needs
 
 decide-requires : tie.Need-decide-requires
 decide-requires c κs = search needs
 
-slice-read-s : tie.Need-slice-read-s
-slice-read-s c = search needs
+shared-slice-read-s : tie.Need-shared-slice-read-s
+shared-slice-read-s c =
+    let at-decide = c .before in
+    let start = at-decide .before .before .before .before in
+    omega (arith, at-decide .decide .ensures .0, start .pre .zero, start .pre .of-row)
 
 place-requires : tie.Need-place-requires
 place-requires c κs =
-    let at-decide = c .before .before .before in
-    let at-fill = at-decide .before .before .before in
-    let start = at-fill .before .before .before .before .before .before in
-    let a = start .args in
-    let r = start .pre .1 .1 .0 in (
-      line-room (a .p) (a .h) (a .costs .now) _ (start .pre .0) (at-fill .fill .ensures) (at-decide .decide .ensures .0)
-          (r .1 .1 .1) (r .1 .1 .0) (r .1 .0),
-      rw (r .1 .1 .0) (four-divides (a .p) (start .pre .0 .low)),
-    )
+    let at-decide = c .before .before in
+    let start = at-decide .before .before .before .before in
+    (place-room (start .args .costs .now) (start .args .row .now) (start .args .line .now) (start .pre) (at-decide .decide .ensures .0), rw (start .pre .of-costs) (four-divides (start .pre .p) (start .pre .low)))
 
 same-length : tie.Need-same-length
 same-length c = search needs
 
-same-length-2 : tie.Need-same-length-2
-same-length-2 c = search needs
-
 returns : tie.Need-returns
 returns c =
     let at-place = c .before .before in
-    let at-decide = at-place .before .before .before .before in
-    let at-fill = at-decide .before .before .before in
-    let start = at-fill .before .before .before .before .before .before in
-    let a = start .args in
-    let r = start .pre .1 .1 .0 in (
-      column-term (a .p) (a .h) (a .costs .now) (at-fill .fill .ensures) (at-decide .decide .ensures .0) (r .1 .1 .1),
-      (
-        at-fill .fill .ensures,
-        line-done (a .p) (a .h) (a .costs .now) (length (a .line .now)) (at-fill .fill .ensures) (at-decide .decide .ensures .0)
-            (r .1 .1 .1) (r .1 .1 .0) (start .pre .1 .1 .1) (at-place .place .ensures),
-      ),
-    )
+    let at-decide = at-place .before .before .before in
+    let start = at-decide .before .before .before .before in
+    ((ap (λ z. getD (start .args .row .now) z 0) (at-decide .decide .ensures .0)), at-place .place .ensures ∙ ap (λ s. placed (start .args .costs .now) (start .args .row .now) s (length (start .args .costs .now)) (start .args .line .now)) (ap (λ z. getD (start .args .row .now) z 0) (at-decide .decide .ensures .0)))
 
 pub column-spec : {M : Type 1} → statement M
 column-spec =
-    tie.close
-    (tie.spec
-    fill-requires
-    decide-requires
-    slice-read-s
-    place-requires
-    same-length
-    same-length-2
-    returns)
+    tie.close (tie.spec decide-requires shared-slice-read-s place-requires same-length returns)

@@ -1,12 +1,9 @@
 -- The record, then the sent costs from what it left.
-use mathlib.Core.Path.{_≡_, refl, sym, ap, _∙_}
-use Prim.Native.Nat.{_+_, _-_, _*_, _^_, _≤_, _<_, max}
+use mathlib.Core.Path.{_≡_, ap, _∙_}
+use Prim.Native.Nat.{_-_, max}
 use native.Mathlib.Omega.{arith}
-use lib.Pow.{pow-mono}
-use lib.ListN.{length, take, drop, length-take, length-drop, length-append}
-use lib.Seq.{take-at}
+use lib.ListN.{length-take}
 use Rattle.trellis.specs.Rules.{sizeOf}
-use Rattle.checknode.specs.inner.Lines.{sideOf}
 use Rattle.checknode.proofs.Resting.{send-law, sends-room}
 use borrow.Author.Needs.{needs}
 use Rattle.checknode.proofs.record.messages_with.Statement.{statement}

@@ -8,7 +8,7 @@ use lib.ListN.{length, drop, length-set}
 use Rattle.trellis.specs.Lists.{tab}
 use Rattle.trellis.specs.Field.{xor}
 use Rattle.checknode.specs.inner.Lines.{sentFrom}
-use Rattle.trellis.proofs.Loops.{tab-more, tab-whole}
+use Rattle.trellis.proofs.Loops.{tab-whole}
 use Rattle.checknode.proofs.Lining.{send-turn}
 use Rattle.checknode.proofs.send.column.Statement.{statement}
 use Rattle.checknode.proofs.send.column.Tie as tie
@@ -22,18 +22,18 @@ abbrev μ-loop : tie.MeasureT-loop
 loop-holds : tie.Need-loop-holds Inv-loop μ-loop
 loop-holds c = (omega arith, (refl, refl))
 
-shared-slice-read-index : tie.Need-shared-slice-read-index Inv-loop μ-loop
-shared-slice-read-index c = search needs
+shared-slice-read-u8-to-usize : tie.Need-shared-slice-read-u8-to-usize Inv-loop μ-loop
+shared-slice-read-u8-to-usize c = search needs
 
-index-requires : tie.Need-index-requires Inv-loop μ-loop
-index-requires c κs = search needs
+u8-to-usize-requires : tie.Need-u8-to-usize-requires Inv-loop μ-loop
+u8-to-usize-requires c κs = search needs
 
 shared-slice-read-cost-of : tie.Need-shared-slice-read-cost-of Inv-loop μ-loop
 unfolding xor
 shared-slice-read-cost-of c =
     let at-loop = c .before .before .before .before in
     let start = at-loop .before .before .before .before in
-    omega (arith, start .pre .below (at-loop .loop .x) (omega arith), c .before .index .ensures .0)
+    omega (arith, start .pre .below (at-loop .loop .x) (omega arith), c .before .u8-to-usize .ensures .0)
 
 cost-of-requires : tie.Need-cost-of-requires Inv-loop μ-loop
 cost-of-requires c κs = search needs
@@ -51,7 +51,7 @@ loop-again : tie.Need-loop-again Inv-loop μ-loop
 loop-again c =
     let at-loop = c .before .before .before .before .before in
     let start = at-loop .before .before .before .before in
-    (omega arith, (simp length-set (omega arith), send-turn (start .args .row .now) (start .args .s) (start .args .rests .now) (start .args .out .now) (at-loop .loop .out) (at-loop .loop .x) (omega arith) (at-loop .loop .inv .1 .1) (c .before .before .index .ensures .0) (c .cost-of .ensures)))
+    (omega arith, (simp length-set (omega arith), send-turn (start .args .row .now) (start .args .s) (start .args .rests .now) (start .args .out .now) (at-loop .loop .out) (at-loop .loop .x) (omega arith) (at-loop .loop .inv .1 .1) (c .before .before .u8-to-usize .ensures .0) (c .cost-of .ensures)))
 
 same-length : tie.Need-same-length Inv-loop μ-loop
 same-length c = search needs
@@ -68,8 +68,8 @@ column-spec =
     Inv-loop
     μ-loop
     loop-holds
-    shared-slice-read-index
-    index-requires
+    shared-slice-read-u8-to-usize
+    u8-to-usize-requires
     shared-slice-read-cost-of
     cost-of-requires
     slice-write-out

@@ -1,11 +1,11 @@
 -- After n turns the costs of the first n columns stand in their places.
-use mathlib.Core.Path.{_≡_, refl, ap, _∙_}
+use mathlib.Core.Path.{_≡_, refl}
 use mathlib.Core.List.{_++_}
-use Prim.Native.Nat.{_*_, _≤_, _<_, _-_}
-use native.Mathlib.Nat.{zero-mul, add-sub-cancel-left}
+use Prim.Native.Nat.{_*_, _≤_, _-_}
+use native.Mathlib.Nat.{zero-mul}
 use native.Mathlib.Omega.{arith}
 use borrow.Author.Needs.{needs}
-use lib.ListN.{length, drop, length-take, length-drop}
+use lib.ListN.{length, drop}
 use Rattle.trellis.specs.Lists.{blocks}
 use Rattle.checknode.specs.inner.Lines.{sentColumn}
 use Rattle.trellis.proofs.Loops.{block-more, block-end}

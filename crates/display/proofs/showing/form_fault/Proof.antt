@@ -1,7 +1,7 @@
 -- The one byte lent is too short for any expansion (never-written), so the reply's number tells the tests (fault-said).
 use mathlib.Core.Path.{refl, sym, ap, _∙_}
 use borrow.Author.Needs.{needs}
-use Rattle.checknode.specs.Answers.{writtenReply}
+use Rattle.field.specs.Answers.{writtenReply}
 use Rattle.display.proofs.Refusals.{never-written, fault-said}
 use Rattle.display.proofs.showing.form_fault.Statement.{statement}
 use Rattle.display.proofs.showing.form_fault.Tie as tie

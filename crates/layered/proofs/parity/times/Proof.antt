@@ -1,6 +1,6 @@
 -- What the requires say is what product tests, so its answer is the product.
 use borrow.Author.Needs.{needs}
-use Rattle.checknode.proofs.ProductCall.{is-product, never-refused}
+use Rattle.field.proofs.ProductCall.{is-product, never-refused}
 use Rattle.layered.proofs.parity.times.Statement.{statement}
 use Rattle.layered.proofs.parity.times.Tie as tie
 

@@ -1,7 +1,7 @@
 -- The one byte lent is too short for any expansion (never-written), so the reply tells the form (form-said).
 use mathlib.Core.Path.{refl, sym, ap, _∙_}
 use borrow.Author.Needs.{needs}
-use Rattle.checknode.specs.Answers.{writtenReply}
+use Rattle.field.specs.Answers.{writtenReply}
 use Rattle.layered.proofs.Resuming.{never-written, form-said}
 use Rattle.layered.proofs.resume.formed.Statement.{statement}
 use Rattle.layered.proofs.resume.formed.Tie as tie

@@ -4,7 +4,7 @@ use native.Mathlib.Omega.{arith}
 use borrow.Author.Needs.{needs}
 use Rattle.trellis.specs.Lists.{tab}
 use Rattle.sweep.specs.inner.Cells.{moveCost}
-use Rattle.checknode.proofs.Filling.{column-term}
+use Rattle.checknode.proofs.Lining.{column-term}
 use Rattle.sweep.proofs.columns.column.Statement.{statement}
 use Rattle.sweep.proofs.columns.column.Tie as tie
 

@@ -10,7 +10,7 @@ use Rattle.trellis.specs.Lists.{blocks}
 use Rattle.trellis.specs.Rules.{ruleFor, sizeOf, columnsOf}
 use Rattle.sweep.specs.Kept.{cellCount}
 use Rattle.sweep.specs.inner.Cells.{orderOf, cellsAfter}
-use Rattle.checknode.proofs.Refusals.{part-room}
+use Rattle.field.proofs.Blocks.{part-room}
 use Rattle.sweep.proofs.Laws.{past-first, part-length, below-length}
 use Rattle.sweep.proofs.Swept.{ready-sizes, cells-some, table-start, start-length, table-turn, table-copied, table-next, next-length, table-end}
 use Rattle.sweep.proofs.columns.fill.Statement.{statement}

@@ -1,7 +1,7 @@
 -- Neither factor is refused, so the answer is the product.
 use borrow.Author.Needs.{needs}
 use Rattle.trellis.specs.Field.{product}
-use Rattle.checknode.proofs.ProductCall.{is-product, never-refused}
+use Rattle.field.proofs.ProductCall.{is-product, never-refused}
 use Rattle.sweep.proofs.columns.times.Statement.{statement}
 use Rattle.sweep.proofs.columns.times.Tie as tie
 

@@ -7,7 +7,7 @@ use borrow.Author.Needs.{needs}
 use lib.ListN.{length, drop}
 use Rattle.trellis.specs.Lists.{blocks}
 use Rattle.sweep.specs.inner.Groups.{sentOf, groupBy}
-use Rattle.checknode.proofs.Refusals.{part-room}
+use Rattle.field.proofs.Blocks.{part-room}
 use Rattle.sweep.proofs.Laws.{part-length, drop-none}
 use Rattle.sweep.proofs.Grouping.{length-blocks-to, block-turn, block-last, group-full}
 use Rattle.sweep.proofs.group.groups.Statement.{statement}

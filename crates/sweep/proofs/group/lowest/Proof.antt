@@ -4,7 +4,7 @@ use Prim.Native.Nat.{_-_, _≤_}
 use native.Mathlib.Omega.{arith}
 use borrow.Author.Needs.{needs}
 use Rattle.sweep.specs.inner.Groups.{lowestTo, sentOf}
-use Rattle.checknode.proofs.Refusals.{part-room}
+use Rattle.field.proofs.Blocks.{part-room}
 use Rattle.sweep.proofs.Grouping.{lowest-turn}
 use Rattle.sweep.proofs.group.lowest.Statement.{statement}
 use Rattle.sweep.proofs.group.lowest.Tie as tie

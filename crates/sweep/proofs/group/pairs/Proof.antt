@@ -7,7 +7,7 @@ use borrow.Author.Needs.{needs}
 use lib.ListN.{length, drop}
 use Rattle.trellis.specs.Lists.{blocks}
 use Rattle.sweep.specs.inner.Groups.{sentOf, pairAt, pairCount}
-use Rattle.checknode.proofs.Refusals.{part-room}
+use Rattle.field.proofs.Blocks.{part-room}
 use Rattle.sweep.proofs.Grouping.{pair-length, pair-room, count-small, count-turn, pair-turn}
 use Rattle.sweep.proofs.group.pairs.Statement.{statement}
 use Rattle.sweep.proofs.group.pairs.Tie as tie

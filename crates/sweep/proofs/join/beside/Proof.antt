@@ -7,7 +7,7 @@ use Rattle.trellis.specs.Lists.{part}
 use Rattle.trellis.specs.Sweep.{leastTo}
 use Rattle.sweep.specs.inner.Joins.{acrossAt, besideAt}
 use Rattle.trellis.proofs.Sweep.{leastTo-mark}
-use Rattle.checknode.proofs.Refusals.{part-room}
+use Rattle.field.proofs.Blocks.{part-room}
 use Rattle.sweep.proofs.Laws.{least-turn, cut-is, part-length}
 use Rattle.sweep.proofs.join.beside.Statement.{statement}
 use Rattle.sweep.proofs.join.beside.Tie as tie

@@ -8,7 +8,7 @@ use Rattle.trellis.specs.Lists.{part}
 use Rattle.trellis.specs.Sweep.{leastTo}
 use Rattle.sweep.specs.inner.Joins.{besideAt, joinAt}
 use Rattle.trellis.proofs.Sweep.{leastTo-mark}
-use Rattle.checknode.proofs.Refusals.{part-room}
+use Rattle.field.proofs.Blocks.{part-room}
 use Rattle.sweep.proofs.Laws.{least-turn, sums-same, cut-is, part-length}
 use Rattle.sweep.proofs.join.join_at.Statement.{statement}
 use Rattle.sweep.proofs.join.join_at.Tie as tie

@@ -8,7 +8,7 @@ use lib.ListN.{length, drop}
 use Rattle.trellis.specs.Lists.{blocks}
 use Rattle.sweep.specs.inner.Joins.{sentRow}
 use Rattle.trellis.proofs.Loops.{block-more, block-end, length-tab}
-use Rattle.checknode.proofs.Refusals.{part-room}
+use Rattle.field.proofs.Blocks.{part-room}
 use Rattle.sweep.proofs.Laws.{part-length, drop-none}
 use Rattle.sweep.proofs.Rows.{both-rooms, row-sizes, row-bytes, row-is}
 use Rattle.sweep.proofs.join.sent_all.Statement.{statement}

@@ -8,7 +8,7 @@ use lib.ListN.{length, drop}
 use Rattle.trellis.specs.Lists.{blocks}
 use Rattle.sweep.specs.inner.Cells.{countAt, stepCells}
 use Rattle.trellis.proofs.Loops.{block-more, block-end}
-use Rattle.checknode.proofs.Refusals.{part-room}
+use Rattle.field.proofs.Blocks.{part-room}
 use Rattle.sweep.proofs.Laws.{part-length, count-length, drop-none}
 use Rattle.sweep.proofs.step.step.Statement.{statement}
 use Rattle.sweep.proofs.step.step.Tie as tie

@@ -1,21 +1,17 @@
 use Rattle.tables.proofs.Turns.{tab-turn, lanes-end}
 use Rattle.trellis.specs.Lists.{tab}
 use Prim.Native.Nat.{max}
-use mathlib.Core.Path.{_≡_, refl, ap, _∙_, sym}
-use mathlib.Core.List.{List, [], _∷_, _++_}
-use mathlib.Core.Logic.{⊎-elim}
-use Prim.Native.Nat.{ℕ, zero, suc, _+_, _-_, _*_, _/_, _%_, _^_, _≤_, _<_}
-use native.Mathlib.Numerals.{add-one}
+use mathlib.Core.Path.{_≡_}
+use mathlib.Core.List.{_++_}
+use Prim.Native.Nat.{ℕ, _+_, _-_, _/_, _≤_}
 use native.Mathlib.Omega.{arith}
 use borrow.Author.Needs.{needs}
-use borrow.Author.Tests.{eq-eqb, ne-eqb, lt-ltb, le-ltb, le-leb, lt-leb}
-use lib.ListN.{length, take, drop, getD, set, replicate, length-set, length-append, length-take, length-drop, length-replicate}
-use lib.Seq.{length-take-le}
+use lib.ListN.{length, drop, getD, length-set}
 use Rattle.tables.proofs.block.better.Statement.{statement}
 use Rattle.tables.proofs.block.better.Tie as tie
 use Rattle.tables.proofs.block.better.Reads as reads
 use Rattle.tables.proofs.block.better.Lts as lts
-use Rattle.tables.proofs.num.upper.Reads as upper-reads
+use Rattle.numbers.proofs.max_u8.Reads as max-u8-reads
 
 abbrev Inv-loop : tie.InvT-loop
 Inv-loop w e t₀ i₀ t i = (i ≤ 16) × ((length t ≡ length t₀) × (t ≡ tab (λ (j : ℕ). max (getD e j 0) (getD w j 0)) i ++ drop i t₀))
@@ -28,16 +24,16 @@ loop-holds : tie.Need-loop-holds Inv-loop μ-loop
 loop-holds c = search needs
 
 -- src/block.rt:17:27
-shared-slice-read-upper : tie.Need-shared-slice-read-upper Inv-loop μ-loop
-shared-slice-read-upper c = search needs
+shared-slice-read-max-u8 : tie.Need-shared-slice-read-max-u8 Inv-loop μ-loop
+shared-slice-read-max-u8 c = search needs
 
 -- src/block.rt:17:33
-shared-slice-read-upper-2 : tie.Need-shared-slice-read-upper-2 Inv-loop μ-loop
-shared-slice-read-upper-2 c = search needs
+shared-slice-read-max-u8-2 : tie.Need-shared-slice-read-max-u8-2 Inv-loop μ-loop
+shared-slice-read-max-u8-2 c = search needs
 
 -- src/block.rt:17:16
-upper-requires : tie.Need-upper-requires Inv-loop μ-loop
-upper-requires c κs = search needs
+max-u8-requires : tie.Need-max-u8-requires Inv-loop μ-loop
+max-u8-requires c κs = search needs
 
 -- src/block.rt:17:9
 slice-write-t : tie.Need-slice-write-t Inv-loop μ-loop
@@ -54,7 +50,7 @@ loop-less c = search needs
 -- src/block.rt:16:5
 loop-again : tie.Need-loop-again Inv-loop μ-loop
 loop-again c = let l = c .before .before .before .before in let a = c .before .before .before .before .before .before .before .before .args in
-    (omega arith, (simp length-set (omega arith), tab-turn (λ (j : ℕ). max (getD (a .e .now) j 0) (getD (a .w .now) j 0)) (l .loop .t) (a .t .now) (l .loop .i) (omega arith) (l .loop .inv .1 .1) (c .upper .ensures)))
+    (omega arith, (simp length-set (omega arith), tab-turn (λ (j : ℕ). max (getD (a .e .now) j 0) (getD (a .w .now) j 0)) (l .loop .t) (a .t .now) (l .loop .i) (omega arith) (l .loop .inv .1 .1) (c .max-u8 .ensures)))
 
 -- src/block.rt:11:1
 same-length : tie.Need-same-length Inv-loop μ-loop
@@ -72,9 +68,9 @@ better-spec =
     Inv-loop
     μ-loop
     loop-holds
-    shared-slice-read-upper
-    shared-slice-read-upper-2
-    upper-requires
+    shared-slice-read-max-u8
+    shared-slice-read-max-u8-2
+    max-u8-requires
     slice-write-t
     add-i
     loop-less

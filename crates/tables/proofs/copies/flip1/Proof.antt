@@ -1,18 +1,13 @@
 use Rattle.tables.proofs.Flipping.{bit-small, flip-value}
 use Rattle.tables.proofs.Turns.{tab-turn, lanes-end}
-use Rattle.tables.specs.inner.Lanes.{lanes}
 use Rattle.trellis.specs.Field.{xor}
 use Rattle.trellis.specs.Lists.{tab}
-use mathlib.Core.Path.{_≡_, refl, ap, _∙_, sym}
-use mathlib.Core.List.{List, [], _∷_, _++_}
-use mathlib.Core.Logic.{⊎-elim}
-use Prim.Native.Nat.{ℕ, zero, suc, _+_, _-_, _*_, _/_, _%_, _^_, _≤_, _<_}
-use native.Mathlib.Numerals.{add-one}
+use mathlib.Core.Path.{_≡_}
+use mathlib.Core.List.{_++_}
+use Prim.Native.Nat.{ℕ, _+_, _-_, _/_, _≤_}
 use native.Mathlib.Omega.{arith}
 use borrow.Author.Needs.{needs}
-use borrow.Author.Tests.{eq-eqb, ne-eqb, lt-ltb, le-ltb, le-leb, lt-leb}
-use lib.ListN.{length, take, drop, getD, set, replicate, length-set, length-append, length-take, length-drop, length-replicate}
-use lib.Seq.{length-take-le}
+use lib.ListN.{length, drop, getD, length-set}
 use Rattle.tables.proofs.copies.flip1.Statement.{statement}
 use Rattle.tables.proofs.copies.flip1.Tie as tie
 use Rattle.tables.proofs.copies.flip1.Reads as reads

@@ -1,16 +1,11 @@
 use Rattle.trellis.specs.Lists.{tab}
-use Rattle.tables.specs.inner.Lanes.{laneAt, lanes}
-use Rattle.tables.proofs.Turns.{tab-turn, lanes-end, lane-value, copied}
-use mathlib.Core.Path.{_≡_, refl, ap, _∙_, sym}
-use mathlib.Core.List.{List, [], _∷_, _++_}
-use mathlib.Core.Logic.{⊎-elim}
-use Prim.Native.Nat.{ℕ, zero, suc, _+_, _-_, _*_, _/_, _%_, _^_, _≤_, _<_}
-use native.Mathlib.Numerals.{add-one}
+use Rattle.tables.proofs.Turns.{tab-turn, copied}
+use mathlib.Core.Path.{_≡_, refl}
+use mathlib.Core.List.{_++_}
+use Prim.Native.Nat.{ℕ, _+_, _-_, _/_, _≤_}
 use native.Mathlib.Omega.{arith}
 use borrow.Author.Needs.{needs}
-use borrow.Author.Tests.{eq-eqb, ne-eqb, lt-ltb, le-ltb, le-leb, lt-leb}
-use lib.ListN.{length, take, drop, getD, set, replicate, length-set, length-append, length-take, length-drop, length-replicate}
-use lib.Seq.{length-take-le}
+use lib.ListN.{length, drop, getD, length-set}
 use Rattle.tables.proofs.lane.copy.Statement.{statement}
 use Rattle.tables.proofs.lane.copy.Tie as tie
 use Rattle.tables.proofs.lane.copy.Reads as reads

@@ -52,14 +52,14 @@ shared-slice-read-two-4 c = search needs
 two-requires-2 : tie.Need-two-requires-2 Inv-loop μ-loop
 two-requires-2 c κs = search needs
 
-shared-slice-read-upper : tie.Need-shared-slice-read-upper Inv-loop μ-loop
-shared-slice-read-upper c = search needs
+shared-slice-read-max-u8 : tie.Need-shared-slice-read-max-u8 Inv-loop μ-loop
+shared-slice-read-max-u8 c = search needs
 
-upper-requires : tie.Need-upper-requires Inv-loop μ-loop
-upper-requires c κs = search needs
+max-u8-requires : tie.Need-max-u8-requires Inv-loop μ-loop
+max-u8-requires c κs = search needs
 
-upper-requires-2 : tie.Need-upper-requires-2 Inv-loop μ-loop
-upper-requires-2 c κs = search needs
+max-u8-requires-2 : tie.Need-max-u8-requires-2 Inv-loop μ-loop
+max-u8-requires-2 c κs = search needs
 
 slice-write-t : tie.Need-slice-write-t Inv-loop μ-loop
 slice-write-t c = search needs
@@ -72,8 +72,8 @@ loop-less c = search needs
 
 loop-again : tie.Need-loop-again Inv-loop μ-loop
 loop-again c =
-    let at-upper = c .before in
-    let at-two2 = at-upper .before .before in
+    let at-max-u8 = c .before in
+    let at-two2 = at-max-u8 .before .before in
     let at-two = at-two2 .before .before .before in
     let at-loop = at-two .before .before .before .before in
     let start = at-loop .before .before .before .before in
@@ -82,7 +82,7 @@ loop-again c =
       (
         simp length-set (omega arith),
         tab-turn (laneAt (a .f) (a .s .now) (a .l) (a .e .now)) (at-loop .loop .t) (a .t .now) (at-loop .loop .i) (omega arith) (at-loop .loop .inv .1 .1)
-            (lane-value (a .f) (a .s .now) (a .l) (a .e .now) (at-loop .loop .i) (at-two .two .ensures) (at-two2 .two2 .ensures) (at-upper .upper .ensures) (c .upper2 .ensures)),
+            (lane-value (a .f) (a .s .now) (a .l) (a .e .now) (at-loop .loop .i) (at-two .two .ensures) (at-two2 .two2 .ensures) (at-max-u8 .max-u8 .ensures) (c .max-u82 .ensures)),
       ),
     )
 
@@ -114,9 +114,9 @@ lane-spec =
     add-two-3
     shared-slice-read-two-4
     two-requires-2
-    shared-slice-read-upper
-    upper-requires
-    upper-requires-2
+    shared-slice-read-max-u8
+    max-u8-requires
+    max-u8-requires-2
     slice-write-t
     add-i
     loop-less

@@ -1,6 +1,6 @@
 use borrow.Author.Needs.{needs}
 use mathlib.Core.Path.{refl}
-use Rattle.tables.proofs.Turns.{taken-same, taken-cost}
+use Rattle.tables.proofs.Turns.{taken-cost}
 use Rattle.tables.proofs.num.take.Statement.{statement}
 use Rattle.tables.proofs.num.take.Tie as tie
 use Rattle.tables.proofs.num.take.Reads as reads

@@ -1,0 +1,24 @@
+-- The cases of an expansion past 6, 9 and 11.
+use mathlib.Core.Path.{_≡_, _∙_, sym}
+use mathlib.Core.Bool.{true, false}
+use mathlib.Core.List.{List}
+use Prim.Native.Nat.{ℕ, _*_, _≤_, _<_}
+use borrow.Author.Tests.{lt-ltb, le-ltb}
+use lib.ListN.{length}
+use Rattle.trellis.specs.Record.{recordOk}
+use Rattle.trellis.specs.Rules.{ruleFor, sizeOf}
+use Rattle.field.proofs.Weighed.{Weighed, rest-case}
+use Rattle.expansion.specs.Answers.{expandCases}
+
+module _ (first : ℕ) (ws : List ℕ) (W : Weighed first ws) where
+  module _ {A : Type 0} (room : ℕ) (bad : ℕ → A) (good : A) where
+    module _ (r : List ℕ) where
+      pub case-16 : recordOk (ruleFor first) (length ws) r ≡ false → bad 16 ≡ expandCases first ws r room bad good
+      case-16 o = sym (rest-case first ws W bad _ ∙ simp o)
+
+      module _ (o : recordOk (ruleFor first) (length ws) r ≡ true) where
+        pub case-2 : room < length ws * sizeOf first → bad 2 ≡ expandCases first ws r room bad good
+        case-2 k = sym (rest-case first ws W bad _ ∙ simp (o, lt-ltb _ _ k))
+
+        pub expand-case : length ws * sizeOf first ≤ room → good ≡ expandCases first ws r room bad good
+        expand-case k = sym (rest-case first ws W bad _ ∙ simp (o, le-ltb _ _ k))

@@ -1,0 +1,92 @@
+-- After j pairs, those that are left decide; the next one may have no column below low.
+use mathlib.Core.Path.{_≡_, refl, sym, _∙_}
+use Prim.Native.Nat.{_+_, _-_, _*_, _≤_}
+use native.Mathlib.Omega.{arith}
+use borrow.Author.Needs.{needs}
+use lib.ListN.{getD}
+use Rattle.trellis.specs.Record.{pairsOk}
+use Rattle.expansion.proofs.Forming.{pairs-fault, pairs-more, pairs-none}
+use Rattle.expansion.proofs.form.pairs_ok.Statement.{statement}
+use Rattle.expansion.proofs.form.pairs_ok.Tie as tie
+
+abbrev Inv-loop : tie.InvT-loop
+Inv-loop r at d k e low₀ next₀ j₀ low next j = (j ≤ k) × ((next ≡ at + 1 + 2 * j) × (pairsOk k r (at + 1) e d 0 ≡ pairsOk (k - j) r next e d low))
+
+abbrev μ-loop : tie.MeasureT-loop
+μ-loop r at d k e low₀ next₀ j₀ low next j = k - j
+
+shared-slice-read-e : tie.Need-shared-slice-read-e Inv-loop μ-loop
+shared-slice-read-e c = search needs
+
+add-next : tie.Need-add-next Inv-loop μ-loop
+add-next c = search needs
+
+loop-holds : tie.Need-loop-holds Inv-loop μ-loop
+loop-holds c = let z : c .before .before .args .k - 0 ≡ c .before .before .args .k = omega arith in (omega arith, (omega arith, rw z refl))
+
+shared-slice-read-pair-next : tie.Need-shared-slice-read-pair-next Inv-loop μ-loop
+shared-slice-read-pair-next c = search needs
+
+add-pair-next : tie.Need-add-pair-next Inv-loop μ-loop
+add-pair-next c = search needs
+
+shared-slice-read-pair-next-2 : tie.Need-shared-slice-read-pair-next-2 Inv-loop μ-loop
+shared-slice-read-pair-next-2 c = search needs
+
+pair-next-requires : tie.Need-pair-next-requires Inv-loop μ-loop
+pair-next-requires c κs = search needs
+
+returns : tie.Need-returns Inv-loop μ-loop
+returns c =
+    let l = c .before .before .before .before .before in
+    let known = l .before .before in
+    let a = known .before .args in
+    pairs-fault _ (a .r .now) (l .loop .next) (getD (a .r .now) (a .at) 0) (a .d) (l .loop .low) (omega (arith, known .shared-slice-known .given (l .loop .next))) (omega arith) (c .before .pair-next .ensures) (c .if1 .taken)
+    ∙ sym (l .loop .inv .1 .1)
+
+add-next-2 : tie.Need-add-next-2 Inv-loop μ-loop
+add-next-2 c = search needs
+
+add-j : tie.Need-add-j Inv-loop μ-loop
+add-j c = search needs
+
+loop-less : tie.Need-loop-less Inv-loop μ-loop
+loop-less c = search needs
+
+loop-again : tie.Need-loop-again Inv-loop μ-loop
+loop-again c =
+    let l = c .before .before .before .before .before in
+    let known = l .before .before in
+    let a = known .before .args in
+    let n : a .k - l .loop .j - 1 ≡ a .k - (l .loop .j + 1) = omega arith in (
+      omega arith,
+      (
+        omega arith,
+        l .loop .inv .1 .1
+            ∙ pairs-more _ (a .r .now) (l .loop .next) (getD (a .r .now) (a .at) 0) (a .d) (l .loop .low) (omega (arith, known .shared-slice-known .given (l .loop .next))) (omega arith) (c .before .pair-next .ensures) (c .if1 .left)
+            ∙ rw n refl,
+      ),
+    )
+
+returns-2 : tie.Need-returns-2 Inv-loop μ-loop
+returns-2 c = let l = c .before in sym (l .loop .inv .1 .1 ∙ pairs-none _ _ _ _ _ _ (omega arith))
+
+pub pairs-ok-spec : {M : Type 1} → statement M
+pairs-ok-spec =
+    tie.close
+    (tie.spec
+    Inv-loop
+    μ-loop
+    shared-slice-read-e
+    add-next
+    loop-holds
+    shared-slice-read-pair-next
+    add-pair-next
+    shared-slice-read-pair-next-2
+    pair-next-requires
+    returns
+    add-next-2
+    add-j
+    loop-less
+    loop-again
+    returns-2)

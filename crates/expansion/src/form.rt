@@ -1,0 +1,97 @@
+// The form of an accepted record.
+ghost use mathlib.Core.Path.{_≡_};
+ghost use mathlib.Core.Bool.{true};
+ghost use Prim.Native.Nat.{_+_, _*_, _≤_};
+ghost use lib.Dec.{ltb};
+ghost use lib.ListN.{length, getD};
+ghost use Rattle.trellis.specs.Lists.{allTo};
+ghost use Rattle.trellis.specs.Record.{pairsOk, recordOk};
+ghost use Rattle.trellis.specs.Rules.{ruleFor, firstOk};
+ghost use Rattle.expansion.specs.inner.Asks.{pairNext};
+
+// After the pair c, s: the least column that the next used pair may have, 256 after an unused pair, 257 for a fault.
+fn pair_next(c: u8, s: u8, e: u8, d: usize, low: usize) -> usize
+    ensures { λ r. ⌜ r ≡ pairNext c s e d low ⌝ }
+{
+    let column = numbers::u8_to_usize(c);
+    if column == 0xFF {
+        if s == 0x00 {
+            return 256;
+        }
+        return 257;
+    }
+    if column < low {
+        return 257;
+    }
+    if d <= column {
+        return 257;
+    }
+    if s <= e {
+        return 257;
+    }
+    column + 1
+}
+
+// The k pairs of the group that starts at place at.
+fn pairs_ok(r: &[u8], at: usize, d: usize, k: usize) -> bool
+    requires { ⌜ at + (1 + 2 * k) ≤ length (now r) ⌝ }
+    ensures { λ b. ⌜ b ≡ pairsOk k (now (r .entry)) (at + 1) (getD (now (r .entry)) at 0) d 0 ⌝ }
+{
+    let e = r[at];
+    let mut low = 0;
+    let mut next = at + 1;
+    let mut j = 0;
+    while j < k {
+        low = pair_next(r[next], r[next + 1], e, d, low);
+        if low == 257 {
+            return false;
+        }
+        next += 2;
+        j += 1;
+    }
+    true
+}
+
+fn groups_ok(r: &[u8], d: usize, n: usize, k: usize) -> bool
+    requires { ⌜ (d ≤ 32) × ((k ≤ 3) × (d + (1 + 2 * k) * n ≤ length (now r))) ⌝ }
+    ensures { λ b. ⌜
+        b ≡ allTo (λ b. pairsOk k (now (r .entry)) (d + (1 + 2 * k) * b + 1) (getD (now (r .entry)) (d + (1 + 2 * k) * b) 0) d 0) n ⌝ }
+{
+    let g = 1 + 2 * k;
+    let mut ok = true;
+    let mut b = 0;
+    while b < n {
+        ok = numbers::both(ok, pairs_ok(r, d + g * b, d, k));
+        b += 1;
+    }
+    ok
+}
+
+fn shifts_ok(r: &[u8], d: usize, q: usize) -> bool
+    requires { ⌜ d ≤ length (now r) ⌝ }
+    ensures { λ b. ⌜ b ≡ allTo (λ n. ltb (getD (now (r .entry)) n 0) q) d ⌝ }
+{
+    let mut ok = true;
+    let mut n = 0;
+    while n < d {
+        ok = numbers::both(ok, numbers::u8_to_usize(r[n]) < q);
+        n += 1;
+    }
+    ok
+}
+
+// The length first: d shifts, and the bytes of the groups.
+pub fn record_ok(first: u8, r: &[u8], d: usize) -> bool
+    requires { ⌜ (d ≤ 32) × (firstOk first ≡ true) ⌝ }
+    ensures { λ b. ⌜ b ≡ recordOk (ruleFor first) d (now (r .entry)) ⌝ }
+{
+    if r.len() != d + rules::groups(first) {
+        return false;
+    }
+    let q = rules::size(first);
+    if !shifts_ok(r, d, q) {
+        return false;
+    }
+    let rule = rules::rule_of(first);
+    groups_ok(r, d, q - 1, numbers::u8_to_usize(rule.k))
+}
