@@ -2,7 +2,6 @@
 use crate::service::Layout;
 use layered::answers::Stage;
 use layered::frame;
-use layered::num;
 use layered::stages;
 ghost use mathlib.Core.Path.{_≡_};
 ghost use mathlib.Core.List.{List};
@@ -98,5 +97,5 @@ pub fn step_at(
         arrived,
         sent,
     );
-    status_of(stages::stage_after(found, num::wide(t) + 1, z.numbers.limit))
+    status_of(stages::stage_after(found, scalar::u8_to_u16(t) + 1, z.numbers.limit))
 }

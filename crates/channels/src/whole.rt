@@ -5,7 +5,6 @@ use crate::service::Layout;
 use codeline::answers::Header;
 use codeline::answers::Numbers;
 use layered::frame;
-use layered::num;
 ghost use mathlib.Core.Path.{_≡_};
 ghost use mathlib.Core.List.{List};
 ghost use Prim.Native.Nat.{ℕ};
@@ -48,8 +47,8 @@ fn layout_of(numbers: Numbers, degrees: &[u8]) -> Layout
     requires { ⌜ LayoutRoom numbers (now degrees) ⌝ }
     ensures { λ r. ⌜ LaidOut numbers (now (degrees .entry)) r ⌝ }
 {
-    let n = num::long(numbers.columns);
-    let m = num::index(numbers.checks);
+    let n = scalar::u16_to_usize(numbers.columns);
+    let m = scalar::u8_to_usize(numbers.checks);
     let q = rules::size(numbers.first);
     let store = frame::used(numbers.first, &degrees[..m]);
     Layout {
@@ -183,7 +182,7 @@ pub fn decode_in(
         Header::Refused(k) => refused(k),
         Header::Read(numbers) => {
             let z = layout_of(numbers, degrees);
-            let count = num::index(count);
+            let count = scalar::u8_to_usize(count);
             under_code(
                 count,
                 allowance,

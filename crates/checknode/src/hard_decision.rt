@@ -21,7 +21,7 @@ fn least_but(costs: &[u8], z: usize) -> u8
     let mut least: u8 = 255;
     let mut x = 0;
     while x < costs.len() {
-        least = numbers::min_u8(least, but(costs[x], x, z));
+        least = scalar::min_u8(least, but(costs[x], x, z));
         x += 1;
     }
     least
@@ -34,7 +34,7 @@ fn margin_at(costs: &[u8], z: usize) -> u16
     if costs.len() < 2 {
         return 0;
     }
-    numbers::u8_to_u16(least_but(costs, z))
+    scalar::u8_to_u16(least_but(costs, z))
 }
 
 // The search yields by `break`. Without a cost of 0 the symbol is the number of costs.

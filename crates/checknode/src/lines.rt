@@ -17,7 +17,7 @@ ghost use Rattle.checknode.specs.inner.Lines.{PlaceRoom, ColumnRoom, lin
 fn row_of(product: u8, s: u8) -> usize
     ensures { λ r. ⌜ (r ≡ xor product s) × (r < 256) ⌝ }
 {
-    numbers::u8_to_usize(product ^ s)
+    scalar::u8_to_usize(product ^ s)
 }
 
 // What is left of 255.

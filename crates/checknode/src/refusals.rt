@@ -15,7 +15,7 @@ fn has_zero(costs: &[u8]) -> bool
     let mut found = false;
     let mut x = 0;
     while x < costs.len() {
-        found = numbers::either(found, costs[x] == 0);
+        found = scalar::either(found, costs[x] == 0);
         x += 1;
     }
     found
@@ -31,7 +31,7 @@ fn zeros_ok(costs: &[u8], d: usize, w: usize) -> bool
     while n < d {
         let a = n * w;
         let e = a + w;
-        ok = numbers::both(ok, has_zero(&costs[a..e]));
+        ok = scalar::both(ok, has_zero(&costs[a..e]));
         n += 1;
     }
     ok

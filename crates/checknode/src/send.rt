@@ -19,7 +19,7 @@ fn column(row: &[u8], s: u8, rests: &[u8], out: &mut [u8])
 {
     let mut x = 0;
     while x < out.len() {
-        out[x] = cost_of(rests[numbers::u8_to_usize(row[x] ^ s)]);
+        out[x] = cost_of(rests[scalar::u8_to_usize(row[x] ^ s)]);
         x += 1;
     }
 }

@@ -1,9 +1,9 @@
 // The code line: its numbers, and its checks in tables.
 pub mod answers;
 mod checks;
+mod copies;
 mod head;
 mod lending;
-mod num;
 mod reader;
 mod tables;
 

@@ -1,6 +1,5 @@
 // "The line is read front to back, each field once": a reader that holds the code line and a place in it, thin over functions on slice and
 // number. A field is a byte or two; with its value comes the place behind it, from where the next is read.
-use crate::num;
 ghost use mathlib.Core.Path.{_≡_};
 ghost use Prim.Native.Nat.{_+_, _-_, _<_};
 ghost use lib.ListN.{length};
@@ -23,7 +22,7 @@ fn read_byte(s: &[u8], at: usize) -> Field
     ensures { λ r. ⌜ ByteAt r (now (s .entry)) at ⌝ }
 {
     Field {
-        value: num::index(s[at]),
+        value: scalar::u8_to_usize(s[at]),
         next: at + 1,
     }
 }
@@ -34,7 +33,7 @@ fn read_word(s: &[u8], at: usize) -> Field
     ensures { λ r. ⌜ WordAt r (now (s .entry)) at ⌝ }
 {
     Field {
-        value: num::index(s[at]) * 256 + num::index(s[at + 1]),
+        value: scalar::u8_to_usize(s[at]) * 256 + scalar::u8_to_usize(s[at + 1]),
         next: at + 2,
     }
 }

@@ -2,8 +2,8 @@
 use crate::answers::Header;
 use crate::checks;
 use crate::checks::Checks;
+use crate::copies;
 use crate::head;
-use crate::num;
 ghost use mathlib.Core.Path.{_≡_};
 ghost use lib.ListN.{length};
 ghost use Rattle.machine.specs.CodeLine.{Code, good, parse, numbersOf};
@@ -71,11 +71,11 @@ pub fn hand_over(
     match h {
         Header::Refused(_) => {}
         Header::Read(k) => {
-            let m = num::index(k.checks);
+            let m = scalar::u8_to_usize(k.checks);
             let e = r.edges;
-            num::copy(&ds[..m], &mut degrees[..m]);
-            num::copy_words(&cs[..e], &mut columns[..e]);
-            num::copy(&ws[..e], &mut weights[..e]);
+            copies::copy(&ds[..m], &mut degrees[..m]);
+            copies::copy_words(&cs[..e], &mut columns[..e]);
+            copies::copy(&ws[..e], &mut weights[..e]);
         }
     }
 }

@@ -1,5 +1,4 @@
 // The columns of two frames: the two costs of a symbol, their least over a column, the column, all columns.
-use layered::num;
 ghost use mathlib.Core.Path.{_≡_};
 ghost use Prim.Native.Nat.{_+_, _*_, _≤_, _<_};
 ghost use lib.ListN.{length};
@@ -10,7 +9,7 @@ ghost use Rattle.combiner.specs.inner.Columns.{leastBoth};
 fn both(a: u8, b: u8) -> u16
     ensures { λ r. ⌜ (r ≡ a + b) × (r ≤ 510) ⌝ }
 {
-    num::wide(a) + num::wide(b)
+    scalar::u8_to_u16(a) + scalar::u8_to_u16(b)
 }
 
 fn least(first: &[u8], second: &[u8]) -> u16
@@ -21,7 +20,7 @@ fn least(first: &[u8], second: &[u8]) -> u16
     let mut i = 0;
     while i < first.len() {
         let v = both(first[i], second[i]);
-        least = num::lesser(least, v);
+        least = scalar::min_u16(least, v);
         i += 1;
     }
     least
@@ -36,7 +35,7 @@ fn combine_column(first: &[u8], second: &[u8], out: &mut [u8])
     let mut i = 0;
     while i < out.len() {
         let v = both(first[i], second[i]);
-        out[i] = num::cap(v - least);
+        out[i] = scalar::cap_u8(v - least);
         i += 1;
     }
 }

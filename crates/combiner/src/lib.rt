@@ -4,7 +4,6 @@ mod combining;
 
 use codeline::answers::Header;
 use field::Written;
-use layered::num;
 ghost use mathlib.Core.Path.{_≡_};
 ghost use Rattle.field.specs.Answers.{writtenReply};
 ghost use Rattle.machine.specs.Combining.{combining as combiningOf};
@@ -19,7 +18,7 @@ pub fn combine(code: &[u8], first: &[u8], second: &[u8], out: &mut [u8]) -> Writ
     match codeline::code_line(code) {
         Header::Refused(k) => Written::Refused(k),
         Header::Read(numbers) => {
-            let n = num::long(numbers.columns);
+            let n = scalar::u16_to_usize(numbers.columns);
             combining::under_code(numbers.first, n, first, second, out)
         }
     }

@@ -2,7 +2,6 @@
 use crate::fill;
 use crate::form;
 use crate::message;
-use crate::num;
 use codeline::answers::Header;
 use field::Written;
 ghost use mathlib.Core.Path.{_≡_};
@@ -74,8 +73,8 @@ pub fn encode_in(
     match codeline::code_tables(code, degrees, columns, weights) {
         Header::Refused(k) => Written::Refused(k),
         Header::Read(numbers) => {
-            let n = num::long(numbers.columns);
-            let m = num::index(numbers.checks);
+            let n = scalar::u16_to_usize(numbers.columns);
+            let m = scalar::u8_to_usize(numbers.checks);
             under_code(
                 numbers.first,
                 n,

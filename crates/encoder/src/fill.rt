@@ -1,5 +1,4 @@
 // The symbols after the message, one for each check, from the symbols before it.
-use crate::num;
 ghost use mathlib.Core.Path.{_≡_};
 ghost use lib.ListN.{length, take};
 ghost use Rattle.machine.specs.inner.Tables.{term, sumFrom};
@@ -11,7 +10,7 @@ fn term_at(p: u8, columns: &[u16], weights: &[u8], symbols: &[u8], k: usize) -> 
     requires { ⌜ EdgeRoom p (now columns) (now weights) (now symbols) k ⌝ }
     ensures { λ r. ⌜ r ≡ term p (now (columns .entry)) (now (weights .entry)) (now (symbols .entry)) k ⌝ }
 {
-    let c = num::long(columns[k]);
+    let c = scalar::u16_to_usize(columns[k]);
     division::times(p, weights[k], symbols[c])
 }
 
@@ -49,7 +48,7 @@ pub fn fill(p: u8, degrees: &[u8], columns: &[u16], weights: &[u8], from: usize,
     let mut m = 0;
     let mut at = 0;
     while m < degrees.len() {
-        let d = num::index(degrees[m]);
+        let d = scalar::u8_to_usize(degrees[m]);
         let x = own(p, columns, weights, symbols, at, d);
         symbols[from + m] = x;
         at += d;

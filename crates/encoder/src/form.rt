@@ -1,5 +1,4 @@
 // The form of a code line that encoding needs, refusal 17.
-use crate::num;
 ghost use mathlib.Core.Path.{_≡_};
 ghost use Rattle.encoder.specs.inner.Words.{formedOn};
 ghost use Rattle.encoder.specs.inner.Rooms.{FormRoom};
@@ -16,8 +15,8 @@ pub fn formed(n: usize, degrees: &[u8], columns: &[u16]) -> bool
     let mut m = 0;
     let mut at = 0;
     while m < degrees.len() {
-        let d = num::index(degrees[m]);
-        let c = num::long(columns[at + (d - 1)]);
+        let d = scalar::u8_to_usize(degrees[m]);
+        let c = scalar::u16_to_usize(columns[at + (d - 1)]);
         if c != from + m {
             return false;
         }

@@ -3,7 +3,6 @@ mod encoding;
 mod fill;
 mod form;
 mod message;
-mod num;
 
 use field::Written;
 ghost use mathlib.Core.Path.{_≡_};

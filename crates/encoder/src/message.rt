@@ -1,5 +1,4 @@
 // The message: whether its symbols are elements, refusal 18, and its copy to the front of the buffer.
-use crate::num;
 ghost use mathlib.Core.Path.{_≡_};
 ghost use lib.ListN.{length};
 ghost use Rattle.machine.specs.Encoding.{symbolsOk};
@@ -10,7 +9,7 @@ pub fn elements(symbols: &[u8], q: usize) -> bool
 {
     let mut i = 0;
     while i < symbols.len() {
-        let x = num::index(symbols[i]);
+        let x = scalar::u8_to_usize(symbols[i]);
         if q <= x {
             return false;
         }

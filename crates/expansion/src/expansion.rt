@@ -115,7 +115,7 @@ fn by_symbol(v: &[u8], s: u8, out: &mut [u8])
 {
     let mut x = 0;
     while x < out.len() {
-        out[x] = v[numbers::u8_to_usize(out[x] ^ s)];
+        out[x] = v[scalar::u8_to_usize(out[x] ^ s)];
         x += 1;
     }
 }
@@ -178,7 +178,7 @@ pub fn expand_in(first: u8, w: usize, weights: &[u8], r: &[u8], out: &mut [u8])
     ensures { λ _. ⌜ now (out .exit) ≡ expansion (ruleFor first) (now (weights .entry)) (now (r .entry)) ⌝ }
 {
     let rule = rules::rule_of(first);
-    let k = numbers::u8_to_usize(rule.k);
+    let k = scalar::u8_to_usize(rule.k);
     let mut t = [0u8; 448];
     field::rows(rule.p, weights, out);
     in_room(weights.len(), w, k, r, &mut t, out);

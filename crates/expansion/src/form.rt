@@ -13,7 +13,7 @@ ghost use Rattle.expansion.specs.inner.Asks.{pairNext};
 fn pair_next(c: u8, s: u8, e: u8, d: usize, low: usize) -> usize
     ensures { λ r. ⌜ r ≡ pairNext c s e d low ⌝ }
 {
-    let column = numbers::u8_to_usize(c);
+    let column = scalar::u8_to_usize(c);
     if column == 0xFF {
         if s == 0x00 {
             return 256;
@@ -61,7 +61,7 @@ fn groups_ok(r: &[u8], d: usize, n: usize, k: usize) -> bool
     let mut ok = true;
     let mut b = 0;
     while b < n {
-        ok = numbers::both(ok, pairs_ok(r, d + g * b, d, k));
+        ok = scalar::both(ok, pairs_ok(r, d + g * b, d, k));
         b += 1;
     }
     ok
@@ -74,7 +74,7 @@ fn shifts_ok(r: &[u8], d: usize, q: usize) -> bool
     let mut ok = true;
     let mut n = 0;
     while n < d {
-        ok = numbers::both(ok, numbers::u8_to_usize(r[n]) < q);
+        ok = scalar::both(ok, scalar::u8_to_usize(r[n]) < q);
         n += 1;
     }
     ok
@@ -93,5 +93,5 @@ pub fn record_ok(first: u8, r: &[u8], d: usize) -> bool
         return false;
     }
     let rule = rules::rule_of(first);
-    groups_ok(r, d, q - 1, numbers::u8_to_usize(rule.k))
+    groups_ok(r, d, q - 1, scalar::u8_to_usize(rule.k))
 }

@@ -115,7 +115,7 @@ pub fn fill(p: u8, weights: &[u8], out: &mut [u8])
         table::rows_from(&table, weights, out);
         return;
     }
-    let w = numbers::u8_to_usize(field::size(p));
+    let w = scalar::u8_to_usize(field::size(p));
     each_row(p, w, weights, out);
 }
 
@@ -126,7 +126,7 @@ fn elements_ok(q: u8, weights: &[u8]) -> bool
     let mut ok = true;
     let mut i = 0;
     while i < weights.len() {
-        ok = numbers::both(ok, weights[i] < q);
+        ok = scalar::both(ok, weights[i] < q);
         i += 1;
     }
     ok
@@ -146,7 +146,7 @@ pub fn rows_fit(p: u8, weights: &[u8], room: usize) -> bool
         return false;
     }
     let q = field::size(p);
-    if room != weights.len() * numbers::u8_to_usize(q) {
+    if room != weights.len() * scalar::u8_to_usize(q) {
         return false;
     }
     elements_ok(q, weights)

@@ -19,7 +19,7 @@ fn weights_ok(q: u8, weights: &[u8]) -> bool
     let mut ok = true;
     let mut i = 0;
     while i < weights.len() {
-        ok = numbers::both(ok, weight_ok(q, weights[i]));
+        ok = scalar::both(ok, weight_ok(q, weights[i]));
         i += 1;
     }
     ok

@@ -4196,7 +4196,7 @@ fn row_from(table: &[u8], h: u8, out: &mut [u8])
     requires { ⌜ (h < 64) × (length (now out) ≡ 64) ⌝ }
     ensures { λ _. ⌜ now (out .exit) ≡ tab (product 6 h) 64 ⌝ }
 {
-    let base = numbers::u8_to_usize(h) * 64;
+    let base = scalar::u8_to_usize(h) * 64;
     let mut x = 0;
     while x < out.len() {
         out[x] = table[base + x];

@@ -23,7 +23,7 @@ fn better(w: &[u8], e: &[u8], t: &mut [u8])
 {
     let mut i = 0;
     while i < 16 {
-        t[i] = numbers::max_u8(e[i], w[i]);
+        t[i] = scalar::max_u8(e[i], w[i]);
         i += 1;
     }
 }

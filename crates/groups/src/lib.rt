@@ -17,7 +17,7 @@ fn shape_of(rule: Rule) -> Shape
     ensures { λ r. ⌜ Shaped (r .q) (r .l) (r .k) × (4 ≤ r .q) ⌝ }
 {
     let q = 1usize << rule.p;
-    let l = numbers::max_usize(16, q);
+    let l = scalar::max_usize(16, q);
     Shape {
         q: q,
         l: l,

@@ -1,5 +1,4 @@
 // The columns of one update: Q of each column of a check from P and the old expansion, and P again from Q and the new expansion.
-use crate::num;
 ghost use mathlib.Core.Path.{_≡_};
 ghost use mathlib.Core.List.{map};
 ghost use Prim.Native.Nat.{_+_, _-_, _≤_, _<_};
@@ -13,7 +12,7 @@ fn raise(c: u16, s: u8, g: u16) -> u16
     requires { ⌜ (c ≤ 510) × (g ≤ 16) ⌝ }
     ensures { λ r. ⌜ (r ≡ c + 255 - scaled g s) × (r ≤ 765) ⌝ }
 {
-    let w = num::wide(s);
+    let w = scalar::u8_to_u16(s);
     let m = g * w / 16;
     c + 255 - m
 }
@@ -26,7 +25,7 @@ fn least_raised(costs: &[u16], old: &[u8], g: u16) -> u16
     let mut i = 0;
     while i < costs.len() {
         let v = raise(costs[i], old[i], g);
-        least = num::lesser(least, v);
+        least = scalar::min_u16(least, v);
         i += 1;
     }
     least
@@ -41,7 +40,7 @@ fn incoming_column(costs: &[u16], old: &[u8], g: u16, out: &mut [u8])
     let mut i = 0;
     while i < out.len() {
         let v = raise(costs[i], old[i], g);
-        out[i] = num::cap(v - least);
+        out[i] = scalar::cap_u8(v - least);
         i += 1;
     }
 }
@@ -53,7 +52,7 @@ pub fn gather(costs: &[u16], cols: &[u16], old: &[u8], g: u16, q: usize, out: &m
 {
     let mut k = 0;
     while k < cols.len() {
-        let a = num::long(cols[k]) * q;
+        let a = scalar::u16_to_usize(cols[k]) * q;
         let e = a + q;
         let b = k * q;
         let f = b + q;
@@ -67,7 +66,7 @@ fn sum(c: u8, s: u8, g: u16) -> u16
     requires { ⌜ g ≤ 16 ⌝ }
     ensures { λ r. ⌜ (r ≡ c + scaled g s) × (r ≤ 510) ⌝ }
 {
-    let w = num::wide(s);
+    let w = scalar::u8_to_u16(s);
     let m = g * w / 16;
     ((c as u32) + (m as u32)) as u16
 }
@@ -80,7 +79,7 @@ fn least_summed(qs: &[u8], new: &[u8], g: u16) -> u16
     let mut i = 0;
     while i < qs.len() {
         let v = sum(qs[i], new[i], g);
-        least = num::lesser(least, v);
+        least = scalar::min_u16(least, v);
         i += 1;
     }
     least
@@ -107,7 +106,7 @@ pub fn scatter(qs: &[u8], new: &[u8], cols: &[u16], g: u16, q: usize, costs: &mu
 {
     let mut k = 0;
     while k < cols.len() {
-        let a = num::long(cols[k]) * q;
+        let a = scalar::u16_to_usize(cols[k]) * q;
         let e = a + q;
         let b = k * q;
         let f = b + q;

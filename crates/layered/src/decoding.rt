@@ -3,7 +3,6 @@ use crate::answers::Answer;
 use crate::answers::Counted;
 use crate::frame;
 use crate::iterate;
-use crate::num;
 use codeline::answers::Header;
 use codeline::answers::Numbers;
 ghost use mathlib.Core.Path.{_≡_};
@@ -35,8 +34,8 @@ fn under_code(
         (answerReply r)
         (lending (now (symbols .exit)) (now (costs .exit)) (now (store .exit)) (now (margins .exit))) ⌝ }
 {
-    let n = num::long(numbers.columns);
-    let m = num::index(numbers.checks);
+    let n = scalar::u16_to_usize(numbers.columns);
+    let m = scalar::u8_to_usize(numbers.checks);
     let k = frame::fault(
         numbers.first,
         n,
@@ -105,7 +104,7 @@ pub fn decode_in(
             );
             Counted {
                 answer,
-                columns: num::long(numbers.columns),
+                columns: scalar::u16_to_usize(numbers.columns),
             }
         }
     }

@@ -1,7 +1,6 @@
 // Stopping inside an iteration: the checks are updated one after the other, and after each update its columns are decided again and the test is
 // made where a symbol changed, from a check on that was not satisfied at the last test.
 use crate::answers::Stopped;
-use crate::num;
 use crate::parity;
 use crate::parity::CheckAt;
 use crate::place;
@@ -46,7 +45,7 @@ fn decide_again(costs: &[u16], q: usize, columns: &[u16], symbols: &mut [u8]) ->
     let mut changed = 0;
     let mut k = 0;
     while k < columns.len() {
-        let c = num::long(columns[k]);
+        let c = scalar::u16_to_usize(columns[k]);
         changed += decide_at(costs, q, c, symbols);
         k += 1;
     }
@@ -68,7 +67,7 @@ fn unsatisfied_from(
     ensures { λ r. ⌜ SomeNot (codeOf numbers (now (degrees .entry)) (now (columns .entry)) (now (weights .entry)))
         (now (degrees .entry)) (now (symbols .entry)) r ⌝ }
 {
-    let count = num::index(numbers.checks);
+    let count = scalar::u8_to_usize(numbers.checks);
     let behind = parity::unsatisfied(numbers, from, count, degrees, columns, weights, symbols);
     if behind.check != count {
         return behind;
@@ -111,7 +110,7 @@ fn tested_again(
 {
     let m = here.check;
     let at = here.edge;
-    let d = num::index(degrees[m]);
+    let d = scalar::u8_to_usize(degrees[m]);
     let e = at + d;
     let q = rules::size(numbers.first);
     if decide_again(costs, q, &columns[at..e], symbols) == 0 {
@@ -142,7 +141,7 @@ fn go_on(
         ≡ symbolsOf (codeOf numbers (now (degrees .entry)) (now (columns .entry)) (now (weights .entry)))
         (now (costs .exit)) ⌝ }
 {
-    let count = num::index(numbers.checks);
+    let count = scalar::u8_to_usize(numbers.checks);
     let mut here = Place {
         check: 0,
         edge: 0,
@@ -156,7 +155,7 @@ fn go_on(
         }
         let next = place::update_at(
             numbers,
-            num::long(u) < count,
+            scalar::u16_to_usize(u) < count,
             here,
             degrees,
             columns,
@@ -188,7 +187,7 @@ fn go_on(
 fn most_updates(numbers: Numbers) -> u16
     ensures { λ r. ⌜ r ≡ numbers .checks * numbers .limit ⌝ }
 {
-    num::wide(numbers.checks) * num::wide(numbers.limit)
+    scalar::u8_to_u16(numbers.checks) * scalar::u8_to_u16(numbers.limit)
 }
 
 // The machine on the costs in `costs`, "tested at the start and after each check update".

@@ -1,5 +1,4 @@
 // A frame under a code: its tests, those of the buffers, and its costs in the cost buffer.
-use crate::num;
 ghost use mathlib.Core.Path.{_≡_};
 ghost use mathlib.Core.Bool.{true};
 ghost use Prim.Native.Nat.{_*_, _≤_};
@@ -51,7 +50,7 @@ pub fn used(first: u8, degrees: &[u8]) -> usize
     let mut sum = 0;
     let mut m = 0;
     while m < degrees.len() {
-        let d = num::index(degrees[m]);
+        let d = scalar::u8_to_usize(degrees[m]);
         sum += d + groups;
         m += 1;
     }
@@ -123,7 +122,7 @@ pub fn copy(frame: &[u8], costs: &mut [u16])
 {
     let mut i = 0;
     while i < costs.len() {
-        costs[i] = num::wide(frame[i]);
+        costs[i] = scalar::u8_to_u16(frame[i]);
         i += 1;
     }
 }

@@ -1,6 +1,5 @@
 // One iteration and the run, over the lent buffers and the tables of a code.
 use crate::answers::Outcome;
-use crate::num;
 use crate::parity;
 use crate::place;
 use crate::place::Place;
@@ -31,7 +30,7 @@ pub fn iterate(
         ≡ iterationLent (codeOf numbers (now (degrees .entry)) (now (columns .entry)) (now (weights .entry)))
         start (lent (now (costs .entry)) (now (store .entry))) ⌝ }
 {
-    let count = num::index(numbers.checks);
+    let count = scalar::u8_to_usize(numbers.checks);
     let mut here = Place {
         check: 0,
         edge: 0,

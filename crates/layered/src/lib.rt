@@ -5,7 +5,6 @@ mod decoding;
 mod early;
 pub mod frame;
 mod iterate;
-pub mod num;
 mod parity;
 mod place;
 mod resume;

@@ -1,5 +1,4 @@
 // The decisions with their margins, and whether they satisfy every check.
-use crate::num;
 use checknode::Decision;
 use codeline::answers::Numbers;
 use field::Element;
@@ -32,7 +31,7 @@ fn least_but(costs: &[u16], z: usize) -> u16
     let mut least: u16 = 65535;
     let mut x = 0;
     while x < costs.len() {
-        least = num::lesser(least, but(costs[x], x, z));
+        least = scalar::min_u16(least, but(costs[x], x, z));
         x += 1;
     }
     least
@@ -115,7 +114,7 @@ fn term_at(numbers: Numbers, columns: &[u16], weights: &[u8], symbols: &[u8], k:
     requires { ⌜ EdgeRoom (powerOf (numbers .first)) (now columns) (now weights) (now symbols) k ⌝ }
     ensures { λ r. ⌜ r ≡ term (powerOf (numbers .first)) (now (columns .entry)) (now (weights .entry)) (now (symbols .entry)) k ⌝ }
 {
-    let c = num::long(columns[k]);
+    let c = scalar::u16_to_usize(columns[k]);
     times(rules::power(numbers.first), weights[k], symbols[c])
 }
 
@@ -146,7 +145,7 @@ pub fn unsatisfied(
         if m == to {
             break 'checks CheckAt { check: m, edge: at };
         }
-        let d = num::index(degrees[m]);
+        let d = scalar::u8_to_usize(degrees[m]);
         let mut sum = 0u8;
         let mut n = 0;
         loop {
@@ -170,7 +169,7 @@ fn holds(numbers: Numbers, degrees: &[u8], columns: &[u16], weights: &[u8], symb
     ensures { λ r. ⌜ r ≡ allHold (codeOf numbers (now (degrees .entry)) (now (columns .entry)) (now (weights .entry)))
         (now (symbols .entry)) ⌝ }
 {
-    let count = num::index(numbers.checks);
+    let count = scalar::u8_to_usize(numbers.checks);
     let from = CheckAt { check: 0, edge: 0 };
     unsatisfied(numbers, from, count, degrees, columns, weights, symbols).check == count
 }

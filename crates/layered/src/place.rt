@@ -1,5 +1,4 @@
 // A check in the tables and the store: where it stands, one update of it, and the check behind it.
-use crate::num;
 use crate::update;
 use codeline::answers::Numbers;
 ghost use mathlib.Core.Path.{_≡_};
@@ -42,7 +41,7 @@ pub fn update_at(
     let place = here.byte;
     let q = rules::size(numbers.first);
     let groups = rules::groups(numbers.first);
-    let d = num::index(degrees[m]);
+    let d = scalar::u8_to_usize(degrees[m]);
     let n = d * q;
     let e = at + d;
     let f = place + (d + groups);

@@ -1,5 +1,4 @@
 // What an iteration that goes on from lent costs and records tests first.
-use crate::num;
 use crate::parity;
 use field::Written;
 ghost use mathlib.Core.Path.{_≡_};
@@ -77,7 +76,7 @@ fn store_ok(first: u8, degrees: &[u8], weights: &[u8], store: &[u8]) -> bool
     let mut at = 0;
     let mut place = 0;
     while m < degrees.len() {
-        let d = num::index(degrees[m]);
+        let d = scalar::u8_to_usize(degrees[m]);
         let e = at + d;
         let f = place + (d + groups);
         if !formed(first, &weights[at..e], &store[place..f]) {

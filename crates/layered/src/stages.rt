@@ -2,7 +2,6 @@
 use crate::answers::Stage;
 use crate::frame;
 use crate::iterate;
-use crate::num;
 use crate::parity;
 use crate::resume;
 use codeline::answers::Header;
@@ -24,7 +23,7 @@ pub fn stage_after(found: bool, t: u16, limit: u8) -> Stage
     if found {
         return Stage::Found;
     }
-    if num::wide(limit) <= t {
+    if scalar::u8_to_u16(limit) <= t {
         return Stage::NotFound;
     }
     Stage::Running
@@ -116,8 +115,8 @@ fn load_under(
         (stageOf r)
         (lending (now (symbols .exit)) (now (costs .exit)) (now (store .entry)) (now (margins .exit))) ⌝ }
 {
-    let n = num::long(numbers.columns);
-    let m = num::index(numbers.checks);
+    let n = scalar::u16_to_usize(numbers.columns);
+    let m = scalar::u8_to_usize(numbers.checks);
     let k = frame::fault(
         numbers.first,
         n,
@@ -167,8 +166,8 @@ fn step_under(
         (stageOf r)
         (lending (now (symbols .exit)) (now (costs .exit)) (now (store .exit)) (now (margins .exit))) ⌝ }
 {
-    let n = num::long(numbers.columns);
-    let m = num::index(numbers.checks);
+    let n = scalar::u16_to_usize(numbers.columns);
+    let m = scalar::u8_to_usize(numbers.checks);
     let k = frame::fault(
         numbers.first,
         n,
@@ -200,7 +199,7 @@ fn step_under(
         arrived,
         sent,
     );
-    stage_after(found, num::wide(t) + 1, numbers.limit)
+    stage_after(found, scalar::u8_to_u16(t) + 1, numbers.limit)
 }
 
 // Over the tables of load.

@@ -2,7 +2,6 @@
 use crate::answers::EarlyAnswer;
 use crate::early;
 use crate::frame;
-use crate::num;
 use codeline::answers::Header;
 use codeline::answers::Numbers;
 ghost use mathlib.Core.Path.{_≡_};
@@ -33,8 +32,8 @@ fn under_code(
         (earlyReply r)
         (lending (now (symbols .exit)) (now (costs .exit)) (now (store .exit)) (now (margins .exit))) ⌝ }
 {
-    let n = num::long(numbers.columns);
-    let m = num::index(numbers.checks);
+    let n = scalar::u16_to_usize(numbers.columns);
+    let m = scalar::u8_to_usize(numbers.checks);
     let k = frame::fault(
         numbers.first,
         n,

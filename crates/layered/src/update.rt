@@ -1,6 +1,5 @@
 // One update of a check: Q from the costs and the old record, the new record, and the costs again.
 use crate::column;
-use crate::num;
 use codeline::answers::Numbers;
 ghost use mathlib.Core.Path.{_≡_};
 ghost use lib.ListN.{length};
@@ -64,7 +63,7 @@ pub fn update(
         (edgesOf (now (columns .entry)) (now (weights .entry))) (now (bytes .entry)) (now (costs .entry)) ⌝ }
 {
     let q = rules::size(numbers.first);
-    let g = num::wide(numbers.scale);
+    let g = scalar::u8_to_u16(numbers.scale);
     recall(numbers.first, start, weights, bytes, sent);
     column::gather(costs, columns, sent, g, q, arrived);
     send(numbers.first, weights, arrived, bytes, sent);

@@ -15,7 +15,7 @@ fn lane(f: Four, s: &[u8], l: usize, e: &[u8], t: &mut [u8])
     while i < 16 {
         let u = num::two(f.greatest, f.x, s[i], f.y, s[l + i]);
         let v = num::two(f.greatest, f.z, s[2 * l + i], f.w, s[3 * l + i]);
-        t[i] = numbers::max_u8(e[i], numbers::max_u8(u, v));
+        t[i] = scalar::max_u8(e[i], scalar::max_u8(u, v));
         i += 1;
     }
 }

@@ -33,7 +33,7 @@ pub fn meet(greatest: bool, v: u8, x: u8) -> u8
     ensures { λ r. ⌜ r ≡ cut greatest v x ⌝ }
 {
     if greatest {
-        numbers::min_u8(v, x)
+        scalar::min_u8(v, x)
     } else {
         left(v, x)
     }
@@ -50,7 +50,7 @@ pub fn take(greatest: bool, u: u8) -> u8
 pub fn two(greatest: bool, x: u8, s: u8, y: u8, t: u8) -> u8
     ensures { λ r. ⌜ r ≡ twoOf greatest x s y t ⌝ }
 {
-    numbers::max_u8(meet(greatest, s, x), meet(greatest, t, y))
+    scalar::max_u8(meet(greatest, s, x), meet(greatest, t, y))
 }
 
 // The place behind the block of sixteen that starts at v.

@@ -1,6 +1,6 @@
 // The input cut into lines, block by block, and its end.
+use crate::copies;
 use crate::line_end;
-use crate::num;
 use crate::state::State;
 ghost use mathlib.Core.Path.{_≡_};
 ghost use mathlib.Core.Bool.{false};
@@ -35,9 +35,9 @@ fn keep(st: State, part: &[u8], line: &mut [u8]) -> State
     if 32769 <= len {
         return st;
     }
-    let n = num::least(part.len(), 32769 - len);
+    let n = scalar::min_usize(part.len(), 32769 - len);
     let e = len + n;
-    num::copy(&part[..n], &mut line[len..e]);
+    copies::copy(&part[..n], &mut line[len..e]);
     State {
         len: e,
         code: st.code,

@@ -1,8 +1,8 @@
 // Text: a line of hexadecimal digits, the printed line of a frame, and the program's whole output, block by block. No input or output is done here.
+mod copies;
 mod cut;
 mod hex;
 mod line_end;
-mod num;
 mod print;
 pub mod state;
 
@@ -48,7 +48,7 @@ pub fn feed(
     ensures { λ r. ⌜ r .full ≡ length (fedOut (keptOf (held st (now (line .entry)) (now (code .entry)))) (take n (now (block .entry)))) ⌝ }
     ensures { λ _. ⌜ now (out .exit) ≡ putAt (now (out .entry)) 0 (fedOut (keptOf (held st (now (line .entry)) (now (code .entry)))) (take n (now (block .entry)))) ⌝ }
 {
-    let k = num::least(n, 65536);
+    let k = scalar::min_usize(n, 65536);
     cut::feed_in(st, block, k, line, code, out)
 }
 

@@ -1,6 +1,6 @@
 // What happens where a line ends: the code line is read and kept or refused, a frame is printed.
+use crate::copies;
 use crate::hex;
-use crate::num;
 use crate::print;
 use crate::state::State;
 use codeline::answers::Header;
@@ -23,7 +23,7 @@ fn put(row: &[u8], n: usize, out: &mut [u8], full: usize) -> usize
     ensures { λ _. ⌜ now (out .exit) ≡ putAt (now (out .entry)) full (take n (now (row .entry))) ⌝ }
 {
     let e = full + n;
-    num::copy(&row[..n], &mut out[full..e]);
+    copies::copy(&row[..n], &mut out[full..e]);
     e
 }
 
@@ -100,13 +100,13 @@ pub fn finish_line(st: State, line: &[u8], code: &mut [u8], out: &mut [u8]) -> S
     ensures { λ r. ⌜ r .full ≡ st .full + length (finishedOut (keptOf (held st (now (line .entry)) (now (code .entry))))) ⌝ }
     ensures { λ _. ⌜ now (out .exit) ≡ putAt (now (out .entry)) (st .full) (finishedOut (keptOf (held st (now (line .entry)) (now (code .entry))))) ⌝ }
 {
-    let t = num::least(st.len, 32769);
+    let t = scalar::min_usize(st.len, 32769);
     let n = st.code;
     let full = st.full;
     if n == 0 {
         return finish_code(&line[..t], code, out, full);
     }
-    let k = num::least(n, 16384);
+    let k = scalar::min_usize(n, 16384);
     let f = print(&code[..k], &line[..t], out, full);
     State {
         len: 0,

@@ -15,12 +15,12 @@ enum-known-k c = search needs
 enum-known-numbers : tie.Need-enum-known-numbers
 enum-known-numbers c = search needs
 
-long-requires : tie.Need-long-requires
-long-requires c κs = search needs
+u16-to-usize-requires : tie.Need-u16-to-usize-requires
+u16-to-usize-requires c κs = search needs
 
 under-code-requires : tie.Need-under-code-requires
 under-code-requires c κs =
-    let w = c .before .long in
+    let w = c .before .u16-to-usize in
     let v = c .before .before .before .numbers .given in
     let r = c .before .before .before .before .before .code-line in
     let a = c .before .before .before .before .before .before .before .before .before .before .args in
@@ -38,7 +38,7 @@ same-length c = search needs
 returns-2 : tie.Need-returns-2
 returns-2 c =
     let o = c .before .before .under-code in
-    let w = c .before .before .before .before .long in
+    let w = c .before .before .before .before .u16-to-usize in
     let v = c .before .before .before .before .before .before .numbers .given in
     let r = c .before .before .before .before .before .before .before .before .code-line in
     let a = c .before .before .before .before .before .before .before .before .before .before .before .before .before .args in
@@ -52,7 +52,7 @@ combine-spec =
     code-line-requires
     enum-known-k
     enum-known-numbers
-    long-requires
+    u16-to-usize-requires
     under-code-requires
     returns
     same-length

@@ -88,11 +88,11 @@ iterated-requires c κs =
     let b = lending (a .symbols .now) (a .costs .now) (a .store .now) (a .margins .now) in
     step-asks (s .pre .code) (a .z) (a .degrees .now) (a .columns .now) (a .weights .now) (s .pre .shaped) (a .c) b (s .pre .room) (a .t) (s .pre .passable) (a .arrived .now) (a .sent .now) (s .pre .arrived) (s .pre .sent)
 
-wide-requires : tie.Need-wide-requires
-wide-requires c κs = search needs
+u8-to-u16-requires : tie.Need-u8-to-u16-requires
+u8-to-u16-requires c κs = search needs
 
 add-stage-after : tie.Need-add-stage-after
-add-stage-after c = omega (arith, c .wide .ensures)
+add-stage-after c = omega (arith, c .u8-to-u16 .ensures)
 
 stage-after-requires : tie.Need-stage-after-requires
 stage-after-requires c κs = search needs
@@ -124,7 +124,7 @@ returns c =
     let a = s .args in
     let b = lending (a .symbols .now) (a .costs .now) (a .store .now) (a .margins .now) in
     let u = c .before .before .before .before .before .before .before .before .before .before .before .before .before .before .before .iterated in
-    let e = rw (c .before .before .wide .ensures .0) at (c .before .stage-after .ensures) in
+    let e = rw (c .before .before .u8-to-u16 .ensures .0) at (c .before .stage-after .ensures) in
     λ (C : Code) H. step-puts C (a .z) (a .degrees .now) (a .columns .now) (a .weights .now) H (a .c) b (part-room C (s .pre .code) (a .z) (a .degrees .now) (a .columns .now) (a .weights .now) H (s .pre .shaped) (a .c) b (s .pre .room)) (a .t) (u .result) _ _ _ _ (u .ensures .0) (u .ensures .1 .0) (u .ensures .1 .1 .0) (u .ensures .1 .1 .1) _ e _ (c .status-of .ensures)
 
 pub step-at-spec : {M : Type 1} → statement M
@@ -152,7 +152,7 @@ step-at-spec =
     part-iterated-start-4
     part-iterated-end-4
     iterated-requires
-    wide-requires
+    u8-to-u16-requires
     add-stage-after
     stage-after-requires
     status-of-requires

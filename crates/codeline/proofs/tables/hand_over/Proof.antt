@@ -19,8 +19,8 @@ enum-told c = search needs
 enum-known-h : tie.Need-enum-known-h
 enum-known-h c = search needs
 
-index-requires : tie.Need-index-requires
-index-requires c κs = search needs
+u8-to-usize-requires : tie.Need-u8-to-usize-requires
+u8-to-usize-requires c κs = search needs
 
 slice-aggregate-copy : tie.Need-slice-aggregate-copy
 slice-aggregate-copy c = simp length-take (omega (arith, fits (c .before .before .before)))
@@ -75,11 +75,11 @@ returns-2 c =
     let at-copy2 = c .before .before in
     let at-words = at-copy2 .before .before .before .before .before in
     let at-copy = at-words .before .before .before .before .before in
-    let at-index = at-copy .before .before .before in
-    let k = at-index .before .before in
+    let at-u8-to-usize = at-copy .before .before .before in
+    let k = at-u8-to-usize .before .before in
     let e = k .h .given .1 in
     let a = k .before .before .before .before .before .before .before .before .args in (
-      handed-is (a .r .header) _ e (checksIn (a .r .header)) (at-index .index .result) (a .ds .now) (a .degrees .now) (at-index .index .ensures .0 ∙ sym (ap checksIn e)) (at-copy .copy .ensures),
+      handed-is (a .r .header) _ e (checksIn (a .r .header)) (at-u8-to-usize .u8-to-usize .result) (a .ds .now) (a .degrees .now) (at-u8-to-usize .u8-to-usize .ensures .0 ∙ sym (ap checksIn e)) (at-copy .copy .ensures),
       (
         handed-is (a .r .header) _ e (a .r .edges) (a .r .edges) (a .cs .now) (a .columns .now) refl (at-words .copy-words .ensures),
         handed-is (a .r .header) _ e (a .r .edges) (a .r .edges) (a .ws .now) (a .weights .now) refl (at-copy2 .copy2 .ensures),
@@ -92,7 +92,7 @@ hand-over-spec =
     (tie.spec
     enum-told
     enum-known-h
-    index-requires
+    u8-to-usize-requires
     slice-aggregate-copy
     slice-relend-prefix-copy
     slice-aggregate-copy-2

@@ -33,14 +33,14 @@ shared-slice-read-both-2 c = search needs
 both-requires : tie.Need-both-requires Inv-loop μ-loop
 both-requires c κs = search needs
 
-sub-cap : tie.Need-sub-cap Inv-loop μ-loop
-sub-cap c =
+sub-cap-u8 : tie.Need-sub-cap-u8 Inv-loop μ-loop
+sub-cap-u8 c =
     let l = c .before .before .before .before .loop in
     let a = c .before .before .before .before .before .before .before .before .before .args in
     omega (arith, least-le (a .first .now) (a .second .now) (length (a .first .now)) (λ x. omega (arith, c .before .before .before .before .before .before .before .before .shared-slice-known .given x, c .before .before .before .before .before .before .before .shared-slice-known2 .given x)) (l .i) (omega arith))
 
-cap-requires : tie.Need-cap-requires Inv-loop μ-loop
-cap-requires c κs = search needs
+cap-u8-requires : tie.Need-cap-u8-requires Inv-loop μ-loop
+cap-u8-requires c κs = search needs
 
 slice-write-out : tie.Need-slice-write-out Inv-loop μ-loop
 slice-write-out c = search needs
@@ -81,8 +81,8 @@ combine-column-spec =
     shared-slice-read-both
     shared-slice-read-both-2
     both-requires
-    sub-cap
-    cap-requires
+    sub-cap-u8
+    cap-u8-requires
     slice-write-out
     add-i
     loop-less

@@ -28,8 +28,8 @@ shared-slice-read-both-2 c = omega arith
 both-requires : tie.Need-both-requires Inv-loop μ-loop
 both-requires c κs = search needs
 
-lesser-requires : tie.Need-lesser-requires Inv-loop μ-loop
-lesser-requires c κs = search needs
+min-u16-requires : tie.Need-min-u16-requires Inv-loop μ-loop
+min-u16-requires c κs = search needs
 
 add-i : tie.Need-add-i Inv-loop μ-loop
 add-i c = omega arith
@@ -57,7 +57,7 @@ least-spec =
     shared-slice-read-both
     shared-slice-read-both-2
     both-requires
-    lesser-requires
+    min-u16-requires
     add-i
     loop-less
     loop-again

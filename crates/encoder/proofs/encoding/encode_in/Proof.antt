@@ -14,11 +14,11 @@ enum-known-k c = search needs
 enum-known-numbers : tie.Need-enum-known-numbers
 enum-known-numbers c = search needs
 
-long-requires : tie.Need-long-requires
-long-requires c κs = search needs
+u16-to-usize-requires : tie.Need-u16-to-usize-requires
+u16-to-usize-requires c κs = search needs
 
-index-requires : tie.Need-index-requires
-index-requires c κs = search needs
+u8-to-usize-requires : tie.Need-u8-to-usize-requires
+u8-to-usize-requires c κs = search needs
 
 under-code-requires : tie.Need-under-code-requires
 under-code-requires c κs =
@@ -26,7 +26,7 @@ under-code-requires c κs =
     let v = w .before .before .before in
     let t = v .before .before in
     let a = t .before .before .before .before .before .before .before .args in
-    line-room (a .code .now) (t .code-tables .result) (t .code-tables .ensures .0) (v .numbers .given .0 .0) (v .numbers .given .1) (w .before .long .result) (w .index .result) (w .before .long .ensures .0) (w .index .ensures .0) (t .code-tables .last .1 .0) (t .code-tables .last .1 .1 .0) (t .code-tables .last .1 .1 .1 .0) (tables-left (a .code .now) _ _ _ (t .code-tables .ensures .1 .0) (t .code-tables .ensures .1 .1 .0) (t .code-tables .ensures .1 .1 .1))
+    line-room (a .code .now) (t .code-tables .result) (t .code-tables .ensures .0) (v .numbers .given .0 .0) (v .numbers .given .1) (w .before .u16-to-usize .result) (w .u8-to-usize .result) (w .before .u16-to-usize .ensures .0) (w .u8-to-usize .ensures .0) (t .code-tables .last .1 .0) (t .code-tables .last .1 .1 .0) (t .code-tables .last .1 .1 .1 .0) (tables-left (a .code .now) _ _ _ (t .code-tables .ensures .1 .0) (t .code-tables .ensures .1 .1 .0) (t .code-tables .ensures .1 .1 .1))
 
 returns : tie.Need-returns
 returns c =
@@ -45,7 +45,7 @@ returns-2 c =
     let v = w .before .before .before in
     let t = v .before .before in
     let a = t .before .before .before .before .before .before .before .args in
-    let l = line-encodes (a .code .now) (t .code-tables .result) (t .code-tables .ensures .0) (v .numbers .given .0 .0) (v .numbers .given .1) (w .before .long .result) (w .index .result) (w .before .long .ensures .0) (w .index .ensures .0) (t .code-tables .last .1 .0) (t .code-tables .last .1 .1 .0) (t .code-tables .last .1 .1 .1 .0) (tables-left (a .code .now) _ _ _ (t .code-tables .ensures .1 .0) (t .code-tables .ensures .1 .1 .0) (t .code-tables .ensures .1 .1 .1)) (a .message .now) (a .symbols .now) _ _ (u .under-code .ensures) in
+    let l = line-encodes (a .code .now) (t .code-tables .result) (t .code-tables .ensures .0) (v .numbers .given .0 .0) (v .numbers .given .1) (w .before .u16-to-usize .result) (w .u8-to-usize .result) (w .before .u16-to-usize .ensures .0) (w .u8-to-usize .ensures .0) (t .code-tables .last .1 .0) (t .code-tables .last .1 .1 .0) (t .code-tables .last .1 .1 .1 .0) (tables-left (a .code .now) _ _ _ (t .code-tables .ensures .1 .0) (t .code-tables .ensures .1 .1 .0) (t .code-tables .ensures .1 .1 .1)) (a .message .now) (a .symbols .now) _ _ (u .under-code .ensures) in
     (l .replies, l .out-then)
 
 pub encode-in-spec : {M : Type 1} → statement M
@@ -55,8 +55,8 @@ encode-in-spec =
     code-tables-requires
     enum-known-k
     enum-known-numbers
-    long-requires
-    index-requires
+    u16-to-usize-requires
+    u8-to-usize-requires
     under-code-requires
     returns
     same-length

@@ -24,18 +24,18 @@ loop-holds c =
     let a = s .args in
     (omega arith, (refl, (refl, fill-start (a .p) (a .degrees .now) (a .columns .now) (a .weights .now) (a .from) (a .symbols .now) (s .pre))))
 
-shared-slice-read-index : tie.Need-shared-slice-read-index Inv-loop μ-loop
-shared-slice-read-index c = search needs
+shared-slice-read-u8-to-usize : tie.Need-shared-slice-read-u8-to-usize Inv-loop μ-loop
+shared-slice-read-u8-to-usize c = search needs
 
-index-requires : tie.Need-index-requires Inv-loop μ-loop
-index-requires c κs = search needs
+u8-to-usize-requires : tie.Need-u8-to-usize-requires Inv-loop μ-loop
+u8-to-usize-requires c κs = search needs
 
 own-requires : tie.Need-own-requires Inv-loop μ-loop
 own-requires c κs =
     let l = c .before .before .before .before in
     let s = l .before .before .before .before .before in
     let a = s .args in
-    turn-room (a .p) (a .degrees .now) (a .columns .now) (a .weights .now) (a .from) (a .symbols .now) (s .pre) (l .loop .m) (omega arith) (l .loop .at) (c .before .index .result) (l .loop .symbols) (l .loop .inv .1 .0) (c .before .index .ensures .0) (l .loop .inv .1 .1 .1)
+    turn-room (a .p) (a .degrees .now) (a .columns .now) (a .weights .now) (a .from) (a .symbols .now) (s .pre) (l .loop .m) (omega arith) (l .loop .at) (c .before .u8-to-usize .result) (l .loop .symbols) (l .loop .inv .1 .0) (c .before .u8-to-usize .ensures .0) (l .loop .inv .1 .1 .1)
 
 add-symbols : tie.Need-add-symbols Inv-loop μ-loop
 add-symbols c =
@@ -54,7 +54,7 @@ add-at c =
     let l = c .before .before .before .before .before in
     let s = l .before .before .before .before .before in
     let a = s .args in
-    omega (arith, end-within (a .degrees .now) (l .loop .m) (l .loop .at) (c .before .before .index .result) (omega arith) (l .loop .inv .1 .0) (c .before .before .index .ensures .0), s .pre .in-columns)
+    omega (arith, end-within (a .degrees .now) (l .loop .m) (l .loop .at) (c .before .before .u8-to-usize .result) (omega arith) (l .loop .inv .1 .0) (c .before .before .u8-to-usize .ensures .0), s .pre .in-columns)
 
 add-m : tie.Need-add-m Inv-loop μ-loop
 add-m c = search needs
@@ -67,7 +67,7 @@ loop-again c =
     let l = c .before .before .before .before .before in
     let s = l .before .before .before .before .before in
     let a = s .args in
-    let i = c .before .before .index in
+    let i = c .before .before .u8-to-usize in
     let x = own-is (a .p) (a .degrees .now) (a .columns .now) (a .weights .now) (a .from) (a .symbols .now) (s .pre) (l .loop .m) (omega arith) (l .loop .at) (i .result) (c .own .result) (l .loop .inv .1 .0) (i .ensures .0) (rw (l .loop .inv .1 .1 .1) at (c .own .ensures)) in (
       omega arith,
       (
@@ -96,8 +96,8 @@ fill-spec =
     Inv-loop
     μ-loop
     loop-holds
-    shared-slice-read-index
-    index-requires
+    shared-slice-read-u8-to-usize
+    u8-to-usize-requires
     own-requires
     add-symbols
     slice-write-symbols

@@ -7,14 +7,14 @@ use Rattle.division.proofs.Quotients.{times-is}
 use Rattle.encoder.proofs.fill.term_at.Statement.{statement}
 use Rattle.encoder.proofs.fill.term_at.Tie as tie
 
-mul-long : tie.Need-mul-long
-mul-long c = search needs
+mul-u16-to-usize : tie.Need-mul-u16-to-usize
+mul-u16-to-usize c = search needs
 
-shared-slice-read-long : tie.Need-shared-slice-read-long
-shared-slice-read-long c = search needs
+shared-slice-read-u16-to-usize : tie.Need-shared-slice-read-u16-to-usize
+shared-slice-read-u16-to-usize c = search needs
 
-long-requires : tie.Need-long-requires
-long-requires c κs = search needs
+u16-to-usize-requires : tie.Need-u16-to-usize-requires
+u16-to-usize-requires c κs = search needs
 
 shared-slice-read-times : tie.Need-shared-slice-read-times
 shared-slice-read-times c = search needs
@@ -28,7 +28,7 @@ times-requires c κs = search needs
 returns : tie.Need-returns
 returns c =
     let t = c .times in
-    let l = c .before .before .before .long in
+    let l = c .before .before .before .u16-to-usize in
     let s = c .before .before .before .before .before .before .before .before in
     let a = s .args in
     let e : l .result ≡ getD (a .columns .now) (a .k) 0 = l .ensures .0 in
@@ -39,9 +39,9 @@ pub term-at-spec : {M : Type 1} → statement M
 term-at-spec =
     tie.close
     (tie.spec
-    mul-long
-    shared-slice-read-long
-    long-requires
+    mul-u16-to-usize
+    shared-slice-read-u16-to-usize
+    u16-to-usize-requires
     shared-slice-read-times
     shared-slice-read-times-2
     times-requires

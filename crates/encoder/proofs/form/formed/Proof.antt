@@ -29,41 +29,41 @@ sub-from c = search needs
 loop-holds : tie.Need-loop-holds Inv-loop μ-loop
 loop-holds c = let a = c .before .before .before .args in (omega arith, (refl, formed-start (a .n) (a .degrees .now) (a .columns .now)))
 
-shared-slice-read-index : tie.Need-shared-slice-read-index Inv-loop μ-loop
-shared-slice-read-index c = search needs
+shared-slice-read-u8-to-usize : tie.Need-shared-slice-read-u8-to-usize Inv-loop μ-loop
+shared-slice-read-u8-to-usize c = search needs
 
-index-requires : tie.Need-index-requires Inv-loop μ-loop
-index-requires c κs = search needs
+u8-to-usize-requires : tie.Need-u8-to-usize-requires Inv-loop μ-loop
+u8-to-usize-requires c κs = search needs
 
-sub-long : tie.Need-sub-long Inv-loop μ-loop
-sub-long c =
+sub-u16-to-usize : tie.Need-sub-u16-to-usize Inv-loop μ-loop
+sub-u16-to-usize c =
     let l = c .before .before .before in
     let s = l .before .before .before .before in
-    omega (arith, s .pre .one (l .loop .m) (omega arith), c .index .ensures .0)
+    omega (arith, s .pre .one (l .loop .m) (omega arith), c .u8-to-usize .ensures .0)
 
-add-long : tie.Need-add-long Inv-loop μ-loop
-add-long c =
-    let l = c .before .before .before in
-    let s = l .before .before .before .before in
-    let a = s .args in
-    omega (arith, s .pre .one (l .loop .m) (omega arith), c .index .ensures .0, end-within (a .degrees .now) (l .loop .m) (l .loop .at) (c .index .result) (omega arith) (l .loop .inv .1 .0) (c .index .ensures .0), s .pre .in-columns)
-
-mul-long : tie.Need-mul-long Inv-loop μ-loop
-mul-long c =
+add-u16-to-usize : tie.Need-add-u16-to-usize Inv-loop μ-loop
+add-u16-to-usize c =
     let l = c .before .before .before in
     let s = l .before .before .before .before in
     let a = s .args in
-    omega (arith, s .pre .one (l .loop .m) (omega arith), c .index .ensures .0, end-within (a .degrees .now) (l .loop .m) (l .loop .at) (c .index .result) (omega arith) (l .loop .inv .1 .0) (c .index .ensures .0), s .pre .in-columns)
+    omega (arith, s .pre .one (l .loop .m) (omega arith), c .u8-to-usize .ensures .0, end-within (a .degrees .now) (l .loop .m) (l .loop .at) (c .u8-to-usize .result) (omega arith) (l .loop .inv .1 .0) (c .u8-to-usize .ensures .0), s .pre .in-columns)
 
-shared-slice-read-long : tie.Need-shared-slice-read-long Inv-loop μ-loop
-shared-slice-read-long c =
+mul-u16-to-usize : tie.Need-mul-u16-to-usize Inv-loop μ-loop
+mul-u16-to-usize c =
+    let l = c .before .before .before in
+    let s = l .before .before .before .before in
+    let a = s .args in
+    omega (arith, s .pre .one (l .loop .m) (omega arith), c .u8-to-usize .ensures .0, end-within (a .degrees .now) (l .loop .m) (l .loop .at) (c .u8-to-usize .result) (omega arith) (l .loop .inv .1 .0) (c .u8-to-usize .ensures .0), s .pre .in-columns)
+
+shared-slice-read-u16-to-usize : tie.Need-shared-slice-read-u16-to-usize Inv-loop μ-loop
+shared-slice-read-u16-to-usize c =
     let l = c .before .before .before .before in
     let s = l .before .before .before .before in
     let a = s .args in
-    omega (arith, s .pre .one (l .loop .m) (omega arith), c .before .index .ensures .0, end-within (a .degrees .now) (l .loop .m) (l .loop .at) (c .before .index .result) (omega arith) (l .loop .inv .1 .0) (c .before .index .ensures .0), s .pre .in-columns)
+    omega (arith, s .pre .one (l .loop .m) (omega arith), c .before .u8-to-usize .ensures .0, end-within (a .degrees .now) (l .loop .m) (l .loop .at) (c .before .u8-to-usize .result) (omega arith) (l .loop .inv .1 .0) (c .before .u8-to-usize .ensures .0), s .pre .in-columns)
 
-long-requires : tie.Need-long-requires Inv-loop μ-loop
-long-requires c κs = search needs
+u16-to-usize-requires : tie.Need-u16-to-usize-requires Inv-loop μ-loop
+u16-to-usize-requires c κs = search needs
 
 add-if2 : tie.Need-add-if2 Inv-loop μ-loop
 add-if2 c = search needs
@@ -73,7 +73,7 @@ returns-2 c =
     let i = c .before .before .before in
     let l = i .before .before .before in
     let a = l .before .before .before .before .args in
-    formed-not (a .n) (a .degrees .now) (a .columns .now) (a .n - length (a .degrees .now)) (l .loop .m) (l .loop .at) (i .index .result) (c .before .long .result) refl (omega arith) (l .loop .inv .1 .0) (i .index .ensures .0) (c .before .long .ensures .0) (c .if2 .taken)
+    formed-not (a .n) (a .degrees .now) (a .columns .now) (a .n - length (a .degrees .now)) (l .loop .m) (l .loop .at) (i .u8-to-usize .result) (c .before .u16-to-usize .result) refl (omega arith) (l .loop .inv .1 .0) (i .u8-to-usize .ensures .0) (c .before .u16-to-usize .ensures .0) (c .if2 .taken)
 
 add-at : tie.Need-add-at Inv-loop μ-loop
 add-at c =
@@ -81,7 +81,7 @@ add-at c =
     let l = i .before .before .before in
     let s = l .before .before .before .before in
     let a = s .args in
-    omega (arith, end-within (a .degrees .now) (l .loop .m) (l .loop .at) (i .index .result) (omega arith) (l .loop .inv .1 .0) (i .index .ensures .0), s .pre .in-columns)
+    omega (arith, end-within (a .degrees .now) (l .loop .m) (l .loop .at) (i .u8-to-usize .result) (omega arith) (l .loop .inv .1 .0) (i .u8-to-usize .ensures .0), s .pre .in-columns)
 
 add-m : tie.Need-add-m Inv-loop μ-loop
 add-m c = search needs
@@ -96,8 +96,8 @@ loop-again c =
     let a = l .before .before .before .before .args in (
       omega arith,
       (
-        before-more (a .degrees .now) (l .loop .m) (l .loop .at) (i .index .result) (l .loop .inv .1 .0) (i .index .ensures .0),
-        formed-more (a .n) (a .degrees .now) (a .columns .now) (a .n - length (a .degrees .now)) (l .loop .m) (l .loop .at) (i .index .result) (c .before .long .result) refl (omega arith) (l .loop .inv .1 .0) (i .index .ensures .0) (c .before .long .ensures .0) (c .if2 .left) (l .loop .inv .1 .1),
+        before-more (a .degrees .now) (l .loop .m) (l .loop .at) (i .u8-to-usize .result) (l .loop .inv .1 .0) (i .u8-to-usize .ensures .0),
+        formed-more (a .n) (a .degrees .now) (a .columns .now) (a .n - length (a .degrees .now)) (l .loop .m) (l .loop .at) (i .u8-to-usize .result) (c .before .u16-to-usize .result) refl (omega arith) (l .loop .inv .1 .0) (i .u8-to-usize .ensures .0) (c .before .u16-to-usize .ensures .0) (c .if2 .left) (l .loop .inv .1 .1),
       ),
     )
 
@@ -116,13 +116,13 @@ formed-spec =
     returns
     sub-from
     loop-holds
-    shared-slice-read-index
-    index-requires
-    sub-long
-    add-long
-    mul-long
-    shared-slice-read-long
-    long-requires
+    shared-slice-read-u8-to-usize
+    u8-to-usize-requires
+    sub-u16-to-usize
+    add-u16-to-usize
+    mul-u16-to-usize
+    shared-slice-read-u16-to-usize
+    u16-to-usize-requires
     add-if2
     returns-2
     add-at

@@ -20,17 +20,17 @@ abbrev μ-loop : tie.MeasureT-loop
 loop-holds : tie.Need-loop-holds Inv-loop μ-loop
 loop-holds c = (omega arith, refl)
 
-shared-slice-read-index : tie.Need-shared-slice-read-index Inv-loop μ-loop
-shared-slice-read-index c = search needs
+shared-slice-read-u8-to-usize : tie.Need-shared-slice-read-u8-to-usize Inv-loop μ-loop
+shared-slice-read-u8-to-usize c = search needs
 
-index-requires : tie.Need-index-requires Inv-loop μ-loop
-index-requires c κs = search needs
+u8-to-usize-requires : tie.Need-u8-to-usize-requires Inv-loop μ-loop
+u8-to-usize-requires c κs = search needs
 
 returns : tie.Need-returns Inv-loop μ-loop
 returns c =
     let l = c .before .before .before .before in
     let a = l .before .before .args in
-    elements-not (a .q) (a .symbols .now) (l .loop .i) (c .before .index .result) (omega arith) (c .before .index .ensures .0) (c .if1 .taken)
+    elements-not (a .q) (a .symbols .now) (l .loop .i) (c .before .u8-to-usize .result) (omega arith) (c .before .u8-to-usize .ensures .0) (c .if1 .taken)
 
 add-i : tie.Need-add-i Inv-loop μ-loop
 add-i c = search needs
@@ -42,7 +42,7 @@ loop-again : tie.Need-loop-again Inv-loop μ-loop
 loop-again c =
     let l = c .before .before .before .before in
     let a = l .before .before .args in
-    (omega arith, elements-more (a .q) (a .symbols .now) (l .loop .i) (c .before .index .result) (c .before .index .ensures .0) (c .if1 .left) (l .loop .inv .1))
+    (omega arith, elements-more (a .q) (a .symbols .now) (l .loop .i) (c .before .u8-to-usize .result) (c .before .u8-to-usize .ensures .0) (c .if1 .left) (l .loop .inv .1))
 
 returns-2 : tie.Need-returns-2 Inv-loop μ-loop
 returns-2 c =
@@ -58,8 +58,8 @@ elements-spec =
     Inv-loop
     μ-loop
     loop-holds
-    shared-slice-read-index
-    index-requires
+    shared-slice-read-u8-to-usize
+    u8-to-usize-requires
     returns
     add-i
     loop-less

@@ -11,7 +11,7 @@ use Rattle.groups.proofs.lane.better.Statement.{statement}
 use Rattle.groups.proofs.lane.better.Tie as tie
 use Rattle.groups.proofs.lane.better.Reads as reads
 use Rattle.groups.proofs.lane.better.Lts as lts
-use Rattle.numbers.proofs.max_u8.Reads as max-u8-reads
+use Rattle.scalar.proofs.max_u8.Reads as max-u8-reads
 
 abbrev Inv-loop : tie.InvT-loop
 Inv-loop w e t₀ i₀ t i = (i ≤ 16) × ((length t ≡ length t₀) × (t ≡ tab (λ (j : ℕ). max (getD e j 0) (getD w j 0)) i ++ drop i t₀))

@@ -18,26 +18,26 @@ abbrev μ-loop : tie.MeasureT-loop
 μ-loop costs cols old g q out₀ k₀ out k = length cols - k
 
 -- the parts that a turn lends are inside
-room : (c : tie.After-long Inv-loop μ-loop)
+room : (c : tie.After-u16-to-usize Inv-loop μ-loop)
     → let l = c .before .before .before in
     let a = l .before .before .before .before .before .args in
     let q = a .q in
-    (c .long .result * q + q ≤ length (a .costs .now)) × ((l .loop .k * q + q ≤ length (a .old .now)) × (l .loop .k * q + q ≤ length (a .out .now)))
+    (c .u16-to-usize .result * q + q ≤ length (a .costs .now)) × ((l .loop .k * q + q ≤ length (a .old .now)) × (l .loop .k * q + q ≤ length (a .out .now)))
 room c =
     let s = c .before .before .before .before .before .before .before .before in
-    room-at (s .args .costs .now) (s .args .cols .now) (s .args .old .now) (s .args .g) (s .args .q) (s .args .out .now) (s .pre) (c .before .before .before .loop .k) (omega arith) (c .long .result) (c .long .ensures .0)
+    room-at (s .args .costs .now) (s .args .cols .now) (s .args .old .now) (s .args .g) (s .args .q) (s .args .out .now) (s .pre) (c .before .before .before .loop .k) (omega arith) (c .u16-to-usize .result) (c .u16-to-usize .ensures .0)
 
 loop-holds : tie.Need-loop-holds Inv-loop μ-loop
 loop-holds c = (omega arith, (refl, gather-start _ _ _ _ _ _))
 
-mul-long : tie.Need-mul-long Inv-loop μ-loop
-mul-long c = omega arith
+mul-u16-to-usize : tie.Need-mul-u16-to-usize Inv-loop μ-loop
+mul-u16-to-usize c = omega arith
 
-shared-slice-read-long : tie.Need-shared-slice-read-long Inv-loop μ-loop
-shared-slice-read-long c = omega arith
+shared-slice-read-u16-to-usize : tie.Need-shared-slice-read-u16-to-usize Inv-loop μ-loop
+shared-slice-read-u16-to-usize c = omega arith
 
-long-requires : tie.Need-long-requires Inv-loop μ-loop
-long-requires c κs = search needs
+u16-to-usize-requires : tie.Need-u16-to-usize-requires Inv-loop μ-loop
+u16-to-usize-requires c κs = search needs
 
 mul-a : tie.Need-mul-a Inv-loop μ-loop
 mul-a c = omega (arith, room c)
@@ -83,10 +83,10 @@ part-incoming-column-end-3 c = omega (arith, room (c .before .before))
 
 incoming-column-requires : tie.Need-incoming-column-requires Inv-loop μ-loop
 incoming-column-requires c κs =
-    let at-long = c .before .before .before in
+    let at-u16-to-usize = c .before .before .before in
     let s = c .before .before .before .before .before .before .before .before .before .before .before in
     let r = room (c .before .before .before) in
-    (simp (length-take, length-drop) (omega (arith, r)), (simp (length-take, length-drop) (omega (arith, r)), (below-part 510 (at-long .long .result * s .args .q) (at-long .long .result * s .args .q + s .args .q - at-long .long .result * s .args .q) (s .args .costs .now) (s .pre .small), (s .pre .scale, simp (length-take, length-drop) (omega (arith, r, s .pre .some))))))
+    (simp (length-take, length-drop) (omega (arith, r)), (simp (length-take, length-drop) (omega (arith, r)), (below-part 510 (at-u16-to-usize .u16-to-usize .result * s .args .q) (at-u16-to-usize .u16-to-usize .result * s .args .q + s .args .q - at-u16-to-usize .u16-to-usize .result * s .args .q) (s .args .costs .now) (s .pre .small), (s .pre .scale, simp (length-take, length-drop) (omega (arith, r, s .pre .some))))))
 
 add-k : tie.Need-add-k Inv-loop μ-loop
 add-k c = omega arith
@@ -101,7 +101,7 @@ loop-again c =
     let l = w .before .before .before in
     let i = c .before .before .incoming-column in
     let a = s .args in
-    let t = gather-turn (a .costs .now) (a .cols .now) (a .old .now) (a .g) (a .q) (a .out .now) (s .pre) (l .loop .k) (omega arith) (w .long .result) (w .long .ensures .0) (l .loop .out) (i .last .1 .1 .1 .0) (l .loop .inv .1 .1) (i .ensures) in
+    let t = gather-turn (a .costs .now) (a .cols .now) (a .old .now) (a .g) (a .q) (a .out .now) (s .pre) (l .loop .k) (omega arith) (w .u16-to-usize .result) (w .u16-to-usize .ensures .0) (l .loop .out) (i .last .1 .1 .1 .0) (l .loop .inv .1 .1) (i .ensures) in
     let e : (l .loop .k + 1) * a .q ≤ length (a .out .now) = rw (add-one (l .loop .k), suc-mul (l .loop .k) (a .q)) (room w .1 .1) in
     (omega arith, (ap length t ∙ length-gathered (a .costs .now) (a .cols .now) (a .old .now) (a .g) (a .q) (a .out .now) (l .loop .k + 1) (s .pre .some) e, t))
 
@@ -121,9 +121,9 @@ gather-spec =
     Inv-loop
     μ-loop
     loop-holds
-    mul-long
-    shared-slice-read-long
-    long-requires
+    mul-u16-to-usize
+    shared-slice-read-u16-to-usize
+    u16-to-usize-requires
     mul-a
     add-e
     mul-b

@@ -39,15 +39,15 @@ raise-requires c κs =
     let start = c .before .before .before .before .before .before .before .before in
     (start .pre .1 .1 .0 (c .before .before .before .loop .i), search needs)
 
-sub-cap : tie.Need-sub-cap Inv-loop μ-loop
-sub-cap c =
+sub-cap-u8 : tie.Need-sub-cap-u8 Inv-loop μ-loop
+sub-cap-u8 c =
     let at-loop = c .before .before .before .before in
     let s = c .before .before .before .before .before .before .before .before .before in
     let a = s .args in
     omega (arith, least-raised-le (a .g) (length (a .costs .now)) (a .costs .now) (a .old .now) (at-loop .loop .i) (omega arith))
 
-cap-requires : tie.Need-cap-requires Inv-loop μ-loop
-cap-requires c κs = search needs
+cap-u8-requires : tie.Need-cap-u8-requires Inv-loop μ-loop
+cap-u8-requires c κs = search needs
 
 slice-write-out : tie.Need-slice-write-out Inv-loop μ-loop
 slice-write-out c = search needs
@@ -91,8 +91,8 @@ incoming-column-spec =
     shared-slice-read-raise
     shared-slice-read-raise-2
     raise-requires
-    sub-cap
-    cap-requires
+    sub-cap-u8
+    cap-u8-requires
     slice-write-out
     add-i
     loop-less

@@ -33,8 +33,8 @@ raise-requires c κs =
     let start = c .before .before .before .before .before .before in
     (start .pre .1 .0 (c .before .before .before .loop .i), omega arith)
 
-lesser-requires : tie.Need-lesser-requires Inv-loop μ-loop
-lesser-requires c κs = search needs
+min-u16-requires : tie.Need-min-u16-requires Inv-loop μ-loop
+min-u16-requires c κs = search needs
 
 add-i : tie.Need-add-i Inv-loop μ-loop
 add-i c = omega arith
@@ -64,7 +64,7 @@ least-raised-spec =
     shared-slice-read-raise
     shared-slice-read-raise-2
     raise-requires
-    lesser-requires
+    min-u16-requires
     add-i
     loop-less
     loop-again

@@ -28,8 +28,8 @@ shared-slice-read-sum-2 c = omega arith
 sum-requires : tie.Need-sum-requires Inv-loop μ-loop
 sum-requires c κs = search needs
 
-lesser-requires : tie.Need-lesser-requires Inv-loop μ-loop
-lesser-requires c κs = search needs
+min-u16-requires : tie.Need-min-u16-requires Inv-loop μ-loop
+min-u16-requires c κs = search needs
 
 add-i : tie.Need-add-i Inv-loop μ-loop
 add-i c = omega arith
@@ -58,7 +58,7 @@ least-summed-spec =
     shared-slice-read-sum
     shared-slice-read-sum-2
     sum-requires
-    lesser-requires
+    min-u16-requires
     add-i
     loop-less
     loop-again

@@ -16,27 +16,27 @@ abbrev μ-loop : tie.MeasureT-loop
 μ-loop qs new cols g q costs₀ k₀ costs k = length cols - k
 
 -- the parts that a turn lends are inside
-room : (c : tie.After-long Inv-loop μ-loop)
+room : (c : tie.After-u16-to-usize Inv-loop μ-loop)
     → let l = c .before .before .before in
     let a = l .before .before .before .before .before .args in
     let q = a .q in
-    (c .long .result * q + q ≤ length (a .costs .now)) × ((l .loop .k * q + q ≤ length (a .qs .now)) × (l .loop .k * q + q ≤ length (a .new .now)))
+    (c .u16-to-usize .result * q + q ≤ length (a .costs .now)) × ((l .loop .k * q + q ≤ length (a .qs .now)) × (l .loop .k * q + q ≤ length (a .new .now)))
 room c =
     let s = c .before .before .before .before .before .before .before .before in
-    scatter-room (s .args .qs .now) (s .args .new .now) (s .args .cols .now) (s .args .g) (s .args .q) (s .args .costs .now) (s .pre) (c .before .before .before .loop .k) (omega arith) (c .long .result) (c .long .ensures .0)
+    scatter-room (s .args .qs .now) (s .args .new .now) (s .args .cols .now) (s .args .g) (s .args .q) (s .args .costs .now) (s .pre) (c .before .before .before .loop .k) (omega arith) (c .u16-to-usize .result) (c .u16-to-usize .ensures .0)
 
 loop-holds : tie.Need-loop-holds Inv-loop μ-loop
 unfolding scattered
 loop-holds c = (omega arith, (refl, refl))
 
-mul-long : tie.Need-mul-long Inv-loop μ-loop
-mul-long c = omega arith
+mul-u16-to-usize : tie.Need-mul-u16-to-usize Inv-loop μ-loop
+mul-u16-to-usize c = omega arith
 
-shared-slice-read-long : tie.Need-shared-slice-read-long Inv-loop μ-loop
-shared-slice-read-long c = omega arith
+shared-slice-read-u16-to-usize : tie.Need-shared-slice-read-u16-to-usize Inv-loop μ-loop
+shared-slice-read-u16-to-usize c = omega arith
 
-long-requires : tie.Need-long-requires Inv-loop μ-loop
-long-requires c κs = search needs
+u16-to-usize-requires : tie.Need-u16-to-usize-requires Inv-loop μ-loop
+u16-to-usize-requires c κs = search needs
 
 mul-a : tie.Need-mul-a Inv-loop μ-loop
 mul-a c = omega (arith, room c)
@@ -101,8 +101,8 @@ loop-again c =
     let a = s .args in (
       search needs,
       (
-        length-turn (a .qs .now) (a .new .now) (a .cols .now) (a .g) (a .q) (a .costs .now) (s .pre) (l .k) (omega arith) (w .long .result) (w .long .ensures .0) (l .costs) (i .last .1 .1 .1 .0) (l .inv .1 .0) (i .ensures),
-        scatter-turn (a .qs .now) (a .new .now) (a .cols .now) (a .g) (a .q) (a .costs .now) (s .pre) (l .k) (omega arith) (w .long .result) (w .long .ensures .0) (l .costs) (i .last .1 .1 .1 .0) (l .inv .1 .1) (i .ensures),
+        length-turn (a .qs .now) (a .new .now) (a .cols .now) (a .g) (a .q) (a .costs .now) (s .pre) (l .k) (omega arith) (w .u16-to-usize .result) (w .u16-to-usize .ensures .0) (l .costs) (i .last .1 .1 .1 .0) (l .inv .1 .0) (i .ensures),
+        scatter-turn (a .qs .now) (a .new .now) (a .cols .now) (a .g) (a .q) (a .costs .now) (s .pre) (l .k) (omega arith) (w .u16-to-usize .result) (w .u16-to-usize .ensures .0) (l .costs) (i .last .1 .1 .1 .0) (l .inv .1 .1) (i .ensures),
       ),
     )
 
@@ -122,9 +122,9 @@ scatter-spec =
     Inv-loop
     μ-loop
     loop-holds
-    mul-long
-    shared-slice-read-long
-    long-requires
+    mul-u16-to-usize
+    shared-slice-read-u16-to-usize
+    u16-to-usize-requires
     mul-a
     add-e
     mul-b

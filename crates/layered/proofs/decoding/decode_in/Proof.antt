@@ -28,8 +28,8 @@ under-code-requires c κs =
     let start = at-code-tables .before .before .before .before .before .before .before .before .before .before in
     record { coded = (line-coded (start .args .code .now) (at-code-tables .code-tables .result) (at-code-tables .code-tables .ensures .0) (at-numbers .numbers .given .0 .0) (at-numbers .numbers .given .1) _ _ _ (at-code-tables .code-tables .last .1 .0) (at-code-tables .code-tables .last .1 .1 .0) (at-code-tables .code-tables .last .1 .1 .1 .0) (at-code-tables .code-tables .ensures .1 .0) (at-code-tables .code-tables .ensures .1 .1 .0) (at-code-tables .code-tables .ensures .1 .1 .1)); arrived = omega arith; sent = omega arith }
 
-long-requires : tie.Need-long-requires
-long-requires c κs = search needs
+u16-to-usize-requires : tie.Need-u16-to-usize-requires
+u16-to-usize-requires c κs = search needs
 
 returns : tie.Need-returns
 returns c =
@@ -56,7 +56,7 @@ returns-2 c =
     let at-numbers = at-under-code .before .before .before .before .before .before .before .before .before .before .before .before .before .before in
     let at-code-tables = at-numbers .before .before in
     let start = at-code-tables .before .before .before .before .before .before .before .before .before .before in
-    let e = rw (at-numbers .numbers .given .1) at (at-code-tables .code-tables .ensures .0) in (said-decodes (start .args .code .now) (start .args .frame .now) (lending (start .args .symbols .now) (start .args .costs .now) (start .args .store .now) (start .args .margins .now)) (codeOf (at-numbers .numbers .given .0 .0) (at-code-tables .code-tables .last .1 .0) (at-code-tables .code-tables .last .1 .1 .0) (at-code-tables .code-tables .last .1 .1 .1 .0)) (line-says (start .args .code .now) (at-code-tables .code-tables .result) (at-code-tables .code-tables .ensures .0) (at-numbers .numbers .given .0 .0) (at-numbers .numbers .given .1) _ _ _ (at-code-tables .code-tables .last .1 .0) (at-code-tables .code-tables .last .1 .1 .0) (at-code-tables .code-tables .last .1 .1 .1 .0) (at-code-tables .code-tables .ensures .1 .0) (at-code-tables .code-tables .ensures .1 .1 .0) (at-code-tables .code-tables .ensures .1 .1 .1)) _ _ (at-under-code .under-code .ensures), (c .long .ensures .0 ∙ ap columnsRead e, rw (c .long .ensures .0) (columns-small (start .args .code .now) _ e)))
+    let e = rw (at-numbers .numbers .given .1) at (at-code-tables .code-tables .ensures .0) in (said-decodes (start .args .code .now) (start .args .frame .now) (lending (start .args .symbols .now) (start .args .costs .now) (start .args .store .now) (start .args .margins .now)) (codeOf (at-numbers .numbers .given .0 .0) (at-code-tables .code-tables .last .1 .0) (at-code-tables .code-tables .last .1 .1 .0) (at-code-tables .code-tables .last .1 .1 .1 .0)) (line-says (start .args .code .now) (at-code-tables .code-tables .result) (at-code-tables .code-tables .ensures .0) (at-numbers .numbers .given .0 .0) (at-numbers .numbers .given .1) _ _ _ (at-code-tables .code-tables .last .1 .0) (at-code-tables .code-tables .last .1 .1 .0) (at-code-tables .code-tables .last .1 .1 .1 .0) (at-code-tables .code-tables .ensures .1 .0) (at-code-tables .code-tables .ensures .1 .1 .0) (at-code-tables .code-tables .ensures .1 .1 .1)) _ _ (at-under-code .under-code .ensures), (c .u16-to-usize .ensures .0 ∙ ap columnsRead e, rw (c .u16-to-usize .ensures .0) (columns-small (start .args .code .now) _ e)))
 
 pub decode-in-spec : {M : Type 1} → statement M
 decode-in-spec =
@@ -66,7 +66,7 @@ decode-in-spec =
     enum-known-k
     enum-known-numbers
     under-code-requires
-    long-requires
+    u16-to-usize-requires
     returns
     same-length
     same-length-2

@@ -20,21 +20,21 @@ loop-holds c =
     let start = c .before .before .before in
     (omega arith, (refl, (again-start (start .args .q) (start .args .costs .now) (start .args .columns .now) (start .args .symbols .now), (omega arith, λ _. refl))))
 
-mul-long : tie.Need-mul-long Inv-loop μ-loop
-mul-long c = search needs
+mul-u16-to-usize : tie.Need-mul-u16-to-usize Inv-loop μ-loop
+mul-u16-to-usize c = search needs
 
-shared-slice-read-long : tie.Need-shared-slice-read-long Inv-loop μ-loop
-shared-slice-read-long c = search needs
+shared-slice-read-u16-to-usize : tie.Need-shared-slice-read-u16-to-usize Inv-loop μ-loop
+shared-slice-read-u16-to-usize c = search needs
 
-long-requires : tie.Need-long-requires Inv-loop μ-loop
-long-requires c κs = search needs
+u16-to-usize-requires : tie.Need-u16-to-usize-requires Inv-loop μ-loop
+u16-to-usize-requires c κs = search needs
 
 decide-at-requires : tie.Need-decide-at-requires Inv-loop μ-loop
 decide-at-requires c κs =
-    let at-long = c .before in
-    let at-loop = at-long .before .before .before in
+    let at-u16-to-usize = c .before in
+    let at-loop = at-u16-to-usize .before .before .before in
     let start = at-loop .before .before .before .before in
-    let i : at-loop .loop .k < length (start .args .columns .now) = omega arith in let e = at-long .long .ensures .0 in (rw e (start .pre .in-costs (at-loop .loop .k) i), (omega (arith, e, start .pre .in-symbols (at-loop .loop .k) i, at-loop .loop .inv .1 .0), start .pre .small))
+    let i : at-loop .loop .k < length (start .args .columns .now) = omega arith in let e = at-u16-to-usize .u16-to-usize .ensures .0 in (rw e (start .pre .in-costs (at-loop .loop .k) i), (omega (arith, e, start .pre .in-symbols (at-loop .loop .k) i, at-loop .loop .inv .1 .0), start .pre .small))
 
 add-changed : tie.Need-add-changed Inv-loop μ-loop
 add-changed c =
@@ -51,10 +51,10 @@ loop-less c = search needs
 loop-again : tie.Need-loop-again Inv-loop μ-loop
 loop-again c =
     let at-decide-at = c .before .before in
-    let at-long = at-decide-at .before .before in
-    let at-loop = at-long .before .before .before in
+    let at-u16-to-usize = at-decide-at .before .before in
+    let at-loop = at-u16-to-usize .before .before .before in
     let start = at-loop .before .before .before .before in
-    (omega arith, (omega (arith, at-decide-at .decide-at .kept, at-loop .loop .inv .1 .0), (again-more (start .args .q) (start .args .costs .now) (start .args .columns .now) (start .args .symbols .now) (at-loop .loop .symbols) _ (at-loop .loop .k) (at-long .long .result) (at-long .long .ensures .0) (at-loop .loop .inv .1 .1 .0) (at-decide-at .decide-at .ensures .0), (omega (arith, at-loop .loop .inv, at-decide-at .decide-at .ensures .1 .0), λ (e : at-loop .loop .changed + at-decide-at .decide-at .result ≡ 0). at-decide-at .decide-at .ensures .1 .1 (omega arith) ∙ at-loop .loop .inv .1 .1 .1 .1 (omega arith)))))
+    (omega arith, (omega (arith, at-decide-at .decide-at .kept, at-loop .loop .inv .1 .0), (again-more (start .args .q) (start .args .costs .now) (start .args .columns .now) (start .args .symbols .now) (at-loop .loop .symbols) _ (at-loop .loop .k) (at-u16-to-usize .u16-to-usize .result) (at-u16-to-usize .u16-to-usize .ensures .0) (at-loop .loop .inv .1 .1 .0) (at-decide-at .decide-at .ensures .0), (omega (arith, at-loop .loop .inv, at-decide-at .decide-at .ensures .1 .0), λ (e : at-loop .loop .changed + at-decide-at .decide-at .result ≡ 0). at-decide-at .decide-at .ensures .1 .1 (omega arith) ∙ at-loop .loop .inv .1 .1 .1 .1 (omega arith)))))
 
 same-length : tie.Need-same-length Inv-loop μ-loop
 same-length c = search needs
@@ -72,9 +72,9 @@ decide-again-spec =
     Inv-loop
     μ-loop
     loop-holds
-    mul-long
-    shared-slice-read-long
-    long-requires
+    mul-u16-to-usize
+    shared-slice-read-u16-to-usize
+    u16-to-usize-requires
     decide-at-requires
     add-changed
     add-k

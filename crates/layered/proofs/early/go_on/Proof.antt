@@ -18,8 +18,8 @@ Inv-loop numbers most degrees columns weights symbols₀ costs₀ store₀ arriv
 abbrev μ-loop : tie.MeasureT-loop
 μ-loop numbers most degrees columns weights symbols₀ costs₀ store₀ arrived₀ sent₀ count here₀ from₀ u₀ symbols costs store arrived sent here from u = most - u
 
-index-requires : tie.Need-index-requires Inv-loop μ-loop
-index-requires c κs = search needs
+u8-to-usize-requires : tie.Need-u8-to-usize-requires Inv-loop μ-loop
+u8-to-usize-requires c κs = search needs
 
 loop-holds : tie.Need-loop-holds Inv-loop μ-loop
 loop-holds c =
@@ -47,16 +47,16 @@ returns c =
     let start = at-loop .before .before .before .before .before .before .before .before .before .before in
     (going-end (start .args .numbers) (start .args .degrees .now) (start .args .columns .now) (start .args .weights .now) (start .args .most) (lent (start .args .costs .now) (start .args .store .now)) (at-loop .loop .u) (at-loop .loop .here) (at-loop .loop .from) (at-loop .loop .costs) (at-loop .loop .store) (at-loop .loop .symbols) (at-loop .loop .inv .0) (c .if1 .taken), at-loop .loop .inv .0 .unsettled .decided)
 
-long-requires : tie.Need-long-requires Inv-loop μ-loop
-long-requires c κs = search needs
+u16-to-usize-requires : tie.Need-u16-to-usize-requires Inv-loop μ-loop
+u16-to-usize-requires c κs = search needs
 
 update-at-requires : tie.Need-update-at-requires Inv-loop μ-loop
 update-at-requires c κs =
-    let at-long = c .before .before .before .before in
-    let at-loop = at-long .before .before in
-    let at-index = at-loop .before in
-    let start = at-index .before .before .before .before .before .before .before .before .before in
-    record { updatable = going-updatable (start .args .numbers) (start .args .degrees .now) (start .args .columns .now) (start .args .weights .now) (start .args .most) (lent (start .args .costs .now) (start .args .store .now)) (at-loop .loop .u) (at-loop .loop .here) (at-loop .loop .from) (at-loop .loop .costs) (at-loop .loop .store) (at-loop .loop .symbols) (at-loop .loop .inv .0) _ (ap₂ ltb (at-long .long .ensures .0) (at-index .index .ensures .0)); stands = at-loop .loop .inv .0 .stands; arrived = omega (arith, start .pre .arrived, at-loop .loop .inv .1 .1 .1 .1 .0); sent = omega (arith, start .pre .sent, at-loop .loop .inv .1 .1 .1 .1 .1) }
+    let at-u16-to-usize = c .before .before .before .before in
+    let at-loop = at-u16-to-usize .before .before in
+    let at-u8-to-usize = at-loop .before in
+    let start = at-u8-to-usize .before .before .before .before .before .before .before .before .before in
+    record { updatable = going-updatable (start .args .numbers) (start .args .degrees .now) (start .args .columns .now) (start .args .weights .now) (start .args .most) (lent (start .args .costs .now) (start .args .store .now)) (at-loop .loop .u) (at-loop .loop .here) (at-loop .loop .from) (at-loop .loop .costs) (at-loop .loop .store) (at-loop .loop .symbols) (at-loop .loop .inv .0) _ (ap₂ ltb (at-u16-to-usize .u16-to-usize .ensures .0) (at-u8-to-usize .u8-to-usize .ensures .0)); stands = at-loop .loop .inv .0 .stands; arrived = omega (arith, start .pre .arrived, at-loop .loop .inv .1 .1 .1 .1 .0); sent = omega (arith, start .pre .sent, at-loop .loop .inv .1 .1 .1 .1 .1) }
 
 add-u : tie.Need-add-u Inv-loop μ-loop
 add-u c =
@@ -68,11 +68,11 @@ add-u c =
 tested-again-requires : tie.Need-tested-again-requires Inv-loop μ-loop
 tested-again-requires c κs =
     let at-update-at = c .before .before .before .before .before .before .before .before .before .before in
-    let at-long = at-update-at .before .before .before .before .before in
-    let at-loop = at-long .before .before in
-    let at-index = at-loop .before in
-    let start = at-index .before .before .before .before .before .before .before .before .before in
-    going-retest (start .args .numbers) (start .args .degrees .now) (start .args .columns .now) (start .args .weights .now) (start .args .most) (lent (start .args .costs .now) (start .args .store .now)) (at-loop .loop .u) (at-loop .loop .here) (at-loop .loop .from) (at-loop .loop .costs) (at-loop .loop .store) (at-loop .loop .symbols) (at-loop .loop .inv .0) _ (ap₂ ltb (at-long .long .ensures .0) (at-index .index .ensures .0)) _ _ (at-update-at .update-at .ensures .0)
+    let at-u16-to-usize = at-update-at .before .before .before .before .before in
+    let at-loop = at-u16-to-usize .before .before in
+    let at-u8-to-usize = at-loop .before in
+    let start = at-u8-to-usize .before .before .before .before .before .before .before .before .before in
+    going-retest (start .args .numbers) (start .args .degrees .now) (start .args .columns .now) (start .args .weights .now) (start .args .most) (lent (start .args .costs .now) (start .args .store .now)) (at-loop .loop .u) (at-loop .loop .here) (at-loop .loop .from) (at-loop .loop .costs) (at-loop .loop .store) (at-loop .loop .symbols) (at-loop .loop .inv .0) _ (ap₂ ltb (at-u16-to-usize .u16-to-usize .ensures .0) (at-u8-to-usize .u8-to-usize .ensures .0)) _ _ (at-update-at .update-at .ensures .0)
 
 same-length-6 : tie.Need-same-length-6 Inv-loop μ-loop
 same-length-6 c =
@@ -108,12 +108,12 @@ returns-2 : tie.Need-returns-2 Inv-loop μ-loop
 returns-2 c =
     let at-tested-again = c .before .before .before .before in
     let at-update-at = at-tested-again .before .before .before .before .before .before .before .before .before .before .before in
-    let at-long = at-update-at .before .before .before .before .before in
-    let at-if1 = at-long .before in
+    let at-u16-to-usize = at-update-at .before .before .before .before .before in
+    let at-if1 = at-u16-to-usize .before in
     let at-loop = at-if1 .before in
-    let at-index = at-loop .before in
-    let start = at-index .before .before .before .before .before .before .before .before .before in
-    (going-found (start .args .numbers) (start .args .degrees .now) (start .args .columns .now) (start .args .weights .now) (start .args .most) (lent (start .args .costs .now) (start .args .store .now)) (at-loop .loop .u) (at-loop .loop .here) (at-loop .loop .from) (at-loop .loop .costs) (at-loop .loop .store) (at-loop .loop .symbols) (at-loop .loop .inv .0) _ (ap₂ ltb (at-long .long .ensures .0) (at-index .index .ensures .0)) _ _ (at-update-at .update-at .ensures .0) (omega (arith, at-loop .loop .inv .0 .at-most, at-if1 .if1 .left)) (at-tested-again .tested-again .result) (at-tested-again .tested-again .ensures .0) (at-index .index .result) (at-index .index .ensures .0) (c .if2 .taken), at-tested-again .tested-again .ensures .1)
+    let at-u8-to-usize = at-loop .before in
+    let start = at-u8-to-usize .before .before .before .before .before .before .before .before .before in
+    (going-found (start .args .numbers) (start .args .degrees .now) (start .args .columns .now) (start .args .weights .now) (start .args .most) (lent (start .args .costs .now) (start .args .store .now)) (at-loop .loop .u) (at-loop .loop .here) (at-loop .loop .from) (at-loop .loop .costs) (at-loop .loop .store) (at-loop .loop .symbols) (at-loop .loop .inv .0) _ (ap₂ ltb (at-u16-to-usize .u16-to-usize .ensures .0) (at-u8-to-usize .u8-to-usize .ensures .0)) _ _ (at-update-at .update-at .ensures .0) (omega (arith, at-loop .loop .inv .0 .at-most, at-if1 .if1 .left)) (at-tested-again .tested-again .result) (at-tested-again .tested-again .ensures .0) (at-u8-to-usize .u8-to-usize .result) (at-u8-to-usize .u8-to-usize .ensures .0) (c .if2 .taken), at-tested-again .tested-again .ensures .1)
 
 around-requires : tie.Need-around-requires Inv-loop μ-loop
 around-requires c κs = search needs
@@ -129,12 +129,12 @@ loop-again c =
     let at-if2 = c .before in
     let at-tested-again = at-if2 .before .before .before .before in
     let at-update-at = at-tested-again .before .before .before .before .before .before .before .before .before .before .before in
-    let at-long = at-update-at .before .before .before .before .before in
-    let at-if1 = at-long .before in
+    let at-u16-to-usize = at-update-at .before .before .before .before .before in
+    let at-if1 = at-u16-to-usize .before in
     let at-loop = at-if1 .before in
-    let at-index = at-loop .before in
-    let start = at-index .before .before .before .before .before .before .before .before .before in
-    (going-next (start .args .numbers) (start .args .degrees .now) (start .args .columns .now) (start .args .weights .now) (start .args .most) (lent (start .args .costs .now) (start .args .store .now)) (at-loop .loop .u) (at-loop .loop .here) (at-loop .loop .from) (at-loop .loop .costs) (at-loop .loop .store) (at-loop .loop .symbols) (at-loop .loop .inv .0) _ (ap₂ ltb (at-long .long .ensures .0) (at-index .index .ensures .0)) _ _ (at-update-at .update-at .ensures .0) (omega (arith, at-loop .loop .inv .0 .at-most, at-if1 .if1 .left)) (at-tested-again .tested-again .result) (at-tested-again .tested-again .ensures .0) (at-index .index .result) (at-index .index .ensures .0) (at-if2 .if2 .left) (at-update-at .update-at .result) _ (at-update-at .update-at .ensures .1) (c .around .ensures) _ (at-tested-again .tested-again .ensures .1), (omega (arith, at-tested-again .tested-again .kept, at-loop .loop .inv .1 .0), (omega (arith, at-update-at .update-at .kept, at-loop .loop .inv .1 .1 .0), (omega (arith, at-update-at .update-at .kept, at-loop .loop .inv .1 .1 .1 .0), (omega (arith, at-update-at .update-at .kept, at-loop .loop .inv .1 .1 .1 .1 .0), omega (arith, at-update-at .update-at .kept, at-loop .loop .inv .1 .1 .1 .1 .1))))))
+    let at-u8-to-usize = at-loop .before in
+    let start = at-u8-to-usize .before .before .before .before .before .before .before .before .before in
+    (going-next (start .args .numbers) (start .args .degrees .now) (start .args .columns .now) (start .args .weights .now) (start .args .most) (lent (start .args .costs .now) (start .args .store .now)) (at-loop .loop .u) (at-loop .loop .here) (at-loop .loop .from) (at-loop .loop .costs) (at-loop .loop .store) (at-loop .loop .symbols) (at-loop .loop .inv .0) _ (ap₂ ltb (at-u16-to-usize .u16-to-usize .ensures .0) (at-u8-to-usize .u8-to-usize .ensures .0)) _ _ (at-update-at .update-at .ensures .0) (omega (arith, at-loop .loop .inv .0 .at-most, at-if1 .if1 .left)) (at-tested-again .tested-again .result) (at-tested-again .tested-again .ensures .0) (at-u8-to-usize .u8-to-usize .result) (at-u8-to-usize .u8-to-usize .ensures .0) (at-if2 .if2 .left) (at-update-at .update-at .result) _ (at-update-at .update-at .ensures .1) (c .around .ensures) _ (at-tested-again .tested-again .ensures .1), (omega (arith, at-tested-again .tested-again .kept, at-loop .loop .inv .1 .0), (omega (arith, at-update-at .update-at .kept, at-loop .loop .inv .1 .1 .0), (omega (arith, at-update-at .update-at .kept, at-loop .loop .inv .1 .1 .1 .0), (omega (arith, at-update-at .update-at .kept, at-loop .loop .inv .1 .1 .1 .1 .0), omega (arith, at-update-at .update-at .kept, at-loop .loop .inv .1 .1 .1 .1 .1))))))
 
 pub go-on-spec : {M : Type 1} → statement M
 go-on-spec =
@@ -142,7 +142,7 @@ go-on-spec =
     (tie.spec
     Inv-loop
     μ-loop
-    index-requires
+    u8-to-usize-requires
     loop-holds
     same-length
     same-length-2
@@ -150,7 +150,7 @@ go-on-spec =
     same-length-4
     same-length-5
     returns
-    long-requires
+    u16-to-usize-requires
     update-at-requires
     add-u
     tested-again-requires

@@ -20,11 +20,11 @@ abbrev μ-loop : tie.MeasureT-loop
 loop-holds : tie.Need-loop-holds Inv-loop μ-loop
 loop-holds c = search needs
 
-shared-slice-read-wide : tie.Need-shared-slice-read-wide Inv-loop μ-loop
-shared-slice-read-wide c = search needs
+shared-slice-read-u8-to-u16 : tie.Need-shared-slice-read-u8-to-u16 Inv-loop μ-loop
+shared-slice-read-u8-to-u16 c = search needs
 
-wide-requires : tie.Need-wide-requires Inv-loop μ-loop
-wide-requires c κs = search needs
+u8-to-u16-requires : tie.Need-u8-to-u16-requires Inv-loop μ-loop
+u8-to-u16-requires c κs = search needs
 
 mul-costs : tie.Need-mul-costs Inv-loop μ-loop
 mul-costs c = search needs
@@ -60,8 +60,8 @@ copy-spec =
     Inv-loop
     μ-loop
     loop-holds
-    shared-slice-read-wide
-    wide-requires
+    shared-slice-read-u8-to-u16
+    u8-to-u16-requires
     mul-costs
     slice-write-costs
     add-i

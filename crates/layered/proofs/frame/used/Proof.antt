@@ -26,11 +26,11 @@ loop-holds : tie.Need-loop-holds Inv-loop μ-loop
 unfolding bytesBefore
 loop-holds c = (omega arith, (refl, omega arith))
 
-shared-slice-read-index : tie.Need-shared-slice-read-index Inv-loop μ-loop
-shared-slice-read-index c = search needs
+shared-slice-read-u8-to-usize : tie.Need-shared-slice-read-u8-to-usize Inv-loop μ-loop
+shared-slice-read-u8-to-usize c = search needs
 
-index-requires : tie.Need-index-requires Inv-loop μ-loop
-index-requires c κs = search needs
+u8-to-usize-requires : tie.Need-u8-to-usize-requires Inv-loop μ-loop
+u8-to-usize-requires c κs = search needs
 
 add-sum : tie.Need-add-sum Inv-loop μ-loop
 add-sum c = omega (arith, few (c .before .before .before .before))
@@ -49,7 +49,7 @@ loop-again c =
     let l = c .before .before .before in
     let z = l .before in
     let a = z .before .before .args in
-    (omega arith, (place-more (a .first) (a .degrees .now) (l .loop .m) (l .loop .sum) (c .index .result) (z .groups .result) (l .loop .inv .1 .0) (c .index .ensures .0) (z .groups .ensures), omega (arith, few z)))
+    (omega arith, (place-more (a .first) (a .degrees .now) (l .loop .m) (l .loop .sum) (c .u8-to-usize .result) (z .groups .result) (l .loop .inv .1 .0) (c .u8-to-usize .ensures .0) (z .groups .ensures), omega (arith, few z)))
 
 returns : tie.Need-returns Inv-loop μ-loop
 returns c =
@@ -66,8 +66,8 @@ used-spec =
     μ-loop
     groups-requires
     loop-holds
-    shared-slice-read-index
-    index-requires
+    shared-slice-read-u8-to-usize
+    u8-to-usize-requires
     add-sum
     add-sum-2
     add-m

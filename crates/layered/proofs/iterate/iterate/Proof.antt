@@ -21,8 +21,8 @@ Inv-loop numbers start degrees columns weights costs₀ store₀ arrived₀ sent
 abbrev μ-loop : tie.MeasureT-loop
 μ-loop numbers start degrees columns weights costs₀ store₀ arrived₀ sent₀ count here₀ costs store arrived sent here = count - here .check
 
-index-requires : tie.Need-index-requires Inv-loop μ-loop
-index-requires c κs = search needs
+u8-to-usize-requires : tie.Need-u8-to-usize-requires Inv-loop μ-loop
+u8-to-usize-requires c κs = search needs
 
 loop-holds : tie.Need-loop-holds Inv-loop μ-loop
 unfolding bytesBefore
@@ -31,9 +31,9 @@ loop-holds c = (omega arith, (record { check-is = refl; edge-is = refl; byte-is 
 update-at-requires : tie.Need-update-at-requires Inv-loop μ-loop
 update-at-requires c κs =
     let at-loop = c .before .before .before .before .before .before in
-    let at-index = at-loop .before in
-    let start = at-index .before .before .before .before .before .before .before .before in
-    record { updatable = update-updatable (start .args .numbers) (start .args .degrees .now) (start .args .columns .now) (start .args .weights .now) (start .args .costs .now) (start .args .store .now) (start .args .start) (start .pre .running) (at-loop .loop .here .check) (omega (arith, at-index .index .ensures .0)) _ (at-loop .loop .inv .1 .1 .0); stands = at-loop .loop .inv .1 .0; arrived = omega (arith, start .pre .arrived, at-loop .loop .inv .1 .1 .1 .1 .1 .0); sent = omega (arith, start .pre .sent, at-loop .loop .inv .1 .1 .1 .1 .1 .1) }
+    let at-u8-to-usize = at-loop .before in
+    let start = at-u8-to-usize .before .before .before .before .before .before .before .before in
+    record { updatable = update-updatable (start .args .numbers) (start .args .degrees .now) (start .args .columns .now) (start .args .weights .now) (start .args .costs .now) (start .args .store .now) (start .args .start) (start .pre .running) (at-loop .loop .here .check) (omega (arith, at-u8-to-usize .u8-to-usize .ensures .0)) _ (at-loop .loop .inv .1 .1 .0); stands = at-loop .loop .inv .1 .0; arrived = omega (arith, start .pre .arrived, at-loop .loop .inv .1 .1 .1 .1 .1 .0); sent = omega (arith, start .pre .sent, at-loop .loop .inv .1 .1 .1 .1 .1 .1) }
 
 loop-less : tie.Need-loop-less Inv-loop μ-loop
 loop-less c =
@@ -62,9 +62,9 @@ same-length-4 c = search needs
 returns : tie.Need-returns Inv-loop μ-loop
 returns c =
     let at-loop = c .before .before in
-    let at-index = at-loop .before in
-    let start = at-index .before .before .before .before .before .before .before .before in
-    iteration-done (codeOf (start .args .numbers) (start .args .degrees .now) (start .args .columns .now) (start .args .weights .now)) (start .args .start) (lent (start .args .costs .now) (start .args .store .now)) _ (at-loop .loop .here .check) (omega (arith, at-index .index .ensures .0, checks-count (start .args .numbers) (start .args .degrees .now) (start .args .columns .now) (start .args .weights .now) (start .pre .running .coded))) (at-loop .loop .inv .1 .1 .0)
+    let at-u8-to-usize = at-loop .before in
+    let start = at-u8-to-usize .before .before .before .before .before .before .before .before in
+    iteration-done (codeOf (start .args .numbers) (start .args .degrees .now) (start .args .columns .now) (start .args .weights .now)) (start .args .start) (lent (start .args .costs .now) (start .args .store .now)) _ (at-loop .loop .here .check) (omega (arith, at-u8-to-usize .u8-to-usize .ensures .0, checks-count (start .args .numbers) (start .args .degrees .now) (start .args .columns .now) (start .args .weights .now) (start .pre .running .coded))) (at-loop .loop .inv .1 .1 .0)
 
 pub iterate-spec : {M : Type 1} → statement M
 iterate-spec =
@@ -72,7 +72,7 @@ iterate-spec =
     (tie.spec
     Inv-loop
     μ-loop
-    index-requires
+    u8-to-usize-requires
     loop-holds
     update-at-requires
     loop-less

@@ -28,8 +28,8 @@ shared-slice-read-but c = search needs
 but-requires : tie.Need-but-requires Inv-loop μ-loop
 but-requires c κs = search needs
 
-lesser-requires : tie.Need-lesser-requires Inv-loop μ-loop
-lesser-requires c κs = search needs
+min-u16-requires : tie.Need-min-u16-requires Inv-loop μ-loop
+min-u16-requires c κs = search needs
 
 add-x : tie.Need-add-x Inv-loop μ-loop
 add-x c = search needs
@@ -50,4 +50,4 @@ returns c =
 
 pub least-but-spec : {M : Type 1} → statement M
 least-but-spec =
-    tie.close (tie.spec Inv-loop μ-loop loop-holds mul-but shared-slice-read-but but-requires lesser-requires add-x loop-less loop-again returns)
+    tie.close (tie.spec Inv-loop μ-loop loop-holds mul-but shared-slice-read-but but-requires min-u16-requires add-x loop-less loop-again returns)

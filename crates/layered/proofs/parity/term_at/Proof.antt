@@ -5,14 +5,14 @@ use borrow.Author.Needs.{needs}
 use Rattle.layered.proofs.parity.term_at.Statement.{statement}
 use Rattle.layered.proofs.parity.term_at.Tie as tie
 
-mul-long : tie.Need-mul-long
-mul-long c = search needs
+mul-u16-to-usize : tie.Need-mul-u16-to-usize
+mul-u16-to-usize c = search needs
 
-shared-slice-read-long : tie.Need-shared-slice-read-long
-shared-slice-read-long c = search needs
+shared-slice-read-u16-to-usize : tie.Need-shared-slice-read-u16-to-usize
+shared-slice-read-u16-to-usize c = search needs
 
-long-requires : tie.Need-long-requires
-long-requires c κs = search needs
+u16-to-usize-requires : tie.Need-u16-to-usize-requires
+u16-to-usize-requires c κs = search needs
 
 shared-slice-read-times : tie.Need-shared-slice-read-times
 shared-slice-read-times c = search needs
@@ -26,9 +26,9 @@ power-requires c κs = search needs
 times-requires : tie.Need-times-requires
 times-requires c κs =
     let at-power = c .before .before in
-    let at-long = at-power .before in
-    let s = at-long .before .before .before .before .before in
-    let e : at-long .long .result ≡ getD (s .args .columns .now) (s .args .k) 0 = at-long .long .ensures .0 in
+    let at-u16-to-usize = at-power .before in
+    let s = at-u16-to-usize .before .before .before .before .before in
+    let e : at-u16-to-usize .u16-to-usize .result ≡ getD (s .args .columns .now) (s .args .k) 0 = at-u16-to-usize .u16-to-usize .ensures .0 in
     rw (at-power .power .ensures) (s .pre .low, (s .pre .high, (s .pre .weight, rw e (s .pre .symbol))))
 
 returns : tie.Need-returns
@@ -38,9 +38,9 @@ pub term-at-spec : {M : Type 1} → statement M
 term-at-spec =
     tie.close
     (tie.spec
-    mul-long
-    shared-slice-read-long
-    long-requires
+    mul-u16-to-usize
+    shared-slice-read-u16-to-usize
+    u16-to-usize-requires
     power-requires
     shared-slice-read-times
     shared-slice-read-times-2

@@ -34,14 +34,14 @@ checks-holds c =
     let start = c .before .before .before .before in
     (omega arith, (start .pre .1 .ordered, (start .pre .1 .edge-is, λ j h i. absurd (omega arith))))
 
-shared-slice-read-index : tie.Need-shared-slice-read-index Inv-loop μ-loop Inv-checks μ-checks
-shared-slice-read-index c =
+shared-slice-read-u8-to-usize : tie.Need-shared-slice-read-u8-to-usize Inv-loop μ-loop Inv-checks μ-checks
+shared-slice-read-u8-to-usize c =
     let at-checks = c .before .before in
     let start = at-checks .before .before .before .before .before in
     omega (arith, start .pre .1 .inside, at-checks .checks .inv, start .pre .0 .coded .for-degrees)
 
-index-requires : tie.Need-index-requires Inv-loop μ-loop Inv-checks μ-checks
-index-requires c κs = search needs
+u8-to-usize-requires : tie.Need-u8-to-usize-requires Inv-loop μ-loop Inv-checks μ-checks
+u8-to-usize-requires c κs = search needs
 
 loop-holds : tie.Need-loop-holds Inv-loop μ-loop Inv-checks μ-checks
 loop-holds c = (omega arith, refl)
@@ -49,18 +49,18 @@ loop-holds c = (omega arith, refl)
 add-term-at : tie.Need-add-term-at Inv-loop μ-loop Inv-checks μ-checks
 add-term-at c =
     let at-loop = c .before in
-    let at-index = at-loop .before in
-    let at-checks = at-index .before .before .before in
+    let at-u8-to-usize = at-loop .before in
+    let at-checks = at-u8-to-usize .before .before .before in
     let start = at-checks .before .before .before .before .before in
-    let h = (let h : at-checks .checks .m < start .args .numbers .checks = omega (arith, start .pre .1 .inside, at-checks .checks .inv) in h) in omega (arith, edges-end (start .args .numbers) (start .args .degrees .now) (start .args .columns .now) (start .args .weights .now) (start .args .symbols .now) (start .pre .0) (at-checks .checks .m) (at-loop .loop .n) (at-checks .checks .at) (at-index .index .result) h (at-checks .checks .inv .1 .1 .0) (at-index .index .ensures .0))
+    let h = (let h : at-checks .checks .m < start .args .numbers .checks = omega (arith, start .pre .1 .inside, at-checks .checks .inv) in h) in omega (arith, edges-end (start .args .numbers) (start .args .degrees .now) (start .args .columns .now) (start .args .weights .now) (start .args .symbols .now) (start .pre .0) (at-checks .checks .m) (at-loop .loop .n) (at-checks .checks .at) (at-u8-to-usize .u8-to-usize .result) h (at-checks .checks .inv .1 .1 .0) (at-u8-to-usize .u8-to-usize .ensures .0))
 
 term-at-requires : tie.Need-term-at-requires Inv-loop μ-loop Inv-checks μ-checks
 term-at-requires c κs =
     let at-loop = c .before in
-    let at-index = at-loop .before in
-    let at-checks = at-index .before .before .before in
+    let at-u8-to-usize = at-loop .before in
+    let at-checks = at-u8-to-usize .before .before .before in
     let start = at-checks .before .before .before .before .before in
-    let h = (let h : at-checks .checks .m < start .args .numbers .checks = omega (arith, start .pre .1 .inside, at-checks .checks .inv) in h) in edge-room (start .args .numbers) (start .args .degrees .now) (start .args .columns .now) (start .args .weights .now) (start .args .symbols .now) (start .pre .0) (at-checks .checks .m) (at-loop .loop .n) (at-checks .checks .at) (at-index .index .result) h (at-checks .checks .inv .1 .1 .0) (at-index .index .ensures .0) (omega arith)
+    let h = (let h : at-checks .checks .m < start .args .numbers .checks = omega (arith, start .pre .1 .inside, at-checks .checks .inv) in h) in edge-room (start .args .numbers) (start .args .degrees .now) (start .args .columns .now) (start .args .weights .now) (start .args .symbols .now) (start .pre .0) (at-checks .checks .m) (at-loop .loop .n) (at-checks .checks .at) (at-u8-to-usize .u8-to-usize .result) h (at-checks .checks .inv .1 .1 .0) (at-u8-to-usize .u8-to-usize .ensures .0) (omega arith)
 
 add-n : tie.Need-add-n Inv-loop μ-loop Inv-checks μ-checks
 add-n c = omega arith
@@ -71,17 +71,17 @@ loop-less c = omega arith
 loop-again : tie.Need-loop-again Inv-loop μ-loop Inv-checks μ-checks
 loop-again c =
     let at-loop = c .before .before in
-    let at-index = at-loop .before in
-    let at-checks = at-index .before .before .before in
+    let at-u8-to-usize = at-loop .before in
+    let at-checks = at-u8-to-usize .before .before .before in
     let start = at-checks .before .before .before .before .before in
-    let h = (let h : at-checks .checks .m < start .args .numbers .checks = omega (arith, start .pre .1 .inside, at-checks .checks .inv) in h) in (omega arith, sum-more (start .args .numbers) (start .args .degrees .now) (start .args .columns .now) (start .args .weights .now) (start .args .symbols .now) (start .pre .0) (at-checks .checks .m) (at-loop .loop .n) (at-checks .checks .at) (at-index .index .result) h (at-checks .checks .inv .1 .1 .0) (at-index .index .ensures .0) (omega arith) (at-loop .loop .sum) (c .term-at .result) (at-loop .loop .inv .1) (c .term-at .ensures))
+    let h = (let h : at-checks .checks .m < start .args .numbers .checks = omega (arith, start .pre .1 .inside, at-checks .checks .inv) in h) in (omega arith, sum-more (start .args .numbers) (start .args .degrees .now) (start .args .columns .now) (start .args .weights .now) (start .args .symbols .now) (start .pre .0) (at-checks .checks .m) (at-loop .loop .n) (at-checks .checks .at) (at-u8-to-usize .u8-to-usize .result) h (at-checks .checks .inv .1 .1 .0) (at-u8-to-usize .u8-to-usize .ensures .0) (omega arith) (at-loop .loop .sum) (c .term-at .result) (at-loop .loop .inv .1) (c .term-at .ensures))
 
 add-at : tie.Need-add-at Inv-loop μ-loop Inv-checks μ-checks
 add-at c =
-    let at-index = c .before .before .before in
-    let at-checks = at-index .before .before .before in
+    let at-u8-to-usize = c .before .before .before in
+    let at-checks = at-u8-to-usize .before .before .before in
     let start = at-checks .before .before .before .before .before in
-    let h = (let h : at-checks .checks .m < start .args .numbers .checks = omega (arith, start .pre .1 .inside, at-checks .checks .inv) in h) in omega (arith, edges-end (start .args .numbers) (start .args .degrees .now) (start .args .columns .now) (start .args .weights .now) (start .args .symbols .now) (start .pre .0) (at-checks .checks .m) 0 (at-checks .checks .at) (at-index .index .result) h (at-checks .checks .inv .1 .1 .0) (at-index .index .ensures .0))
+    let h = (let h : at-checks .checks .m < start .args .numbers .checks = omega (arith, start .pre .1 .inside, at-checks .checks .inv) in h) in omega (arith, edges-end (start .args .numbers) (start .args .degrees .now) (start .args .columns .now) (start .args .weights .now) (start .args .symbols .now) (start .pre .0) (at-checks .checks .m) 0 (at-checks .checks .at) (at-u8-to-usize .u8-to-usize .result) h (at-checks .checks .inv .1 .1 .0) (at-u8-to-usize .u8-to-usize .ensures .0))
 
 add-m : tie.Need-add-m Inv-loop μ-loop Inv-checks μ-checks
 add-m c =
@@ -98,10 +98,10 @@ checks-again : tie.Need-checks-again Inv-loop μ-loop Inv-checks μ-checks
 checks-again c =
     let at-if2 = c .before in
     let at-loop = at-if2 .before in
-    let at-index = at-loop .before in
-    let at-checks = at-index .before .before .before in
+    let at-u8-to-usize = at-loop .before in
+    let at-checks = at-u8-to-usize .before .before .before in
     let start = at-checks .before .before .before .before .before in
-    let h = (let h : at-checks .checks .m < start .args .numbers .checks = omega (arith, start .pre .1 .inside, at-checks .checks .inv) in h) in (omega (arith, at-checks .checks .inv), (omega (arith, at-checks .checks .inv), (before-more (start .args .degrees .now) (at-checks .checks .m) (at-checks .checks .at) (at-index .index .result) (at-checks .checks .inv .1 .1 .0) (at-index .index .ensures .0), between-more (codeOf (start .args .numbers) (start .args .degrees .now) (start .args .columns .now) (start .args .weights .now)) (start .args .symbols .now) (start .args .from .check) (at-checks .checks .m) (at-checks .checks .inv .1 .1 .1) (sum-holds (codeOf (start .args .numbers) (start .args .degrees .now) (start .args .columns .now) (start .args .weights .now)) (start .args .symbols .now) (at-checks .checks .m) (at-index .index .result) (at-loop .loop .n) (at-loop .loop .sum) (degree (start .args .numbers) (start .args .degrees .now) (start .args .columns .now) (start .args .weights .now) (start .args .symbols .now) (start .pre .0) (at-checks .checks .m) (at-loop .loop .n) (at-checks .checks .at) (at-index .index .result) h (at-checks .checks .inv .1 .1 .0) (at-index .index .ensures .0)) (at-if2 .if2 .taken) (at-loop .loop .inv .1) (c .if3 .left)))))
+    let h = (let h : at-checks .checks .m < start .args .numbers .checks = omega (arith, start .pre .1 .inside, at-checks .checks .inv) in h) in (omega (arith, at-checks .checks .inv), (omega (arith, at-checks .checks .inv), (before-more (start .args .degrees .now) (at-checks .checks .m) (at-checks .checks .at) (at-u8-to-usize .u8-to-usize .result) (at-checks .checks .inv .1 .1 .0) (at-u8-to-usize .u8-to-usize .ensures .0), between-more (codeOf (start .args .numbers) (start .args .degrees .now) (start .args .columns .now) (start .args .weights .now)) (start .args .symbols .now) (start .args .from .check) (at-checks .checks .m) (at-checks .checks .inv .1 .1 .1) (sum-holds (codeOf (start .args .numbers) (start .args .degrees .now) (start .args .columns .now) (start .args .weights .now)) (start .args .symbols .now) (at-checks .checks .m) (at-u8-to-usize .u8-to-usize .result) (at-loop .loop .n) (at-loop .loop .sum) (degree (start .args .numbers) (start .args .degrees .now) (start .args .columns .now) (start .args .weights .now) (start .args .symbols .now) (start .pre .0) (at-checks .checks .m) (at-loop .loop .n) (at-checks .checks .at) (at-u8-to-usize .u8-to-usize .result) h (at-checks .checks .inv .1 .1 .0) (at-u8-to-usize .u8-to-usize .ensures .0)) (at-if2 .if2 .taken) (at-loop .loop .inv .1) (c .if3 .left)))))
 
 returns : tie.Need-returns Inv-loop μ-loop Inv-checks μ-checks
 returns c =
@@ -113,10 +113,10 @@ returns-2 : tie.Need-returns-2 Inv-loop μ-loop Inv-checks μ-checks
 returns-2 c =
     let at-if2 = c .before in
     let at-loop = at-if2 .before in
-    let at-index = at-loop .before in
-    let at-checks = at-index .before .before .before in
+    let at-u8-to-usize = at-loop .before in
+    let at-checks = at-u8-to-usize .before .before .before in
     let start = at-checks .before .before .before .before .before in
-    let h = (let h : at-checks .checks .m < start .args .numbers .checks = omega (arith, start .pre .1 .inside, at-checks .checks .inv) in h) in record { edge-is = at-checks .checks .inv .1 .1 .0; low = at-checks .checks .inv .0; high = at-checks .checks .inv .1 .0; before-it = at-checks .checks .inv .1 .1 .1; not-it = λ _. sum-not (codeOf (start .args .numbers) (start .args .degrees .now) (start .args .columns .now) (start .args .weights .now)) (start .args .symbols .now) (at-checks .checks .m) (at-index .index .result) (at-loop .loop .n) (at-loop .loop .sum) (degree (start .args .numbers) (start .args .degrees .now) (start .args .columns .now) (start .args .weights .now) (start .args .symbols .now) (start .pre .0) (at-checks .checks .m) (at-loop .loop .n) (at-checks .checks .at) (at-index .index .result) h (at-checks .checks .inv .1 .1 .0) (at-index .index .ensures .0)) (at-if2 .if2 .taken) (at-loop .loop .inv .1) (c .if3 .taken) }
+    let h = (let h : at-checks .checks .m < start .args .numbers .checks = omega (arith, start .pre .1 .inside, at-checks .checks .inv) in h) in record { edge-is = at-checks .checks .inv .1 .1 .0; low = at-checks .checks .inv .0; high = at-checks .checks .inv .1 .0; before-it = at-checks .checks .inv .1 .1 .1; not-it = λ _. sum-not (codeOf (start .args .numbers) (start .args .degrees .now) (start .args .columns .now) (start .args .weights .now)) (start .args .symbols .now) (at-checks .checks .m) (at-u8-to-usize .u8-to-usize .result) (at-loop .loop .n) (at-loop .loop .sum) (degree (start .args .numbers) (start .args .degrees .now) (start .args .columns .now) (start .args .weights .now) (start .args .symbols .now) (start .pre .0) (at-checks .checks .m) (at-loop .loop .n) (at-checks .checks .at) (at-u8-to-usize .u8-to-usize .result) h (at-checks .checks .inv .1 .1 .0) (at-u8-to-usize .u8-to-usize .ensures .0)) (at-if2 .if2 .taken) (at-loop .loop .inv .1) (c .if3 .taken) }
 
 pub unsatisfied-spec : {M : Type 1} → statement M
 unsatisfied-spec =
@@ -127,8 +127,8 @@ unsatisfied-spec =
     Inv-checks
     μ-checks
     checks-holds
-    shared-slice-read-index
-    index-requires
+    shared-slice-read-u8-to-usize
+    u8-to-usize-requires
     loop-holds
     add-term-at
     term-at-requires

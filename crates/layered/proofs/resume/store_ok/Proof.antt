@@ -23,17 +23,17 @@ abbrev μ-loop : tie.MeasureT-loop
 μ-loop first degrees weights store groups m₀ at₀ place₀ m at place = length degrees - m
 
 -- the check's parts of the weights and of the store are inside
-places : (c : tie.After-index Inv-loop μ-loop)
+places : (c : tie.After-u8-to-usize Inv-loop μ-loop)
     → let l = c .before .before .before in
     let z = l .before in
     let a = z .before .before .before .before .args in
-    (l .loop .at + c .index .result ≤ length (a .weights .now)) × (l .loop .place + (c .index .result + z .groups .result) ≤ length (a .store .now))
+    (l .loop .at + c .u8-to-usize .result ≤ length (a .weights .now)) × (l .loop .place + (c .u8-to-usize .result + z .groups .result) ≤ length (a .store .now))
 places c =
     let l = c .before .before .before in
     let z = l .before in
     let s = z .before .before .before .before in
     let a = s .args in
-    form-places (a .first) (a .degrees .now) (a .weights .now) (a .store .now) (s .pre) (l .loop .m) (l .loop .at) (l .loop .place) (c .index .result) (z .groups .result) (omega arith) (l .loop .inv .1 .0) (l .loop .inv .1 .1 .0) (c .index .ensures .0) (z .groups .ensures)
+    form-places (a .first) (a .degrees .now) (a .weights .now) (a .store .now) (s .pre) (l .loop .m) (l .loop .at) (l .loop .place) (c .u8-to-usize .result) (z .groups .result) (omega arith) (l .loop .inv .1 .0) (l .loop .inv .1 .1 .0) (c .u8-to-usize .ensures .0) (z .groups .ensures)
 
 groups-requires : tie.Need-groups-requires Inv-loop μ-loop
 groups-requires c κs = search needs
@@ -42,11 +42,11 @@ loop-holds : tie.Need-loop-holds Inv-loop μ-loop
 unfolding bytesBefore
 loop-holds c = (omega arith, (refl, (refl, refl)))
 
-shared-slice-read-index : tie.Need-shared-slice-read-index Inv-loop μ-loop
-shared-slice-read-index c = search needs
+shared-slice-read-u8-to-usize : tie.Need-shared-slice-read-u8-to-usize Inv-loop μ-loop
+shared-slice-read-u8-to-usize c = search needs
 
-index-requires : tie.Need-index-requires Inv-loop μ-loop
-index-requires c κs = search needs
+u8-to-usize-requires : tie.Need-u8-to-usize-requires Inv-loop μ-loop
+u8-to-usize-requires c κs = search needs
 
 add-e : tie.Need-add-e Inv-loop μ-loop
 add-e c = omega (arith, places c)
@@ -82,7 +82,7 @@ formed-requires c κs =
     let z = l .before in
     let s = z .before .before .before .before in
     let a = s .args in
-    form-asks (a .first) (a .degrees .now) (a .weights .now) (a .store .now) (s .pre) (l .loop .m) (l .loop .at) (l .loop .place) (i .index .result) (z .groups .result) (omega arith) (l .loop .inv .1 .0) (l .loop .inv .1 .1 .0) (i .index .ensures .0) (z .groups .ensures)
+    form-asks (a .first) (a .degrees .now) (a .weights .now) (a .store .now) (s .pre) (l .loop .m) (l .loop .at) (l .loop .place) (i .u8-to-usize .result) (z .groups .result) (omega arith) (l .loop .inv .1 .0) (l .loop .inv .1 .1 .0) (i .u8-to-usize .ensures .0) (z .groups .ensures)
 
 returns : tie.Need-returns Inv-loop μ-loop
 returns c =
@@ -91,7 +91,7 @@ returns c =
     let z = l .before in
     let s = z .before .before .before .before in
     let a = s .args in
-    sym (form-not (a .first) (a .degrees .now) (a .weights .now) (a .store .now) (s .pre) (l .loop .m) (l .loop .at) (l .loop .place) (i .index .result) (z .groups .result) (omega arith) (l .loop .inv .1 .0) (l .loop .inv .1 .1 .0) (i .index .ensures .0) (z .groups .ensures) (c .before .formed .result) (c .before .formed .ensures) (not-true _ (c .if1 .taken)))
+    sym (form-not (a .first) (a .degrees .now) (a .weights .now) (a .store .now) (s .pre) (l .loop .m) (l .loop .at) (l .loop .place) (i .u8-to-usize .result) (z .groups .result) (omega arith) (l .loop .inv .1 .0) (l .loop .inv .1 .1 .0) (i .u8-to-usize .ensures .0) (z .groups .ensures) (c .before .formed .result) (c .before .formed .ensures) (not-true _ (c .if1 .taken)))
 
 add-m : tie.Need-add-m Inv-loop μ-loop
 add-m c = search needs
@@ -108,10 +108,10 @@ loop-again c =
     let a = s .args in (
       omega arith,
       (
-        before-more (a .degrees .now) (l .loop .m) (l .loop .at) (i .index .result) (l .loop .inv .1 .0) (i .index .ensures .0),
+        before-more (a .degrees .now) (l .loop .m) (l .loop .at) (i .u8-to-usize .result) (l .loop .inv .1 .0) (i .u8-to-usize .ensures .0),
         (
-          place-more (a .first) (a .degrees .now) (l .loop .m) (l .loop .place) (i .index .result) (z .groups .result) (l .loop .inv .1 .1 .0) (i .index .ensures .0) (z .groups .ensures),
-          form-more (a .first) (a .degrees .now) (a .weights .now) (a .store .now) (s .pre) (l .loop .m) (l .loop .at) (l .loop .place) (i .index .result) (z .groups .result) (omega arith) (l .loop .inv .1 .0) (l .loop .inv .1 .1 .0) (i .index .ensures .0) (z .groups .ensures) (c .before .formed .result) (c .before .formed .ensures) (not-false _ (c .if1 .left)) (l .loop .inv .1 .1 .1),
+          place-more (a .first) (a .degrees .now) (l .loop .m) (l .loop .place) (i .u8-to-usize .result) (z .groups .result) (l .loop .inv .1 .1 .0) (i .u8-to-usize .ensures .0) (z .groups .ensures),
+          form-more (a .first) (a .degrees .now) (a .weights .now) (a .store .now) (s .pre) (l .loop .m) (l .loop .at) (l .loop .place) (i .u8-to-usize .result) (z .groups .result) (omega arith) (l .loop .inv .1 .0) (l .loop .inv .1 .1 .0) (i .u8-to-usize .ensures .0) (z .groups .ensures) (c .before .formed .result) (c .before .formed .ensures) (not-false _ (c .if1 .left)) (l .loop .inv .1 .1 .1),
         ),
       ),
     )
@@ -131,8 +131,8 @@ store-ok-spec =
     μ-loop
     groups-requires
     loop-holds
-    shared-slice-read-index
-    index-requires
+    shared-slice-read-u8-to-usize
+    u8-to-usize-requires
     add-e
     add-f
     add-f-2

@@ -10,25 +10,25 @@ use Rattle.layered.proofs.Steps.{step-refused, resume-room, resume-refu
 use Rattle.layered.proofs.stages.step_under.Statement.{statement}
 use Rattle.layered.proofs.stages.step_under.Tie as tie
 
-long-requires : tie.Need-long-requires
-long-requires c κs = search needs
+u16-to-usize-requires : tie.Need-u16-to-usize-requires
+u16-to-usize-requires c κs = search needs
 
-index-requires : tie.Need-index-requires
-index-requires c κs = search needs
+u8-to-usize-requires : tie.Need-u8-to-usize-requires
+u8-to-usize-requires c κs = search needs
 
 slice-aggregate-fault : tie.Need-slice-aggregate-fault
 slice-aggregate-fault c =
-    let at-index = c .before in
-    let at-long = at-index .before in
-    let start = at-long .before .before .before .before .before .before .before .before .before .before .before in
-    sym (length-take-le (at-index .index .result) (start .args .degrees .now) (degrees-there (start .args .numbers) (start .args .degrees .now) (start .args .columns .now) (start .args .weights .now) (start .pre .coded) (at-long .long .result) (at-index .index .result) (at-long .long .ensures .0) (at-index .index .ensures .0)))
+    let at-u8-to-usize = c .before in
+    let at-u16-to-usize = at-u8-to-usize .before in
+    let start = at-u16-to-usize .before .before .before .before .before .before .before .before .before .before .before in
+    sym (length-take-le (at-u8-to-usize .u8-to-usize .result) (start .args .degrees .now) (degrees-there (start .args .numbers) (start .args .degrees .now) (start .args .columns .now) (start .args .weights .now) (start .pre .coded) (at-u16-to-usize .u16-to-usize .result) (at-u8-to-usize .u8-to-usize .result) (at-u16-to-usize .u16-to-usize .ensures .0) (at-u8-to-usize .u8-to-usize .ensures .0)))
 
 fault-requires : tie.Need-fault-requires
 fault-requires c κs =
-    let at-index = c .before .before .before .before .before in
-    let at-long = at-index .before in
-    let start = at-long .before .before .before .before .before .before .before .before .before .before .before in
-    few (start .args .numbers) (start .args .degrees .now) (start .args .columns .now) (start .args .weights .now) (start .pre .coded) (at-long .long .result) (at-index .index .result) (at-long .long .ensures .0) (at-index .index .ensures .0)
+    let at-u8-to-usize = c .before .before .before .before .before in
+    let at-u16-to-usize = at-u8-to-usize .before in
+    let start = at-u16-to-usize .before .before .before .before .before .before .before .before .before .before .before in
+    few (start .args .numbers) (start .args .degrees .now) (start .args .columns .now) (start .args .weights .now) (start .pre .coded) (at-u16-to-usize .u16-to-usize .result) (at-u8-to-usize .u8-to-usize .result) (at-u16-to-usize .u16-to-usize .ensures .0) (at-u8-to-usize .u8-to-usize .ensures .0)
 
 same-length : tie.Need-same-length
 same-length c = search needs
@@ -45,26 +45,26 @@ same-length-4 c = search needs
 returns : tie.Need-returns
 returns c =
     let at-fault = c .before in
-    let at-index = at-fault .before .before .before .before .before .before in
-    let at-long = at-index .before in
-    let start = at-long .before .before .before .before .before .before .before .before .before .before .before in
-    step-refused (start .args .numbers) (start .args .degrees .now) (start .args .columns .now) (start .args .weights .now) (start .pre .coded) (at-long .long .result) (at-index .index .result) (at-long .long .ensures .0) (at-index .index .ensures .0) (start .args .frame .now) (start .args .symbols .now) (start .args .costs .now) (start .args .store .now) (start .args .margins .now) (at-fault .fault .result) (at-fault .fault .ensures) (c .if1 .taken) (start .args .t)
+    let at-u8-to-usize = at-fault .before .before .before .before .before .before in
+    let at-u16-to-usize = at-u8-to-usize .before in
+    let start = at-u16-to-usize .before .before .before .before .before .before .before .before .before .before .before in
+    step-refused (start .args .numbers) (start .args .degrees .now) (start .args .columns .now) (start .args .weights .now) (start .pre .coded) (at-u16-to-usize .u16-to-usize .result) (at-u8-to-usize .u8-to-usize .result) (at-u16-to-usize .u16-to-usize .ensures .0) (at-u8-to-usize .u8-to-usize .ensures .0) (start .args .frame .now) (start .args .symbols .now) (start .args .costs .now) (start .args .store .now) (start .args .margins .now) (at-fault .fault .result) (at-fault .fault .ensures) (c .if1 .taken) (start .args .t)
 
 slice-aggregate-fault-2 : tie.Need-slice-aggregate-fault-2
 slice-aggregate-fault-2 c =
-    let at-index = c .before .before .before .before .before .before .before .before in
-    let at-long = at-index .before in
-    let start = at-long .before .before .before .before .before .before .before .before .before .before .before in
-    sym (length-take-le (at-index .index .result) (start .args .degrees .now) (degrees-there (start .args .numbers) (start .args .degrees .now) (start .args .columns .now) (start .args .weights .now) (start .pre .coded) (at-long .long .result) (at-index .index .result) (at-long .long .ensures .0) (at-index .index .ensures .0)))
+    let at-u8-to-usize = c .before .before .before .before .before .before .before .before in
+    let at-u16-to-usize = at-u8-to-usize .before in
+    let start = at-u16-to-usize .before .before .before .before .before .before .before .before .before .before .before in
+    sym (length-take-le (at-u8-to-usize .u8-to-usize .result) (start .args .degrees .now) (degrees-there (start .args .numbers) (start .args .degrees .now) (start .args .columns .now) (start .args .weights .now) (start .pre .coded) (at-u16-to-usize .u16-to-usize .result) (at-u8-to-usize .u8-to-usize .result) (at-u16-to-usize .u16-to-usize .ensures .0) (at-u8-to-usize .u8-to-usize .ensures .0)))
 
 fault-requires-2 : tie.Need-fault-requires-2
 fault-requires-2 c κs =
     let at-if1 = c .before .before .before in
     let at-fault = at-if1 .before in
-    let at-index = at-fault .before .before .before .before .before .before in
-    let at-long = at-index .before in
-    let start = at-long .before .before .before .before .before .before .before .before .before .before .before in
-    resume-room (start .args .numbers) (start .args .degrees .now) (start .args .columns .now) (start .args .weights .now) (start .pre .coded) (at-long .long .result) (at-index .index .result) (at-long .long .ensures .0) (at-index .index .ensures .0) (start .args .frame .now) (start .args .symbols .now) (start .args .costs .now) (start .args .store .now) (start .args .margins .now) (at-fault .fault .result) (at-fault .fault .ensures) (at-if1 .if1 .left)
+    let at-u8-to-usize = at-fault .before .before .before .before .before .before in
+    let at-u16-to-usize = at-u8-to-usize .before in
+    let start = at-u16-to-usize .before .before .before .before .before .before .before .before .before .before .before in
+    resume-room (start .args .numbers) (start .args .degrees .now) (start .args .columns .now) (start .args .weights .now) (start .pre .coded) (at-u16-to-usize .u16-to-usize .result) (at-u8-to-usize .u8-to-usize .result) (at-u16-to-usize .u16-to-usize .ensures .0) (at-u8-to-usize .u8-to-usize .ensures .0) (start .args .frame .now) (start .args .symbols .now) (start .args .costs .now) (start .args .store .now) (start .args .margins .now) (at-fault .fault .result) (at-fault .fault .ensures) (at-if1 .if1 .left)
 
 same-length-5 : tie.Need-same-length-5
 same-length-5 c = search needs
@@ -83,64 +83,64 @@ returns-2 c =
     let at-fault2 = c .before in
     let at-if1 = at-fault2 .before .before .before .before in
     let at-fault = at-if1 .before in
-    let at-index = at-fault .before .before .before .before .before .before in
-    let at-long = at-index .before in
-    let start = at-long .before .before .before .before .before .before .before .before .before .before .before in
-    resume-refused (start .args .numbers) (start .args .degrees .now) (start .args .columns .now) (start .args .weights .now) (start .pre .coded) (at-long .long .result) (at-index .index .result) (at-long .long .ensures .0) (at-index .index .ensures .0) (start .args .frame .now) (start .args .symbols .now) (start .args .costs .now) (start .args .store .now) (start .args .margins .now) (at-fault .fault .result) (at-fault .fault .ensures) (at-if1 .if1 .left) (start .args .t) (at-fault2 .fault2 .result) (at-fault2 .fault2 .ensures) (c .if2 .taken)
+    let at-u8-to-usize = at-fault .before .before .before .before .before .before in
+    let at-u16-to-usize = at-u8-to-usize .before in
+    let start = at-u16-to-usize .before .before .before .before .before .before .before .before .before .before .before in
+    resume-refused (start .args .numbers) (start .args .degrees .now) (start .args .columns .now) (start .args .weights .now) (start .pre .coded) (at-u16-to-usize .u16-to-usize .result) (at-u8-to-usize .u8-to-usize .result) (at-u16-to-usize .u16-to-usize .ensures .0) (at-u8-to-usize .u8-to-usize .ensures .0) (start .args .frame .now) (start .args .symbols .now) (start .args .costs .now) (start .args .store .now) (start .args .margins .now) (at-fault .fault .result) (at-fault .fault .ensures) (at-if1 .if1 .left) (start .args .t) (at-fault2 .fault2 .result) (at-fault2 .fault2 .ensures) (c .if2 .taken)
 
 slice-relend-prefix-iterated : tie.Need-slice-relend-prefix-iterated
 slice-relend-prefix-iterated c =
     let at-if1 = c .before .before .before .before .before in
     let at-fault = at-if1 .before in
-    let at-index = at-fault .before .before .before .before .before .before in
-    let at-long = at-index .before in
-    let start = at-long .before .before .before .before .before .before .before .before .before .before .before in
-    omega (arith, (fits (start .args .numbers) (start .args .degrees .now) (start .args .columns .now) (start .args .weights .now) (start .pre .coded) (at-long .long .result) (at-index .index .result) (at-long .long .ensures .0) (at-index .index .ensures .0) (start .args .frame .now) (start .args .symbols .now) (start .args .costs .now) (start .args .store .now) (start .args .margins .now) (at-fault .fault .result) (at-fault .fault .ensures) (at-if1 .if1 .left)))
+    let at-u8-to-usize = at-fault .before .before .before .before .before .before in
+    let at-u16-to-usize = at-u8-to-usize .before in
+    let start = at-u16-to-usize .before .before .before .before .before .before .before .before .before .before .before in
+    omega (arith, (fits (start .args .numbers) (start .args .degrees .now) (start .args .columns .now) (start .args .weights .now) (start .pre .coded) (at-u16-to-usize .u16-to-usize .result) (at-u8-to-usize .u8-to-usize .result) (at-u16-to-usize .u16-to-usize .ensures .0) (at-u8-to-usize .u8-to-usize .ensures .0) (start .args .frame .now) (start .args .symbols .now) (start .args .costs .now) (start .args .store .now) (start .args .margins .now) (at-fault .fault .result) (at-fault .fault .ensures) (at-if1 .if1 .left)))
 
 slice-aggregate-iterated : tie.Need-slice-aggregate-iterated
 slice-aggregate-iterated c =
     let at-if1 = c .before .before .before .before .before .before in
     let at-fault = at-if1 .before in
-    let at-index = at-fault .before .before .before .before .before .before in
-    let at-long = at-index .before in
-    let start = at-long .before .before .before .before .before .before .before .before .before .before .before in
-    sym (length-take-le (at-long .long .result) (start .args .symbols .now) (omega (arith, (fits (start .args .numbers) (start .args .degrees .now) (start .args .columns .now) (start .args .weights .now) (start .pre .coded) (at-long .long .result) (at-index .index .result) (at-long .long .ensures .0) (at-index .index .ensures .0) (start .args .frame .now) (start .args .symbols .now) (start .args .costs .now) (start .args .store .now) (start .args .margins .now) (at-fault .fault .result) (at-fault .fault .ensures) (at-if1 .if1 .left)))))
+    let at-u8-to-usize = at-fault .before .before .before .before .before .before in
+    let at-u16-to-usize = at-u8-to-usize .before in
+    let start = at-u16-to-usize .before .before .before .before .before .before .before .before .before .before .before in
+    sym (length-take-le (at-u16-to-usize .u16-to-usize .result) (start .args .symbols .now) (omega (arith, (fits (start .args .numbers) (start .args .degrees .now) (start .args .columns .now) (start .args .weights .now) (start .pre .coded) (at-u16-to-usize .u16-to-usize .result) (at-u8-to-usize .u8-to-usize .result) (at-u16-to-usize .u16-to-usize .ensures .0) (at-u8-to-usize .u8-to-usize .ensures .0) (start .args .frame .now) (start .args .symbols .now) (start .args .costs .now) (start .args .store .now) (start .args .margins .now) (at-fault .fault .result) (at-fault .fault .ensures) (at-if1 .if1 .left)))))
 
 slice-relend-prefix-iterated-2 : tie.Need-slice-relend-prefix-iterated-2
 slice-relend-prefix-iterated-2 c =
     let at-if1 = c .before .before .before .before .before .before in
     let at-fault = at-if1 .before in
-    let at-index = at-fault .before .before .before .before .before .before in
-    let at-long = at-index .before in
-    let start = at-long .before .before .before .before .before .before .before .before .before .before .before in
-    omega (arith, (fits (start .args .numbers) (start .args .degrees .now) (start .args .columns .now) (start .args .weights .now) (start .pre .coded) (at-long .long .result) (at-index .index .result) (at-long .long .ensures .0) (at-index .index .ensures .0) (start .args .frame .now) (start .args .symbols .now) (start .args .costs .now) (start .args .store .now) (start .args .margins .now) (at-fault .fault .result) (at-fault .fault .ensures) (at-if1 .if1 .left)))
+    let at-u8-to-usize = at-fault .before .before .before .before .before .before in
+    let at-u16-to-usize = at-u8-to-usize .before in
+    let start = at-u16-to-usize .before .before .before .before .before .before .before .before .before .before .before in
+    omega (arith, (fits (start .args .numbers) (start .args .degrees .now) (start .args .columns .now) (start .args .weights .now) (start .pre .coded) (at-u16-to-usize .u16-to-usize .result) (at-u8-to-usize .u8-to-usize .result) (at-u16-to-usize .u16-to-usize .ensures .0) (at-u8-to-usize .u8-to-usize .ensures .0) (start .args .frame .now) (start .args .symbols .now) (start .args .costs .now) (start .args .store .now) (start .args .margins .now) (at-fault .fault .result) (at-fault .fault .ensures) (at-if1 .if1 .left)))
 
 slice-aggregate-iterated-2 : tie.Need-slice-aggregate-iterated-2
 slice-aggregate-iterated-2 c =
     let at-if1 = c .before .before .before .before .before .before .before in
     let at-fault = at-if1 .before in
-    let at-index = at-fault .before .before .before .before .before .before in
-    let at-long = at-index .before in
-    let start = at-long .before .before .before .before .before .before .before .before .before .before .before in
-    sym (length-take-le (length (start .args .frame .now)) (start .args .costs .now) (omega (arith, (fits (start .args .numbers) (start .args .degrees .now) (start .args .columns .now) (start .args .weights .now) (start .pre .coded) (at-long .long .result) (at-index .index .result) (at-long .long .ensures .0) (at-index .index .ensures .0) (start .args .frame .now) (start .args .symbols .now) (start .args .costs .now) (start .args .store .now) (start .args .margins .now) (at-fault .fault .result) (at-fault .fault .ensures) (at-if1 .if1 .left)))))
+    let at-u8-to-usize = at-fault .before .before .before .before .before .before in
+    let at-u16-to-usize = at-u8-to-usize .before in
+    let start = at-u16-to-usize .before .before .before .before .before .before .before .before .before .before .before in
+    sym (length-take-le (length (start .args .frame .now)) (start .args .costs .now) (omega (arith, (fits (start .args .numbers) (start .args .degrees .now) (start .args .columns .now) (start .args .weights .now) (start .pre .coded) (at-u16-to-usize .u16-to-usize .result) (at-u8-to-usize .u8-to-usize .result) (at-u16-to-usize .u16-to-usize .ensures .0) (at-u8-to-usize .u8-to-usize .ensures .0) (start .args .frame .now) (start .args .symbols .now) (start .args .costs .now) (start .args .store .now) (start .args .margins .now) (at-fault .fault .result) (at-fault .fault .ensures) (at-if1 .if1 .left)))))
 
 slice-relend-prefix-iterated-3 : tie.Need-slice-relend-prefix-iterated-3
 slice-relend-prefix-iterated-3 c =
     let at-if1 = c .before .before .before .before .before .before .before .before in
     let at-fault = at-if1 .before in
-    let at-index = at-fault .before .before .before .before .before .before in
-    let at-long = at-index .before in
-    let start = at-long .before .before .before .before .before .before .before .before .before .before .before in
-    omega (arith, (fits (start .args .numbers) (start .args .degrees .now) (start .args .columns .now) (start .args .weights .now) (start .pre .coded) (at-long .long .result) (at-index .index .result) (at-long .long .ensures .0) (at-index .index .ensures .0) (start .args .frame .now) (start .args .symbols .now) (start .args .costs .now) (start .args .store .now) (start .args .margins .now) (at-fault .fault .result) (at-fault .fault .ensures) (at-if1 .if1 .left)))
+    let at-u8-to-usize = at-fault .before .before .before .before .before .before in
+    let at-u16-to-usize = at-u8-to-usize .before in
+    let start = at-u16-to-usize .before .before .before .before .before .before .before .before .before .before .before in
+    omega (arith, (fits (start .args .numbers) (start .args .degrees .now) (start .args .columns .now) (start .args .weights .now) (start .pre .coded) (at-u16-to-usize .u16-to-usize .result) (at-u8-to-usize .u8-to-usize .result) (at-u16-to-usize .u16-to-usize .ensures .0) (at-u8-to-usize .u8-to-usize .ensures .0) (start .args .frame .now) (start .args .symbols .now) (start .args .costs .now) (start .args .store .now) (start .args .margins .now) (at-fault .fault .result) (at-fault .fault .ensures) (at-if1 .if1 .left)))
 
 slice-aggregate-iterated-3 : tie.Need-slice-aggregate-iterated-3
 slice-aggregate-iterated-3 c =
     let at-if1 = c .before .before .before .before .before .before .before .before .before in
     let at-fault = at-if1 .before in
-    let at-index = at-fault .before .before .before .before .before .before in
-    let at-long = at-index .before in
-    let start = at-long .before .before .before .before .before .before .before .before .before .before .before in
-    sym (length-take-le (at-long .long .result) (start .args .margins .now) (omega (arith, (fits (start .args .numbers) (start .args .degrees .now) (start .args .columns .now) (start .args .weights .now) (start .pre .coded) (at-long .long .result) (at-index .index .result) (at-long .long .ensures .0) (at-index .index .ensures .0) (start .args .frame .now) (start .args .symbols .now) (start .args .costs .now) (start .args .store .now) (start .args .margins .now) (at-fault .fault .result) (at-fault .fault .ensures) (at-if1 .if1 .left)))))
+    let at-u8-to-usize = at-fault .before .before .before .before .before .before in
+    let at-u16-to-usize = at-u8-to-usize .before in
+    let start = at-u16-to-usize .before .before .before .before .before .before .before .before .before .before .before in
+    sym (length-take-le (at-u16-to-usize .u16-to-usize .result) (start .args .margins .now) (omega (arith, (fits (start .args .numbers) (start .args .degrees .now) (start .args .columns .now) (start .args .weights .now) (start .pre .coded) (at-u16-to-usize .u16-to-usize .result) (at-u8-to-usize .u8-to-usize .result) (at-u16-to-usize .u16-to-usize .ensures .0) (at-u8-to-usize .u8-to-usize .ensures .0) (start .args .frame .now) (start .args .symbols .now) (start .args .costs .now) (start .args .store .now) (start .args .margins .now) (at-fault .fault .result) (at-fault .fault .ensures) (at-if1 .if1 .left)))))
 
 iterated-requires : tie.Need-iterated-requires
 iterated-requires c κs =
@@ -148,13 +148,13 @@ iterated-requires c κs =
     let at-fault2 = at-if2 .before in
     let at-if1 = at-fault2 .before .before .before .before in
     let at-fault = at-if1 .before in
-    let at-index = at-fault .before .before .before .before .before .before in
-    let at-long = at-index .before in
-    let start = at-long .before .before .before .before .before .before .before .before .before .before .before in
-    step-room (start .args .numbers) (start .args .degrees .now) (start .args .columns .now) (start .args .weights .now) (start .pre .coded) (at-long .long .result) (at-index .index .result) (at-long .long .ensures .0) (at-index .index .ensures .0) (start .args .frame .now) (start .args .symbols .now) (start .args .costs .now) (start .args .store .now) (start .args .margins .now) (at-fault .fault .result) (at-fault .fault .ensures) (at-if1 .if1 .left) (start .args .t) (at-fault2 .fault2 .result) (at-fault2 .fault2 .ensures) (at-if2 .if2 .left) (take (at-long .long .result) (start .args .symbols .now)) (take (at-long .long .result) (start .args .margins .now)) (start .args .arrived .now) (start .args .sent .now) (length-take-le (at-long .long .result) (start .args .symbols .now) (omega (arith, (fits (start .args .numbers) (start .args .degrees .now) (start .args .columns .now) (start .args .weights .now) (start .pre .coded) (at-long .long .result) (at-index .index .result) (at-long .long .ensures .0) (at-index .index .ensures .0) (start .args .frame .now) (start .args .symbols .now) (start .args .costs .now) (start .args .store .now) (start .args .margins .now) (at-fault .fault .result) (at-fault .fault .ensures) (at-if1 .if1 .left))))) (length-take-le (at-long .long .result) (start .args .margins .now) (omega (arith, (fits (start .args .numbers) (start .args .degrees .now) (start .args .columns .now) (start .args .weights .now) (start .pre .coded) (at-long .long .result) (at-index .index .result) (at-long .long .ensures .0) (at-index .index .ensures .0) (start .args .frame .now) (start .args .symbols .now) (start .args .costs .now) (start .args .store .now) (start .args .margins .now) (at-fault .fault .result) (at-fault .fault .ensures) (at-if1 .if1 .left))))) (start .pre .arrived) (start .pre .sent)
+    let at-u8-to-usize = at-fault .before .before .before .before .before .before in
+    let at-u16-to-usize = at-u8-to-usize .before in
+    let start = at-u16-to-usize .before .before .before .before .before .before .before .before .before .before .before in
+    step-room (start .args .numbers) (start .args .degrees .now) (start .args .columns .now) (start .args .weights .now) (start .pre .coded) (at-u16-to-usize .u16-to-usize .result) (at-u8-to-usize .u8-to-usize .result) (at-u16-to-usize .u16-to-usize .ensures .0) (at-u8-to-usize .u8-to-usize .ensures .0) (start .args .frame .now) (start .args .symbols .now) (start .args .costs .now) (start .args .store .now) (start .args .margins .now) (at-fault .fault .result) (at-fault .fault .ensures) (at-if1 .if1 .left) (start .args .t) (at-fault2 .fault2 .result) (at-fault2 .fault2 .ensures) (at-if2 .if2 .left) (take (at-u16-to-usize .u16-to-usize .result) (start .args .symbols .now)) (take (at-u16-to-usize .u16-to-usize .result) (start .args .margins .now)) (start .args .arrived .now) (start .args .sent .now) (length-take-le (at-u16-to-usize .u16-to-usize .result) (start .args .symbols .now) (omega (arith, (fits (start .args .numbers) (start .args .degrees .now) (start .args .columns .now) (start .args .weights .now) (start .pre .coded) (at-u16-to-usize .u16-to-usize .result) (at-u8-to-usize .u8-to-usize .result) (at-u16-to-usize .u16-to-usize .ensures .0) (at-u8-to-usize .u8-to-usize .ensures .0) (start .args .frame .now) (start .args .symbols .now) (start .args .costs .now) (start .args .store .now) (start .args .margins .now) (at-fault .fault .result) (at-fault .fault .ensures) (at-if1 .if1 .left))))) (length-take-le (at-u16-to-usize .u16-to-usize .result) (start .args .margins .now) (omega (arith, (fits (start .args .numbers) (start .args .degrees .now) (start .args .columns .now) (start .args .weights .now) (start .pre .coded) (at-u16-to-usize .u16-to-usize .result) (at-u8-to-usize .u8-to-usize .result) (at-u16-to-usize .u16-to-usize .ensures .0) (at-u8-to-usize .u8-to-usize .ensures .0) (start .args .frame .now) (start .args .symbols .now) (start .args .costs .now) (start .args .store .now) (start .args .margins .now) (at-fault .fault .result) (at-fault .fault .ensures) (at-if1 .if1 .left))))) (start .pre .arrived) (start .pre .sent)
 
-wide-requires : tie.Need-wide-requires
-wide-requires c κs = search needs
+u8-to-u16-requires : tie.Need-u8-to-u16-requires
+u8-to-u16-requires c κs = search needs
 
 add-stage-after : tie.Need-add-stage-after
 add-stage-after c = search needs
@@ -182,23 +182,23 @@ same-length-14 c = search needs
 
 returns-3 : tie.Need-returns-3
 returns-3 c =
-    let at-wide = c .before in
-    let at-iterated = at-wide .before .before .before .before .before .before .before .before .before .before .before .before .before in
+    let at-u8-to-u16 = c .before in
+    let at-iterated = at-u8-to-u16 .before .before .before .before .before .before .before .before .before .before .before .before .before in
     let at-if2 = at-iterated .before .before .before .before .before .before .before in
     let at-fault2 = at-if2 .before in
     let at-if1 = at-fault2 .before .before .before .before in
     let at-fault = at-if1 .before in
-    let at-index = at-fault .before .before .before .before .before .before in
-    let at-long = at-index .before in
-    let start = at-long .before .before .before .before .before .before .before .before .before .before .before in
-    step-leaves (start .args .numbers) (start .args .degrees .now) (start .args .columns .now) (start .args .weights .now) (start .pre .coded) (at-long .long .result) (at-index .index .result) (at-long .long .ensures .0) (at-index .index .ensures .0) (start .args .frame .now) (start .args .symbols .now) (start .args .costs .now) (start .args .store .now) (start .args .margins .now) (at-fault .fault .result) (at-fault .fault .ensures) (at-if1 .if1 .left) (start .args .t) (at-fault2 .fault2 .result) (at-fault2 .fault2 .ensures) (at-if2 .if2 .left) (at-iterated .iterated .result) _ _ _ _ (at-iterated .iterated .ensures .0) (at-iterated .iterated .ensures .1 .0) (at-iterated .iterated .ensures .1 .1 .0) (at-iterated .iterated .ensures .1 .1 .1) _ (rw (at-wide .wide .ensures .0) at (c .stage-after .ensures))
+    let at-u8-to-usize = at-fault .before .before .before .before .before .before in
+    let at-u16-to-usize = at-u8-to-usize .before in
+    let start = at-u16-to-usize .before .before .before .before .before .before .before .before .before .before .before in
+    step-leaves (start .args .numbers) (start .args .degrees .now) (start .args .columns .now) (start .args .weights .now) (start .pre .coded) (at-u16-to-usize .u16-to-usize .result) (at-u8-to-usize .u8-to-usize .result) (at-u16-to-usize .u16-to-usize .ensures .0) (at-u8-to-usize .u8-to-usize .ensures .0) (start .args .frame .now) (start .args .symbols .now) (start .args .costs .now) (start .args .store .now) (start .args .margins .now) (at-fault .fault .result) (at-fault .fault .ensures) (at-if1 .if1 .left) (start .args .t) (at-fault2 .fault2 .result) (at-fault2 .fault2 .ensures) (at-if2 .if2 .left) (at-iterated .iterated .result) _ _ _ _ (at-iterated .iterated .ensures .0) (at-iterated .iterated .ensures .1 .0) (at-iterated .iterated .ensures .1 .1 .0) (at-iterated .iterated .ensures .1 .1 .1) _ (rw (at-u8-to-u16 .u8-to-u16 .ensures .0) at (c .stage-after .ensures))
 
 pub step-under-spec : {M : Type 1} → statement M
 step-under-spec =
     tie.close
     (tie.spec
-    long-requires
-    index-requires
+    u16-to-usize-requires
+    u8-to-usize-requires
     slice-aggregate-fault
     fault-requires
     same-length
@@ -220,7 +220,7 @@ step-under-spec =
     slice-relend-prefix-iterated-3
     slice-aggregate-iterated-3
     iterated-requires
-    wide-requires
+    u8-to-u16-requires
     add-stage-after
     stage-after-requires
     same-length-9

@@ -12,11 +12,11 @@ returns c =
     let s = c .before .before .before in
     (λ x. keep-none (s .args .st .len) (s .args .st .code) (s .args .st .ended) (s .args .line .now) x (s .args .part .now) (c .if1 .taken), (refl, refl))
 
-sub-least : tie.Need-sub-least
-sub-least c = search needs
+sub-min-usize : tie.Need-sub-min-usize
+sub-min-usize c = search needs
 
-least-requires : tie.Need-least-requires
-least-requires c κs = search needs
+min-usize-requires : tie.Need-min-usize-requires
+min-usize-requires c κs = search needs
 
 add-e : tie.Need-add-e
 add-e c = search needs
@@ -42,15 +42,15 @@ same-length c = search needs
 returns-2 : tie.Need-returns-2
 returns-2 c =
     let s = c .before .before .before .before .before .before .before .before .before in
-    (λ x. keep-some (s .args .st .len) (s .args .st .code) _ (s .args .st .ended) (s .args .line .now) x (s .args .part .now) _ (c .before .before .before .before .before .least .ensures) (c .before .before .copy .ensures), (refl, refl))
+    (λ x. keep-some (s .args .st .len) (s .args .st .code) _ (s .args .st .ended) (s .args .line .now) x (s .args .part .now) _ (c .before .before .before .before .before .min-usize .ensures) (c .before .before .copy .ensures), (refl, refl))
 
 pub keep-spec : {M : Type 1} → statement M
 keep-spec =
     tie.close
     (tie.spec
     returns
-    sub-least
-    least-requires
+    sub-min-usize
+    min-usize-requires
     add-e
     slice-aggregate-copy
     sub-copy

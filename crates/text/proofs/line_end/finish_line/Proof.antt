@@ -9,8 +9,8 @@ use Rattle.text.proofs.Laws.{first-out, first-held, later-out, later-he
 use Rattle.text.proofs.line_end.finish_line.Statement.{statement}
 use Rattle.text.proofs.line_end.finish_line.Tie as tie
 
-least-requires : tie.Need-least-requires
-least-requires c κs = search needs
+min-usize-requires : tie.Need-min-usize-requires
+min-usize-requires c κs = search needs
 
 slice-aggregate-finish-code : tie.Need-slice-aggregate-finish-code
 slice-aggregate-finish-code c = simp length-take (omega arith)
@@ -19,7 +19,7 @@ finish-code-requires : tie.Need-finish-code-requires
 finish-code-requires c κs =
     let w = c .before .before .before .before in
     let s = w .before .before .before .before in
-    let e = first-out (s .args .st .len) (s .args .st .code) (s .args .st .ended) (s .args .line .now) (s .args .code .now) _ (w .least .ensures) (s .pre .0) (s .pre .1 .1 .0) (c .before .before .before .if1 .taken) in
+    let e = first-out (s .args .st .len) (s .args .st .code) (s .args .st .ended) (s .args .line .now) (s .args .code .now) _ (w .min-usize .ensures) (s .pre .0) (s .pre .1 .1 .0) (c .before .before .before .if1 .taken) in
     (s .pre .1 .0, rw e at (s .pre .1 .1 .1))
 
 same-length : tie.Need-same-length
@@ -34,13 +34,13 @@ returns c =
     let i = r .before .before .before .before in
     let w = i .before in
     let s = w .before .before .before .before in
-    let e = first-out (s .args .st .len) (s .args .st .code) (s .args .st .ended) (s .args .line .now) (s .args .code .now) _ (w .least .ensures) (s .pre .0) (s .pre .1 .1 .0) (i .if1 .taken) in (
-      first-held (s .args .st .len) (s .args .st .code) (s .args .st .ended) (s .args .line .now) (s .args .code .now) _ (w .least .ensures) (s .pre .0) (s .pre .1 .1 .0) (i .if1 .taken) _ _ _ _ (r .finish-code .ensures .0 .0) (r .finish-code .ensures .0 .1 .0) (r .finish-code .ensures .0 .1 .1) (r .finish-code .ensures .1 .1 .0),
+    let e = first-out (s .args .st .len) (s .args .st .code) (s .args .st .ended) (s .args .line .now) (s .args .code .now) _ (w .min-usize .ensures) (s .pre .0) (s .pre .1 .1 .0) (i .if1 .taken) in (
+      first-held (s .args .st .len) (s .args .st .code) (s .args .st .ended) (s .args .line .now) (s .args .code .now) _ (w .min-usize .ensures) (s .pre .0) (s .pre .1 .1 .0) (i .if1 .taken) _ _ _ _ (r .finish-code .ensures .0 .0) (r .finish-code .ensures .0 .1 .0) (r .finish-code .ensures .0 .1 .1) (r .finish-code .ensures .1 .1 .0),
       (r .finish-code .ensures .1 .0 ∙ ap (λ x. s .args .st .full + length x) (sym e), r .finish-code .ensures .1 .1 .1 ∙ ap (putAt (s .args .out .now) (s .args .st .full)) (sym e)),
     )
 
-least-requires-2 : tie.Need-least-requires-2
-least-requires-2 c κs = search needs
+min-usize-requires-2 : tie.Need-min-usize-requires-2
+min-usize-requires-2 c κs = search needs
 
 slice-reshare-prefix-print : tie.Need-slice-reshare-prefix-print
 slice-reshare-prefix-print c = search needs
@@ -56,7 +56,7 @@ print-requires c κs =
     let i = c .before .before .before .before in
     let w = i .before in
     let s = w .before .before .before .before in
-    let e = later-out (s .args .st .len) (s .args .st .code) (s .args .st .ended) (s .args .line .now) (s .args .code .now) _ (w .least .ensures) (s .pre .0) (s .pre .1 .1 .0) (i .if1 .left) _ (c .before .before .before .least2 .ensures) (s .pre .1 .0) in
+    let e = later-out (s .args .st .len) (s .args .st .code) (s .args .st .ended) (s .args .line .now) (s .args .code .now) _ (w .min-usize .ensures) (s .pre .0) (s .pre .1 .1 .0) (i .if1 .left) _ (c .before .before .before .min-usize2 .ensures) (s .pre .1 .0) in
     rw e at (s .pre .1 .1 .1)
 
 same-length-3 : tie.Need-same-length-3
@@ -71,8 +71,8 @@ returns-2 c =
     let i = r .before .before .before .before .before in
     let w = i .before in
     let s = w .before .before .before .before in
-    let e = later-out (s .args .st .len) (s .args .st .code) (s .args .st .ended) (s .args .line .now) (s .args .code .now) _ (w .least .ensures) (s .pre .0) (s .pre .1 .1 .0) (i .if1 .left) _ (r .before .before .before .before .least2 .ensures) (s .pre .1 .0) in (
-      later-held (s .args .st .len) (s .args .st .code) (s .args .st .ended) (s .args .line .now) (s .args .code .now) _ (w .least .ensures) (s .pre .0) (s .pre .1 .1 .0) (i .if1 .left),
+    let e = later-out (s .args .st .len) (s .args .st .code) (s .args .st .ended) (s .args .line .now) (s .args .code .now) _ (w .min-usize .ensures) (s .pre .0) (s .pre .1 .1 .0) (i .if1 .left) _ (r .before .before .before .before .min-usize2 .ensures) (s .pre .1 .0) in (
+      later-held (s .args .st .len) (s .args .st .code) (s .args .st .ended) (s .args .line .now) (s .args .code .now) _ (w .min-usize .ensures) (s .pre .0) (s .pre .1 .1 .0) (i .if1 .left),
       (r .print .ensures .0 ∙ ap (λ x. s .args .st .full + length x) (sym e), r .print .ensures .1 ∙ ap (putAt (s .args .out .now) (s .args .st .full)) (sym e)),
     )
 
@@ -80,13 +80,13 @@ pub finish-line-spec : {M : Type 1} → statement M
 finish-line-spec =
     tie.close
     (tie.spec
-    least-requires
+    min-usize-requires
     slice-aggregate-finish-code
     finish-code-requires
     same-length
     same-length-2
     returns
-    least-requires-2
+    min-usize-requires-2
     slice-reshare-prefix-print
     slice-aggregate-print
     slice-aggregate-print-2

@@ -8,8 +8,8 @@ use lib.ListN.{length, drop, getD}
 use Rattle.trellis.specs.Lists.{tab}
 use Rattle.trellis.proofs.Loops.{tab-more}
 use Rattle.machine.proofs.Lists.{copied}
-use Rattle.codeline.proofs.num.copy.Statement.{statement}
-use Rattle.codeline.proofs.num.copy.Tie as tie
+use Rattle.codeline.proofs.copies.copy_words.Statement.{statement}
+use Rattle.codeline.proofs.copies.copy_words.Tie as tie
 
 abbrev Inv-loop : tie.InvT-loop
 Inv-loop from to₀ i₀ to i = (i ≤ length from) × ((length to ≡ length to₀) × (to ≡ tab (λ (k : ℕ). getD from k 0) i ++ drop i to₀))
@@ -20,8 +20,14 @@ abbrev μ-loop : tie.MeasureT-loop
 loop-holds : tie.Need-loop-holds Inv-loop μ-loop
 loop-holds c = search needs
 
+mul-to : tie.Need-mul-to Inv-loop μ-loop
+mul-to c = search needs
+
 shared-slice-read-to : tie.Need-shared-slice-read-to Inv-loop μ-loop
 shared-slice-read-to c = search needs
+
+mul-to-2 : tie.Need-mul-to-2 Inv-loop μ-loop
+mul-to-2 c = search needs
 
 slice-write-to : tie.Need-slice-write-to Inv-loop μ-loop
 slice-write-to c = search needs
@@ -47,14 +53,16 @@ returns c =
     let s = l .before in
     copied (s .args .from .now) (s .args .to .now) (l .loop .to) (l .loop .i) (s .pre) (omega arith) (l .loop .inv .1 .1)
 
-pub copy-spec : {M : Type 1} → statement M
-copy-spec =
+pub copy-words-spec : {M : Type 1} → statement M
+copy-words-spec =
     tie.close
     (tie.spec
     Inv-loop
     μ-loop
     loop-holds
+    mul-to
     shared-slice-read-to
+    mul-to-2
     slice-write-to
     add-i
     loop-less

@@ -15,8 +15,26 @@ pub fn u8_to_u16(x: u8) -> u16
     x as u16
 }
 
+pub fn u16_to_usize(x: u16) -> usize
+    ensures { λ r. ⌜ (r ≡ x) × (r < 65536) ⌝ }
+{
+    x as usize
+}
+
 // The lesser of two.
 pub fn min_u8(x: u8, y: u8) -> u8
+    ensures { λ r. ⌜ r ≡ min x y ⌝ }
+{
+    if x < y { x } else { y }
+}
+
+pub fn min_u16(x: u16, y: u16) -> u16
+    ensures { λ r. ⌜ r ≡ min x y ⌝ }
+{
+    if x < y { x } else { y }
+}
+
+pub fn min_usize(x: usize, y: usize) -> usize
     ensures { λ r. ⌜ r ≡ min x y ⌝ }
 {
     if x < y { x } else { y }
@@ -33,6 +51,13 @@ pub fn max_usize(x: usize, y: usize) -> usize
     ensures { λ r. ⌜ r ≡ max x y ⌝ }
 {
     if x < y { y } else { x }
+}
+
+// A number capped at 255.
+pub fn cap_u8(x: u16) -> u8
+    ensures { λ r. ⌜ r ≡ min 255 x ⌝ }
+{
+    if x < 255 { x as u8 } else { 255 }
 }
 
 // One of two tests, or both.

@@ -6,8 +6,8 @@ use native.Mathlib.Omega.{arith}
 use borrow.Author.Needs.{needs}
 use lib.ListN.{length, take, drop}
 use Rattle.text.proofs.Laws.{copy-more, copy-end}
-use Rattle.text.proofs.num.copy.Statement.{statement}
-use Rattle.text.proofs.num.copy.Tie as tie
+use Rattle.text.proofs.copies.copy.Statement.{statement}
+use Rattle.text.proofs.copies.copy.Tie as tie
 
 abbrev Inv-loop : tie.InvT-loop
 Inv-loop from to₀ i₀ to i = (i ≤ length from) × ((length to ≡ length to₀) × (to ≡ take i from ++ drop i to₀))
