@@ -1,5 +1,5 @@
-// Runs the cases of document 01's bench table, with the degrees of document 02, through the public calls and prints what they answer, a line
-// each; the file stdout beside src/ holds what is expected.
+// Runs the cases of document 01's bench table, with the degrees of document 02, through the public calls and prints what they answer, a
+// line each; the file stdout beside src/ holds what is expected.
 use field::Element;
 use field::Written;
 use libc::STDOUT_FILENO;

@@ -95,7 +95,8 @@ refusing k b = record { number = k; spent = 0; answers = []; buffers = b }
 unfoldable pub roomFaultFor : Code → ℕ → Buffers → ℕ
 roomFaultFor C n b =
     faultBy
-    (roomTests (n * C .columns) (n * (C .columns * size C)) (n * used C) (length (b .symbols)) (length (b .costs)) (length (b .store)) (length (b .margins)))
+    (roomTests (n * C .columns) (n * (C .columns * size C)) (n * used C) (length (b .symbols)) (length (b .costs)) (length (b .store))
+    (length (b .margins)))
 
 -- "Then the code's, 12, 2, 3, 4 and 19 refuse the whole call"
 abbrev pub under : Read Code → ℕ → ℕ → List ℕ → Buffers → Results

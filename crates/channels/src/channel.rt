@@ -24,7 +24,8 @@ fn status_of(s: Stage) -> u8
     }
 }
 
-// "Only 13 is a channel's own: its parts of the buffers are unchanged"; else the frame becomes its costs and is tested. The store is untouched.
+// "Only 13 is a channel's own: its parts of the buffers are unchanged"; else the frame becomes its costs and is tested. The store is
+// untouched.
 pub fn load_at(
     c: usize,
     z: Layout,
@@ -37,7 +38,10 @@ pub fn load_at(
     margins: &mut [u16],
 ) -> u8
     requires { ⌜ LoadRoom c z (now degrees) (now columns) (now weights) (now frames) (now symbols) (now costs) (now margins) ⌝ }
-    ensures { λ r. ⌜ ((C : Code) → Shaped C z (now (degrees .entry)) (now (columns .entry)) (now (weights .entry)) → (store : List ℕ) → OnePart C c store → Puts C c (lending (now (symbols .entry)) (now (costs .entry)) store (now (margins .entry))) (loadAt C (now (frames .entry)) c (lending (now (symbols .entry)) (now (costs .entry)) store (now (margins .entry)))) r (lending (now (symbols .exit)) (now (costs .exit)) store (now (margins .exit)))) ⌝ }
+    ensures { λ r. ⌜ ((C : Code) → Shaped C z (now (degrees .entry)) (now (columns .entry)) (now (weights .entry)) → (store : List ℕ)
+        → OnePart C c store → Puts C c (lending (now (symbols .entry)) (now (costs .entry)) store (now (margins .entry)))
+        (loadAt C (now (frames .entry)) c (lending (now (symbols .entry)) (now (costs .entry)) store (now (margins .entry)))) r
+        (lending (now (symbols .exit)) (now (costs .exit)) store (now (margins .exit)))) ⌝ }
 {
     let a = c * z.columns;
     let b = a + z.columns;
@@ -75,8 +79,12 @@ pub fn step_at(
     arrived: &mut [u8],
     sent: &mut [u8],
 ) -> u8
-    requires { ⌜ StepRoom c t z (now degrees) (now columns) (now weights) (lending (now symbols) (now costs) (now store) (now margins)) (now arrived) (now sent) ⌝ }
-    ensures { λ r. ⌜ ((C : Code) → Shaped C z (now (degrees .entry)) (now (columns .entry)) (now (weights .entry)) → Puts C c (lending (now (symbols .entry)) (now (costs .entry)) (now (store .entry)) (now (margins .entry))) (stepAt C c t (lending (now (symbols .entry)) (now (costs .entry)) (now (store .entry)) (now (margins .entry)))) r (lending (now (symbols .exit)) (now (costs .exit)) (now (store .exit)) (now (margins .exit)))) ⌝ }
+    requires { ⌜ StepRoom c t z (now degrees) (now columns) (now weights) (lending (now symbols) (now costs) (now store) (now margins))
+        (now arrived) (now sent) ⌝ }
+    ensures { λ r. ⌜ ((C : Code) → Shaped C z (now (degrees .entry)) (now (columns .entry)) (now (weights .entry))
+        → Puts C c (lending (now (symbols .entry)) (now (costs .entry)) (now (store .entry)) (now (margins .entry)))
+        (stepAt C c t (lending (now (symbols .entry)) (now (costs .entry)) (now (store .entry)) (now (margins .entry)))) r
+        (lending (now (symbols .exit)) (now (costs .exit)) (now (store .exit)) (now (margins .exit)))) ⌝ }
 {
     let a = c * z.columns;
     let b = a + z.columns;

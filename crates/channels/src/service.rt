@@ -30,8 +30,13 @@ pub fn load_all(
     margins: &mut [u16],
     status: &mut [u8],
 )
-    requires { ⌜ LoadsRoom count z (now degrees) (now columns) (now weights) (now frames) (now symbols) (now costs) (now margins) (now status) ⌝ }
-    ensures { λ _. ⌜ ((C : Code) → Shaped C z (now (degrees .entry)) (now (columns .entry)) (now (weights .entry)) → (store counts : List ℕ) (left : ℕ) → AllParts C count store → standing (now (status .exit)) counts left (lending (now (symbols .exit)) (now (costs .exit)) store (now (margins .exit))) ≡ loadedTo C (now (frames .entry)) count (standing (now (status .entry)) counts left (lending (now (symbols .entry)) (now (costs .entry)) store (now (margins .entry))))) ⌝ }
+    requires { ⌜ LoadsRoom count z (now degrees) (now columns) (now weights) (now frames) (now symbols) (now costs) (now margins)
+        (now status) ⌝ }
+    ensures { λ _. ⌜ ((C : Code) → Shaped C z (now (degrees .entry)) (now (columns .entry)) (now (weights .entry))
+        → (store counts : List ℕ) (left : ℕ) → AllParts C count store
+        → standing (now (status .exit)) counts left (lending (now (symbols .exit)) (now (costs .exit)) store (now (margins .exit)))
+        ≡ loadedTo C (now (frames .entry)) count (standing (now (status .entry)) counts left
+        (lending (now (symbols .entry)) (now (costs .entry)) store (now (margins .entry))))) ⌝ }
 {
     let mut c = 0;
     while c < count {
@@ -67,8 +72,14 @@ fn serve_at(
     arrived: &mut [u8],
     sent: &mut [u8],
 ) -> u32
-    requires { ⌜ OneRoom c z (now degrees) (now columns) (now weights) (standing (now status) (now counts) left (lending (now symbols) (now costs) (now store) (now margins))) (now arrived) (now sent) ⌝ }
-    ensures { λ r. ⌜ ((C : Code) → Shaped C z (now (degrees .entry)) (now (columns .entry)) (now (weights .entry)) → standing (now (status .exit)) (now (counts .exit)) r (lending (now (symbols .exit)) (now (costs .exit)) (now (store .exit)) (now (margins .exit))) ≡ servingAt C c (standing (now (status .entry)) (now (counts .entry)) left (lending (now (symbols .entry)) (now (costs .entry)) (now (store .entry)) (now (margins .entry))))) ⌝ }
+    requires { ⌜ OneRoom c z (now degrees) (now columns) (now weights)
+        (standing (now status) (now counts) left (lending (now symbols) (now costs) (now store) (now margins))) (now arrived)
+        (now sent) ⌝ }
+    ensures { λ r. ⌜ ((C : Code) → Shaped C z (now (degrees .entry)) (now (columns .entry)) (now (weights .entry))
+        → standing (now (status .exit)) (now (counts .exit)) r
+        (lending (now (symbols .exit)) (now (costs .exit)) (now (store .exit)) (now (margins .exit)))
+        ≡ servingAt C c (standing (now (status .entry)) (now (counts .entry)) left
+        (lending (now (symbols .entry)) (now (costs .entry)) (now (store .entry)) (now (margins .entry))))) ⌝ }
 {
     if status[c] != 20 {
         return left;
@@ -112,8 +123,14 @@ fn round(
     arrived: &mut [u8],
     sent: &mut [u8],
 ) -> u32
-    requires { ⌜ ServeRoom count z (now degrees) (now columns) (now weights) (standing (now status) (now counts) left (lending (now symbols) (now costs) (now store) (now margins))) (now arrived) (now sent) ⌝ }
-    ensures { λ r. ⌜ ((C : Code) → Shaped C z (now (degrees .entry)) (now (columns .entry)) (now (weights .entry)) → standing (now (status .exit)) (now (counts .exit)) r (lending (now (symbols .exit)) (now (costs .exit)) (now (store .exit)) (now (margins .exit))) ≡ roundAt C count (standing (now (status .entry)) (now (counts .entry)) left (lending (now (symbols .entry)) (now (costs .entry)) (now (store .entry)) (now (margins .entry))))) ⌝ }
+    requires { ⌜ ServeRoom count z (now degrees) (now columns) (now weights)
+        (standing (now status) (now counts) left (lending (now symbols) (now costs) (now store) (now margins))) (now arrived)
+        (now sent) ⌝ }
+    ensures { λ r. ⌜ ((C : Code) → Shaped C z (now (degrees .entry)) (now (columns .entry)) (now (weights .entry))
+        → standing (now (status .exit)) (now (counts .exit)) r
+        (lending (now (symbols .exit)) (now (costs .exit)) (now (store .exit)) (now (margins .exit)))
+        ≡ roundAt C count (standing (now (status .entry)) (now (counts .entry)) left
+        (lending (now (symbols .entry)) (now (costs .entry)) (now (store .entry)) (now (margins .entry))))) ⌝ }
 {
     let mut a = left;
     let mut c = 0;
@@ -156,8 +173,14 @@ pub fn serve(
     arrived: &mut [u8],
     sent: &mut [u8],
 ) -> u32
-    requires { ⌜ ServeRoom count z (now degrees) (now columns) (now weights) (standing (now status) (now counts) allowance (lending (now symbols) (now costs) (now store) (now margins))) (now arrived) (now sent) ⌝ }
-    ensures { λ r. ⌜ ((C : Code) → Shaped C z (now (degrees .entry)) (now (columns .entry)) (now (weights .entry)) → standing (now (status .exit)) (now (counts .exit)) r (lending (now (symbols .exit)) (now (costs .exit)) (now (store .exit)) (now (margins .exit))) ≡ roundsAt C count allowance (standing (now (status .entry)) (now (counts .entry)) allowance (lending (now (symbols .entry)) (now (costs .entry)) (now (store .entry)) (now (margins .entry))))) ⌝ }
+    requires { ⌜ ServeRoom count z (now degrees) (now columns) (now weights)
+        (standing (now status) (now counts) allowance (lending (now symbols) (now costs) (now store) (now margins))) (now arrived)
+        (now sent) ⌝ }
+    ensures { λ r. ⌜ ((C : Code) → Shaped C z (now (degrees .entry)) (now (columns .entry)) (now (weights .entry))
+        → standing (now (status .exit)) (now (counts .exit)) r
+        (lending (now (symbols .exit)) (now (costs .exit)) (now (store .exit)) (now (margins .exit)))
+        ≡ roundsAt C count allowance (standing (now (status .entry)) (now (counts .entry)) allowance
+        (lending (now (symbols .entry)) (now (costs .entry)) (now (store .entry)) (now (margins .entry))))) ⌝ }
 {
     let mut a = allowance;
     loop {

@@ -104,7 +104,11 @@ fn under_code(
     sent: &mut [u8],
 ) -> Served
     requires { ⌜ UnderRoom count allowance z (now degrees) (now columns) (now weights) (now arrived) (now sent) ⌝ }
-    ensures { λ r. ⌜ ((code : List ℕ) (C : Code) → parse code ≡ good C → Shaped C z (now (degrees .entry)) (now (columns .entry)) (now (weights .entry)) → Gives (channels count allowance code (now (frames .entry)) (lending (now (symbols .entry)) (now (costs .entry)) (now (store .entry)) (now (margins .entry)))) (r .number) (r .spent) (r .status) (r .iterations) (lending (now (symbols .exit)) (now (costs .exit)) (now (store .exit)) (now (margins .exit)))) ⌝ }
+    ensures { λ r. ⌜ ((code : List ℕ) (C : Code) → parse code ≡ good C
+        → Shaped C z (now (degrees .entry)) (now (columns .entry)) (now (weights .entry))
+        → Gives (channels count allowance code (now (frames .entry))
+        (lending (now (symbols .entry)) (now (costs .entry)) (now (store .entry)) (now (margins .entry)))) (r .number) (r .spent)
+        (r .status) (r .iterations) (lending (now (symbols .exit)) (now (costs .exit)) (now (store .exit)) (now (margins .exit)))) ⌝ }
 {
     let k = fault(
         count,
@@ -172,7 +176,9 @@ pub fn decode_in(
     arrived: &mut [u8; 2048],
     sent: &mut [u8; 2048],
 ) -> Served
-    ensures { λ r. ⌜ Gives (channels count allowance (now (code .entry)) (now (frames .entry)) (lending (now (symbols .entry)) (now (costs .entry)) (now (store .entry)) (now (margins .entry)))) (r .number) (r .spent) (r .status) (r .iterations) (lending (now (symbols .exit)) (now (costs .exit)) (now (store .exit)) (now (margins .exit))) ⌝ }
+    ensures { λ r. ⌜ Gives (channels count allowance (now (code .entry)) (now (frames .entry))
+        (lending (now (symbols .entry)) (now (costs .entry)) (now (store .entry)) (now (margins .entry)))) (r .number) (r .spent)
+        (r .status) (r .iterations) (lending (now (symbols .exit)) (now (costs .exit)) (now (store .exit)) (now (margins .exit))) ⌝ }
 {
     let k = count_fault(count, allowance);
     if k != 0 {

@@ -18,8 +18,8 @@ abbrev pub headerNumbers : Header → Read Numbers
 headerNumbers (HeaderRead k) = good (numbersIn k)
 headerNumbers (HeaderRefused k) = bad k
 
--- what a code line says to whoever lends the buffers: 0 or the number of its refusal, its numbers, and "as many bytes as the M record lengths add
--- up to"
+-- what a code line says to whoever lends the buffers: 0 or the number of its refusal, its numbers, and "as many bytes as the M record
+-- lengths add up to"
 pub record Told : Type 0 where
   pub number : ℕ
   pub first : ℕ
@@ -35,7 +35,15 @@ refusedBy k = record { number = k; first = 0; columns = 0; checks = 0; scale = 0
 abbrev pub summaryOf : Read Code → Told
 summaryOf (bad k) = refusedBy k
 summaryOf (good C) =
-    record { number = 0; first = C .first; columns = C .columns; checks = length (C .checks); scale = C .scale; limit = C .limit; store = used C }
+    record {
+      number = 0;
+      first = C .first;
+      columns = C .columns;
+      checks = length (C .checks);
+      scale = C .scale;
+      limit = C .limit;
+      store = used C;
+    }
 
 -- the struct's fields are these
 pub record Tells (t : Told) (s : Summary) : Type 0 where

@@ -67,7 +67,8 @@ fn edges_at(
     from: usize,
 ) -> Edges
     requires { ⌜ (at + 3 * count ≤ length (now code)) × ((from + count ≤ length (now columns)) × (from + count ≤ length (now weights))) ⌝ }
-    ensures { λ r. ⌜ edgesRead r (take (from + count) (now (columns .exit))) (take (from + count) (now (weights .exit))) ≡ edgesInto count (now (code .entry)) at n q 0 (take from (now (columns .entry))) (take from (now (weights .entry))) ⌝ }
+    ensures { λ r. ⌜ edgesRead r (take (from + count) (now (columns .exit))) (take (from + count) (now (weights .exit)))
+        ≡ edgesInto count (now (code .entry)) at n q 0 (take from (now (columns .entry))) (take from (now (weights .entry))) ⌝ }
     ensures { λ r. ⌜ EdgesEnd r at count ⌝ }
 {
     let mut i = 0;
@@ -101,7 +102,8 @@ fn check_at(
     total: usize,
 ) -> Check
     requires { ⌜ (1024 ≤ length (now columns)) × (1024 ≤ length (now weights)) ⌝ }
-    ensures { λ r. ⌜ checkRead r total (now (columns .exit)) (now (weights .exit)) ≡ checkInto (now (code .entry)) at n q total (take total (now (columns .entry))) (take total (now (weights .entry))) ⌝ }
+    ensures { λ r. ⌜ checkRead r total (now (columns .exit)) (now (weights .exit))
+        ≡ checkInto (now (code .entry)) at n q total (take total (now (columns .entry))) (take total (now (weights .entry))) ⌝ }
     ensures { λ r. ⌜ CheckFits r (now (code .entry)) at total ⌝ }
 {
     if reader::left_at(code, at) == 0 {
@@ -138,8 +140,10 @@ pub fn checks_at(
     columns: &mut [u16],
     weights: &mut [u8],
 ) -> Checks
-    requires { ⌜ (at ≤ length (now code)) × ((count ≤ length (now degrees)) × ((1024 ≤ length (now columns)) × (1024 ≤ length (now weights)))) ⌝ }
-    ensures { λ r. ⌜ checksRead r count (now (degrees .exit)) (now (columns .exit)) (now (weights .exit)) ≡ checksInto count (now (code .entry)) at n q 0 [] [] [] ⌝ }
+    requires { ⌜ (at ≤ length (now code)) × ((count ≤ length (now degrees))
+        × ((1024 ≤ length (now columns)) × (1024 ≤ length (now weights)))) ⌝ }
+    ensures { λ r. ⌜ checksRead r count (now (degrees .exit)) (now (columns .exit)) (now (weights .exit))
+        ≡ checksInto count (now (code .entry)) at n q 0 [] [] [] ⌝ }
     ensures { λ r. ⌜ ChecksFit r ⌝ }
 {
     let mut i = 0;

@@ -42,8 +42,9 @@ pub fn describe(code: &[u8]) -> Summary
     }
 }
 
-// The same for whoever goes on with the checks: the degrees, and all columns and weights end to end, in tables that have room for the largest
-// code. A line may be refused at its end, so it is read into tables of the call's own, and these are handed over where it is accepted.
+// The same for whoever goes on with the checks: the degrees, and all columns and weights end to end, in tables that have room for the
+// largest code. A line may be refused at its end, so it is read into tables of the call's own, and these are handed over where it is
+// accepted.
 pub fn code_tables(
     code: &[u8],
     degrees: &mut [u8; 128],

@@ -27,7 +27,8 @@ pub fn read(code: &[u8], degrees: &mut [u8], columns: &mut [u16], weights: &mut 
     requires { ⌜ (length (now degrees) ≡ 128) × ((length (now columns) ≡ 1024) × (length (now weights) ≡ 1024)) ⌝ }
     ensures { λ r. ⌜ headerNumbers (r .header) ≡ numbersOf (parse (now (code .entry))) ⌝ }
     ensures { λ r. ⌜ CountFits (r .header) (r .edges) ⌝ }
-    ensures { λ r. ⌜ ((C : Code) → parse (now (code .entry)) ≡ good C → Filled C (now (degrees .exit)) (now (columns .exit)) (now (weights .exit)) (r .edges)) ⌝ }
+    ensures { λ r. ⌜ ((C : Code) → parse (now (code .entry)) ≡ good C
+        → Filled C (now (degrees .exit)) (now (columns .exit)) (now (weights .exit)) (r .edges)) ⌝ }
 {
     let f = head::head(code);
     let h = f.header;

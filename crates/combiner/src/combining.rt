@@ -33,8 +33,10 @@ fn fault(byte: u8, n: usize, first: &[u8], second: &[u8], room: usize) -> u8
 // Nothing is written before the last refusal has been tested.
 pub fn under_code(byte: u8, n: usize, first: &[u8], second: &[u8], out: &mut [u8]) -> Written
     requires { ⌜ (firstOk byte ≡ true) × (n ≤ 256) ⌝ }
-    ensures { λ r. ⌜ writtenReply r ≡ combiningUnder (good (headed byte n)) (now (first .entry)) (now (second .entry)) (now (out .entry)) .reply ⌝ }
-    ensures { λ _. ⌜ now (out .exit) ≡ combiningUnder (good (headed byte n)) (now (first .entry)) (now (second .entry)) (now (out .entry)) .out ⌝ }
+    ensures { λ r. ⌜ writtenReply r
+        ≡ combiningUnder (good (headed byte n)) (now (first .entry)) (now (second .entry)) (now (out .entry)) .reply ⌝ }
+    ensures { λ _. ⌜ now (out .exit)
+        ≡ combiningUnder (good (headed byte n)) (now (first .entry)) (now (second .entry)) (now (out .entry)) .out ⌝ }
 {
     let k = fault(byte, n, first, second, out.len());
     if k != 0 {

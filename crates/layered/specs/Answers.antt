@@ -6,7 +6,8 @@ use Rattle.layered.specs.declared.answers.Outcome.the-variants.{Found, N
 use Rattle.layered.specs.declared.answers.Answer.{Answer}
 use Rattle.layered.specs.declared.answers.Answer.the-variants.{Decoded, Refused}
 use Rattle.layered.specs.declared.answers.Stage.{Stage}
-use Rattle.layered.specs.declared.answers.Stage.the-variants.{Running, Found as StageFound, NotFound as StageNotFound, Refused as StageRefused}
+use Rattle.layered.specs.declared.answers.Stage.the-variants.{Running, Found as StageFound, NotFound as StageNotFound}
+use Rattle.layered.specs.declared.answers.Stage.the-variants.{Refused as StageRefused}
 use Rattle.layered.specs.declared.answers.Stopped.the-variants.{Found as FoundEarly, NotFound as NotFoundEarly}
 use Rattle.layered.specs.declared.answers.EarlyAnswer.{EarlyAnswer}
 use Rattle.layered.specs.declared.answers.EarlyAnswer.the-variants.{Decoded as DecodedEarly, Refused as RefusedEarly}

@@ -33,7 +33,9 @@ fn least_raised(costs: &[u16], old: &[u8], g: u16) -> u16
 
 // Q of one column: "subtract the old record's scaled cost .., subtract the least over x, and cap at 255".
 fn incoming_column(costs: &[u16], old: &[u8], g: u16, out: &mut [u8])
-    requires { ⌜ (length (now old) ≡ length (now costs)) × ((length (now out) ≡ length (now costs)) × (Below 510 (now costs) × ((g ≤ 16) × (0 < length (now costs))))) ⌝ }
+    requires { ⌜ (length (now old)
+        ≡ length (now costs)) × ((length (now out) ≡ length (now costs))
+        × (Below 510 (now costs) × ((g ≤ 16) × (0 < length (now costs))))) ⌝ }
     ensures { λ _. ⌜ now (out .exit) ≡ incoming (length (now (costs .entry))) (now (costs .entry)) (map (scaled g) (now (old .entry))) ⌝ }
 {
     let least = least_raised(costs, old, g);
@@ -48,7 +50,8 @@ fn incoming_column(costs: &[u16], old: &[u8], g: u16, out: &mut [u8])
 // Q of every column of a check, end to end.
 pub fn gather(costs: &[u16], cols: &[u16], old: &[u8], g: u16, q: usize, out: &mut [u8])
     requires { ⌜ GatherRoom (now costs) (now cols) (now old) g q (now out) ⌝ }
-    ensures { λ _. ⌜ now (out .exit) ≡ gathered (now (costs .entry)) (now (cols .entry)) (now (old .entry)) g q (length (now (cols .entry))) (now (out .entry)) ⌝ }
+    ensures { λ _. ⌜ now (out .exit)
+        ≡ gathered (now (costs .entry)) (now (cols .entry)) (now (old .entry)) g q (length (now (cols .entry))) (now (out .entry)) ⌝ }
 {
     let mut k = 0;
     while k < cols.len() {
@@ -102,7 +105,8 @@ fn outgoing_column(qs: &[u8], new: &[u8], g: u16, costs: &mut [u16])
 // The new P of every column of a check.
 pub fn scatter(qs: &[u8], new: &[u8], cols: &[u16], g: u16, q: usize, costs: &mut [u16])
     requires { ⌜ ScatterRoom (now qs) (now new) (now cols) g q (now costs) ⌝ }
-    ensures { λ _. ⌜ now (costs .exit) ≡ scattered (now (qs .entry)) (now (new .entry)) (now (cols .entry)) g q (length (now (cols .entry))) (now (costs .entry)) ⌝ }
+    ensures { λ _. ⌜ now (costs .exit)
+        ≡ scattered (now (qs .entry)) (now (new .entry)) (now (cols .entry)) g q (length (now (cols .entry))) (now (costs .entry)) ⌝ }
 {
     let mut k = 0;
     while k < cols.len() {

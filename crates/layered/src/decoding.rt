@@ -80,7 +80,9 @@ pub fn decode_in(
     arrived: &mut [u8; 2048],
     sent: &mut [u8; 2048],
 ) -> Counted
-    ensures { λ r. ⌜ Decodes (now (code .entry)) (now (frame .entry)) (lending (now (symbols .entry)) (now (costs .entry)) (now (store .entry)) (now (margins .entry))) (answerReply (r .answer)) (lending (now (symbols .exit)) (now (costs .exit)) (now (store .exit)) (now (margins .exit))) ⌝ }
+    ensures { λ r. ⌜ Decodes (now (code .entry)) (now (frame .entry))
+        (lending (now (symbols .entry)) (now (costs .entry)) (now (store .entry)) (now (margins .entry))) (answerReply (r .answer))
+        (lending (now (symbols .exit)) (now (costs .exit)) (now (store .exit)) (now (margins .exit))) ⌝ }
     ensures { λ r. ⌜ (r .columns ≡ columnsRead (numbersOf (parse (now (code .entry))))) × (r .columns ≤ 256) ⌝ }
 {
     match codeline::code_tables(code, degrees, columns, weights) {

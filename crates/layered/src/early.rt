@@ -1,5 +1,5 @@
-// Stopping inside an iteration: the checks are updated one after the other, and after each update its columns are decided again and the test is
-// made where a symbol changed, from a check on that was not satisfied at the last test.
+// Stopping inside an iteration: the checks are updated one after the other, and after each update its columns are decided again and the
+// test is made where a symbol changed, from a check on that was not satisfied at the last test.
 use crate::answers::Stopped;
 use crate::parity;
 use crate::parity::CheckAt;
@@ -39,7 +39,8 @@ fn decide_at(costs: &[u16], q: usize, c: usize, symbols: &mut [u8]) -> usize
 // Decides a check's columns again; how many symbols are others now.
 fn decide_again(costs: &[u16], q: usize, columns: &[u16], symbols: &mut [u8]) -> usize
     requires { ⌜ AgainRoom q (now costs) (now columns) (now symbols) ⌝ }
-    ensures { λ _. ⌜ now (symbols .exit) ≡ decidedAgain q (now (costs .entry)) (now (columns .entry)) (length (now (columns .entry))) (now (symbols .entry)) ⌝ }
+    ensures { λ _. ⌜ now (symbols .exit)
+        ≡ decidedAgain q (now (costs .entry)) (now (columns .entry)) (length (now (columns .entry))) (now (symbols .entry)) ⌝ }
     ensures { λ r. ⌜ (r ≡ 0 → now (symbols .exit) ≡ now (symbols .entry)) ⌝ }
 {
     let mut changed = 0;
@@ -52,8 +53,8 @@ fn decide_again(costs: &[u16], q: usize, columns: &[u16], symbols: &mut [u8]) ->
     changed
 }
 
-// The test from a check on that the symbols did not satisfy before: a check that they do not satisfy, found behind it or else before it; the number
-// of checks where there is none.
+// The test from a check on that the symbols did not satisfy before: a check that they do not satisfy, found behind it or else before it;
+// the number of checks where there is none.
 fn unsatisfied_from(
     numbers: Numbers,
     from: CheckAt,
@@ -88,8 +89,8 @@ fn unsatisfied_from(
     behind
 }
 
-// The decisions after an update of the check that stands here, and a check that they do not satisfy, or the number of checks. They did not satisfy `from`
-// before it, and its columns alone have other costs now: where none of their symbols changed they still do not.
+// The decisions after an update of the check that stands here, and a check that they do not satisfy, or the number of checks. They did
+// not satisfy `from` before it, and its columns alone have other costs now: where none of their symbols changed they still do not.
 fn tested_again(
     numbers: Numbers,
     here: Place,

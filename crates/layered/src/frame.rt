@@ -96,7 +96,8 @@ pub fn fault(
     margins: &[u16],
 ) -> u8
     requires { ⌜ (firstOk first ≡ true) × ((n ≤ 256) × (length (now degrees) ≤ 128)) ⌝ }
-    ensures { λ r. ⌜ r ≡ faultOf first n (now (degrees .entry)) (now (frame .entry)) (length (now (symbols .entry))) (length (now (costs .entry))) (length (now (store .entry))) (length (now (margins .entry))) ⌝ }
+    ensures { λ r. ⌜ r ≡ faultOf first n (now (degrees .entry)) (now (frame .entry)) (length (now (symbols .entry)))
+        (length (now (costs .entry))) (length (now (store .entry))) (length (now (margins .entry))) ⌝ }
 {
     let k = frame_fault(first, n, frame);
     if k != 0 {

@@ -24,9 +24,9 @@ ghost use Rattle.machine.specs.Early.{DecodesEarly};
 ghost use Rattle.machine.specs.Moments.{Moves, loading, iterating};
 ghost use Rattle.layered.specs.Answers.{answerReply, earlyReply, stageOf};
 
-// Decodes a frame of N times q costs under a code line: found or not found with the iterations made, the decisions in `symbols`, the costs P
-// in `costs`, the records in `store`, the decisions' margins in `margins`. Refused: the code line's 5 to 11; 12, cost count; 13, a column
-// without a cost of 0; 2, 3, 4, 19, symbol buffer, cost buffer, store, margin buffer too short.
+// Decodes a frame of N times q costs under a code line: found or not found with the iterations made, the decisions in `symbols`, the
+// costs P in `costs`, the records in `store`, the decisions' margins in `margins`. Refused: the code line's 5 to 11; 12, cost count; 13,
+// a column without a cost of 0; 2, 3, 4, 19, symbol buffer, cost buffer, store, margin buffer too short.
 pub fn decode(
     code: &[u8],
     frame: &[u8],
@@ -35,7 +35,9 @@ pub fn decode(
     store: &mut [u8],
     margins: &mut [u16],
 ) -> Answer
-    ensures { λ r. ⌜ Decodes (now (code .entry)) (now (frame .entry)) (lending (now (symbols .entry)) (now (costs .entry)) (now (store .entry)) (now (margins .entry))) (answerReply r) (lending (now (symbols .exit)) (now (costs .exit)) (now (store .exit)) (now (margins .exit))) ⌝ }
+    ensures { λ r. ⌜ Decodes (now (code .entry)) (now (frame .entry))
+        (lending (now (symbols .entry)) (now (costs .entry)) (now (store .entry)) (now (margins .entry))) (answerReply r)
+        (lending (now (symbols .exit)) (now (costs .exit)) (now (store .exit)) (now (margins .exit))) ⌝ }
 {
     decode_counted(code, frame, symbols, costs, store, margins).answer
 }
@@ -49,7 +51,9 @@ pub fn decode_counted(
     store: &mut [u8],
     margins: &mut [u16],
 ) -> Counted
-    ensures { λ r. ⌜ Decodes (now (code .entry)) (now (frame .entry)) (lending (now (symbols .entry)) (now (costs .entry)) (now (store .entry)) (now (margins .entry))) (answerReply (r .answer)) (lending (now (symbols .exit)) (now (costs .exit)) (now (store .exit)) (now (margins .exit))) ⌝ }
+    ensures { λ r. ⌜ Decodes (now (code .entry)) (now (frame .entry))
+        (lending (now (symbols .entry)) (now (costs .entry)) (now (store .entry)) (now (margins .entry))) (answerReply (r .answer))
+        (lending (now (symbols .exit)) (now (costs .exit)) (now (store .exit)) (now (margins .exit))) ⌝ }
     ensures { λ r. ⌜ (r .columns ≡ columnsRead (numbersOf (parse (now (code .entry))))) × (r .columns ≤ 256) ⌝ }
 {
     let mut degrees = [0u8; 128];
@@ -72,9 +76,9 @@ pub fn decode_counted(
     )
 }
 
-// Decodes a frame as decode does, but stops "as soon as the decisions satisfy all checks, tested at the start and after each check update": found or
-// not found with the check updates made. Symbols, margins, costs and the records of updated checks are those of that moment; checks not yet updated keep
-// the old bytes of their place in the store. Refuses as decode does.
+// Decodes a frame as decode does, but stops "as soon as the decisions satisfy all checks, tested at the start and after each check
+// update": found or not found with the check updates made. Symbols, margins, costs and the records of updated checks are those of that
+// moment; checks not yet updated keep the old bytes of their place in the store. Refuses as decode does.
 pub fn decode_early(
     code: &[u8],
     frame: &[u8],
@@ -83,7 +87,9 @@ pub fn decode_early(
     store: &mut [u8],
     margins: &mut [u16],
 ) -> EarlyAnswer
-    ensures { λ r. ⌜ DecodesEarly (now (code .entry)) (now (frame .entry)) (lending (now (symbols .entry)) (now (costs .entry)) (now (store .entry)) (now (margins .entry))) (earlyReply r) (lending (now (symbols .exit)) (now (costs .exit)) (now (store .exit)) (now (margins .exit))) ⌝ }
+    ensures { λ r. ⌜ DecodesEarly (now (code .entry)) (now (frame .entry))
+        (lending (now (symbols .entry)) (now (costs .entry)) (now (store .entry)) (now (margins .entry))) (earlyReply r)
+        (lending (now (symbols .exit)) (now (costs .exit)) (now (store .exit)) (now (margins .exit))) ⌝ }
 {
     let mut degrees = [0u8; 128];
     let mut columns = [0u16; 1024];
@@ -115,7 +121,9 @@ pub fn load(
     store: &[u8],
     margins: &mut [u16],
 ) -> Stage
-    ensures { λ r. ⌜ Moves (loading (now (code .entry)) (now (frame .entry)) (lending (now (symbols .entry)) (now (costs .entry)) (now (store .entry)) (now (margins .entry)))) (stageOf r) (lending (now (symbols .exit)) (now (costs .exit)) (now (store .entry)) (now (margins .exit))) ⌝ }
+    ensures { λ r. ⌜ Moves (loading (now (code .entry)) (now (frame .entry))
+        (lending (now (symbols .entry)) (now (costs .entry)) (now (store .entry)) (now (margins .entry)))) (stageOf r)
+        (lending (now (symbols .exit)) (now (costs .exit)) (now (store .entry)) (now (margins .exit))) ⌝ }
 {
     let mut degrees = [0u8; 128];
     let mut columns = [0u16; 1024];
@@ -133,8 +141,8 @@ pub fn load(
     )
 }
 
-// One iteration after t of them, which goes on from the lent costs and records, whoever wrote them. Refused: as decode, then 13, a cost above
-// 510 or a column without a 0 in the cost buffer, then, if t is not 0, 16, a stored record that is not of accepted form.
+// One iteration after t of them, which goes on from the lent costs and records, whoever wrote them. Refused: as decode, then 13, a cost
+// above 510 or a column without a 0 in the cost buffer, then, if t is not 0, 16, a stored record that is not of accepted form.
 pub fn step(
     t: u8,
     code: &[u8],
@@ -144,7 +152,9 @@ pub fn step(
     store: &mut [u8],
     margins: &mut [u16],
 ) -> Stage
-    ensures { λ r. ⌜ Moves (iterating (now (code .entry)) (now (frame .entry)) t (lending (now (symbols .entry)) (now (costs .entry)) (now (store .entry)) (now (margins .entry)))) (stageOf r) (lending (now (symbols .exit)) (now (costs .exit)) (now (store .exit)) (now (margins .exit))) ⌝ }
+    ensures { λ r. ⌜ Moves (iterating (now (code .entry)) (now (frame .entry)) t
+        (lending (now (symbols .entry)) (now (costs .entry)) (now (store .entry)) (now (margins .entry)))) (stageOf r)
+        (lending (now (symbols .exit)) (now (costs .exit)) (now (store .exit)) (now (margins .exit))) ⌝ }
 {
     let mut degrees = [0u8; 128];
     let mut columns = [0u16; 1024];

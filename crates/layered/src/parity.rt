@@ -49,7 +49,8 @@ fn margin_at(costs: &[u16], z: usize) -> u16
 
 // "the smallest symbol of cost 0", with its margin; without a cost of 0 the number of costs. The search yields by `break`.
 pub fn decide(costs: &[u16]) -> Decision
-    ensures { λ r. ⌜ ((r .symbol ≡ decideOf (now (costs .entry)) .symbol) × (r .margin ≡ decideOf (now (costs .entry)) .margin)) × (r .symbol ≤ length (now (costs .entry))) ⌝ }
+    ensures { λ r. ⌜ ((r .symbol ≡ decideOf (now (costs .entry)) .symbol) × (r .margin ≡ decideOf (now (costs .entry)) .margin))
+        × (r .symbol ≤ length (now (costs .entry))) ⌝ }
 {
     let mut x = 0;
     loop {
@@ -72,7 +73,8 @@ pub fn decide(costs: &[u16]) -> Decision
 // The decision of each column of q costs.
 fn decisions(costs: &[u16], q: usize, symbols: &mut [u8])
     requires { ⌜ (length (now symbols) * q ≤ length (now costs)) × (q ≤ 64) ⌝ }
-    ensures { λ _. ⌜ now (symbols .exit) ≡ tab (λ c. decideOf (columnOf q (now (costs .entry)) c) .symbol) (length (now (symbols .entry))) ⌝ }
+    ensures { λ _. ⌜ now (symbols .exit)
+        ≡ tab (λ c. decideOf (columnOf q (now (costs .entry)) c) .symbol) (length (now (symbols .entry))) ⌝ }
 {
     let mut c = 0;
     while c < symbols.len() {
@@ -87,7 +89,8 @@ fn decisions(costs: &[u16], q: usize, symbols: &mut [u8])
 // The margin of each column's decision.
 pub fn margins(costs: &[u16], q: usize, margins: &mut [u16])
     requires { ⌜ length (now margins) * q ≤ length (now costs) ⌝ }
-    ensures { λ _. ⌜ now (margins .exit) ≡ tab (λ c. decideOf (columnOf q (now (costs .entry)) c) .margin) (length (now (margins .entry))) ⌝ }
+    ensures { λ _. ⌜ now (margins .exit)
+        ≡ tab (λ c. decideOf (columnOf q (now (costs .entry)) c) .margin) (length (now (margins .entry))) ⌝ }
 {
     let mut c = 0;
     while c < margins.len() {
@@ -124,7 +127,8 @@ pub struct CheckAt {
     pub edge: usize,
 }
 
-// The first check from `from` on and before `to` that the symbols do not satisfy, "the sum of h_n times x_n is 0"; `to` where they satisfy them all.
+// The first check from `from` on and before `to` that the symbols do not satisfy, "the sum of h_n times x_n is 0"; `to` where they
+// satisfy them all.
 pub fn unsatisfied(
     numbers: Numbers,
     from: CheckAt,

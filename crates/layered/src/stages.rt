@@ -1,4 +1,5 @@
-// A load and one iteration: decoding's refusals, then the first test, or the iteration from the lent costs and records and the test after it.
+// A load and one iteration: decoding's refusals, then the first test, or the iteration from the lent costs and records and the test after
+// it.
 use crate::answers::Stage;
 use crate::frame;
 use crate::iterate;
@@ -144,7 +145,8 @@ fn load_under(
     stage_after(found, 0, numbers.limit)
 }
 
-// "While running, command 2 first tests decoding's refusals, then 13 .. then, if t is not 0, 16"; then it "goes on from the lent costs and records".
+// "While running, command 2 first tests decoding's refusals, then 13 .. then, if t is not 0, 16"; then it "goes on from the lent costs
+// and records".
 fn step_under(
     numbers: Numbers,
     t: u8,
@@ -214,7 +216,9 @@ pub fn load_in(
     columns: &mut [u16; 1024],
     weights: &mut [u8; 1024],
 ) -> Stage
-    ensures { λ r. ⌜ Moves (loading (now (code .entry)) (now (frame .entry)) (lending (now (symbols .entry)) (now (costs .entry)) (now (store .entry)) (now (margins .entry)))) (stageOf r) (lending (now (symbols .exit)) (now (costs .exit)) (now (store .entry)) (now (margins .exit))) ⌝ }
+    ensures { λ r. ⌜ Moves (loading (now (code .entry)) (now (frame .entry))
+        (lending (now (symbols .entry)) (now (costs .entry)) (now (store .entry)) (now (margins .entry)))) (stageOf r)
+        (lending (now (symbols .exit)) (now (costs .exit)) (now (store .entry)) (now (margins .exit))) ⌝ }
 {
     match codeline::code_tables(code, degrees, columns, weights) {
         Header::Refused(k) => Stage::Refused(k),
@@ -247,7 +251,9 @@ pub fn step_in(
     arrived: &mut [u8; 2048],
     sent: &mut [u8; 2048],
 ) -> Stage
-    ensures { λ r. ⌜ Moves (iterating (now (code .entry)) (now (frame .entry)) t (lending (now (symbols .entry)) (now (costs .entry)) (now (store .entry)) (now (margins .entry)))) (stageOf r) (lending (now (symbols .exit)) (now (costs .exit)) (now (store .exit)) (now (margins .exit))) ⌝ }
+    ensures { λ r. ⌜ Moves (iterating (now (code .entry)) (now (frame .entry)) t
+        (lending (now (symbols .entry)) (now (costs .entry)) (now (store .entry)) (now (margins .entry)))) (stageOf r)
+        (lending (now (symbols .exit)) (now (costs .exit)) (now (store .exit)) (now (margins .exit))) ⌝ }
 {
     match codeline::code_tables(code, degrees, columns, weights) {
         Header::Refused(k) => Stage::Refused(k),

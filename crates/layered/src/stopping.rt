@@ -78,7 +78,9 @@ pub fn decode_early_in(
     arrived: &mut [u8; 2048],
     sent: &mut [u8; 2048],
 ) -> EarlyAnswer
-    ensures { λ r. ⌜ DecodesEarly (now (code .entry)) (now (frame .entry)) (lending (now (symbols .entry)) (now (costs .entry)) (now (store .entry)) (now (margins .entry))) (earlyReply r) (lending (now (symbols .exit)) (now (costs .exit)) (now (store .exit)) (now (margins .exit))) ⌝ }
+    ensures { λ r. ⌜ DecodesEarly (now (code .entry)) (now (frame .entry))
+        (lending (now (symbols .entry)) (now (costs .entry)) (now (store .entry)) (now (margins .entry))) (earlyReply r)
+        (lending (now (symbols .exit)) (now (costs .exit)) (now (store .exit)) (now (margins .exit))) ⌝ }
 {
     match codeline::code_tables(code, degrees, columns, weights) {
         Header::Refused(k) => EarlyAnswer::Refused(k),

@@ -79,8 +79,8 @@ checks (suc c) s at n q total =
     then (checks c s (at + 1 + 3 * getD s at 0) n q (total + getD s at 0)) (λ (cs : List (List Edge)).
     good (es ∷ cs)))
 
--- the whole line: "p", with k in the first byte; "N as two bytes, high first (1 to 256); M (1 to 128); scale g (1 to 16); iteration limit I (1 to 255). Then M checks";
--- "5 if under six bytes, 6, 7, 8" (SPEC 4.1, 8.3)
+-- the whole line: "p", with k in the first byte; "N as two bytes, high first (1 to 256); M (1 to 128); scale g (1 to 16); iteration limit
+-- I (1 to 255). Then M checks"; "5 if under six bytes, 6, 7, 8" (SPEC 4.1, 8.3)
 abbrev pub headTests : List ℕ → List Test
 headTests s =
     when (ltb (length s) 6) 5
@@ -146,7 +146,8 @@ pub record Numbers : Type 0 where
 
 -- they are given where the whole line is accepted (SPEC 7.7.1)
 abbrev pub numbersOf : Read Code → Read Numbers
-numbersOf (good C) = good (record { first = C .first; columns = C .columns; checks = length (C .checks); scale = C .scale; limit = C .limit })
+numbersOf (good C) =
+    good (record { first = C .first; columns = C .columns; checks = length (C .checks); scale = C .scale; limit = C .limit })
 numbersOf (bad k) = bad k
 
 -- N, where the code line is accepted (SPEC 7.7.5)

@@ -33,8 +33,8 @@ abbrev pub outcome : Status → ℕ → Reply
 outcome found t = foundIn t
 outcome notFound t = notFoundIn t
 
--- "The symbol buffer then holds the N decisions, the cost buffer .. holds P, N times q of them"; "Decoding fills a second lent buffer with N
--- margins, 16 bits each, from the final P." "Elements past the used part .. keep their old content." (SPEC 7.6.3, 7.1.5)
+-- "The symbol buffer then holds the N decisions, the cost buffer .. holds P, N times q of them"; "Decoding fills a second lent buffer
+-- with N margins, 16 bits each, from the final P." "Elements past the used part .. keep their old content." (SPEC 7.6.3, 7.1.5)
 abbrev pub holding : Code → List ℕ → List ℕ → Buffers → Buffers
 holding C P store b =
     record {
@@ -60,7 +60,8 @@ roomTests n w u symbols costs store margins =
 -- of a code's buffers, 0 for none
 unfoldable pub roomFault : Code → Buffers → ℕ
 roomFault C b =
-    faultBy (roomTests (C .columns) (C .columns * size C) (used C) (length (b .symbols)) (length (b .costs)) (length (b .store)) (length (b .margins)))
+    faultBy (roomTests (C .columns) (C .columns * size C) (used C) (length (b .symbols)) (length (b .costs)) (length (b .store))
+    (length (b .margins)))
 
 -- "Decode: code, 12, 13, 2, 3, 4.", 19: the code, or the number by which decoding refuses (SPEC 8.4)
 abbrev pub admittedUnder : Read Code → List ℕ → Buffers → Read Code
@@ -137,7 +138,8 @@ pub record Kept (C : Code) (f : List ℕ) (reply : Reply) (store : List ℕ) : T
 -- "at the last update of every check, each column was sent the same sum of the other columns' weighted hard decisions and, at each symbol,
 -- the same least cost before scaling" (SPEC 10.3)
 pub record Agree (C : Code) (f f′ : List ℕ) : Type 0 where
-  pub shifts : (m : ℕ) → m < length (C .checks) → (n : ℕ) → n < length (check C m) → shift (rule C) (lastUpdate C f m) n ≡ shift (rule C) (lastUpdate C f′ m) n
+  pub shifts : (m : ℕ) → m < length (C .checks) → (n : ℕ) → n < length (check C m)
+      → shift (rule C) (lastUpdate C f m) n ≡ shift (rule C) (lastUpdate C f′ m) n
   pub sents : (m : ℕ) → m < length (C .checks) → (n : ℕ) → n < length (check C m) → (x : ℕ) → x < size C
       → sent (rule C) (lastUpdate C f m) n x ≡ sent (rule C) (lastUpdate C f′ m) n x
 
@@ -147,9 +149,9 @@ pub record Compared (C : Code) (f f′ : List ℕ) (reply reply′ : Reply) (sto
   pub other : Kept C f′ reply′ store′
   pub equal : (take (used C) store ≡ take (used C) store′) ↔ Agree C f f′
 
--- demand 3: any code line, two frames accepted under it on which the machine makes at least one iteration, any decoding of each in buffers
--- long enough, whatever these held before. "Stores are compared only between decodings of the same edition, which the same code line ensures":
--- the rule of both is that of C (SPEC 10.3)
+-- demand 3: any code line, two frames accepted under it on which the machine makes at least one iteration, any decoding of each in
+-- buffers long enough, whatever these held before. "Stores are compared only between decodings of the same edition, which the same code
+-- line ensures": the rule of both is that of C (SPEC 10.3)
 abbrev pub Demand-3 : Type 0
 Demand-3 =
     (code : List ℕ) (C : Code) (f f′ : List ℕ) → Accepts code f C → Accepts code f′ C

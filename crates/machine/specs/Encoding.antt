@@ -1,5 +1,5 @@
--- Document 02 §2: encoding. The word of a message under a code line of the form that encoding needs, what the call replies and leaves, and what
--- its word is. SPEC 4.8, 4.9, 7.9.
+-- Document 02 §2: encoding. The word of a message under a code line of the form that encoding needs, what the call replies and leaves,
+-- and what its word is. SPEC 4.8, 4.9, 7.9.
 use mathlib.Core.Path.{_≡_}
 use mathlib.Core.Logic.{_≢_}
 use mathlib.Core.Bool.{Bool, true, false, _&&_, _||_}
@@ -37,8 +37,8 @@ encodable C =
     ltb (length (C .checks)) (C .columns)
     && allTo (λ m. contains (ownColumn C m) (check C m) && noneAbove (ownColumn C m) (check C m)) (length (C .checks))
 
--- the symbol that satisfies a check whose other columns stand in w: the columns rise, so its own is the last, and the symbol is the sum of the
--- others divided by the last weight (SPEC 4.9)
+-- the symbol that satisfies a check whose other columns stand in w: the columns rise, so its own is the last, and the symbol is the sum
+-- of the others divided by the last weight (SPEC 4.9)
 abbrev pub lastWeight : List Edge → ℕ
 lastWeight es = edgeAt es (length es - 1) .weight
 
@@ -57,8 +57,8 @@ encoded C u = encodeTo C u (length (C .checks))
 abbrev pub symbolsOk : ℕ → List ℕ → Bool
 symbolsOk q w = allTo (λ i. ltb (getD w i 0) q) (length w)
 
--- the refusals after the code's: "17, the code line lacks this form ..; 18, message length is not N - M or a symbol is not below q, after 17;
--- then 2"; 0 for none (SPEC 8.9)
+-- the refusals after the code's: "17, the code line lacks this form ..; 18, message length is not N - M or a symbol is not below q, after
+-- 17; then 2"; 0 for none (SPEC 8.9)
 unfoldable pub encodeFault : Code → List ℕ → ℕ → ℕ
 encodeFault C u room =
     faultBy

@@ -1,5 +1,5 @@
--- The machine over the lent buffers: what the code's loops do, with equations between the buffers alone. Each definition has the name of its
--- literal one in Machine.antt and ends in Lent. proofs/Lent.antt shows that it is the machine of Machine.antt.
+-- The machine over the lent buffers: what the code's loops do, with equations between the buffers alone. Each definition has the name of
+-- its literal one in Machine.antt and ends in Lent. proofs/Lent.antt shows that it is the machine of Machine.antt.
 use mathlib.Core.Bool.{Bool, false}
 use mathlib.Core.List.{List, map}
 use Prim.Native.Nat.{ℕ, zero, suc, _+_}

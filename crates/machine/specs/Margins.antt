@@ -1,5 +1,5 @@
--- What a margin says of the decision beside it, in the words of a decode call: the symbol, the margin and the costs of column c as they stand in
--- the lent buffers. SPEC 10.11.
+-- What a margin says of the decision beside it, in the words of a decode call: the symbol, the margin and the costs of column c as they
+-- stand in the lent buffers. SPEC 10.11.
 use mathlib.Core.Path.{_≡_}
 use mathlib.Core.Logic.{_≢_, _↔_}
 use mathlib.Core.List.{List}

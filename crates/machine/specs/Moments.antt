@@ -1,4 +1,5 @@
--- Document 02's two steps over the lent buffers: a load with the first test, and one iteration that goes on from the lent costs and records.
+-- Document 02's two steps over the lent buffers: a load with the first test, and one iteration that goes on from the lent costs and
+-- records.
 use mathlib.Core.Path.{_≡_}
 use mathlib.Core.Bool.{Bool, _&&_, _||_}
 use mathlib.Core.List.{List, [], _∷_}
@@ -35,7 +36,8 @@ pub record Moves (m : Moment) (stage : Stage) (b : Buffers) : Type 0 where
   pub store-then : b .store ≡ m .buffers .store
   pub margins-then : b .margins ≡ m .buffers .margins
 
--- "After a load the state is 4 if decoding would refuse, else 2 if the test holds, else 1." "Entering 4 changes no buffer and sets byte 3 to 0."
+-- "After a load the state is 4 if decoding would refuse, else 2 if the test holds, else 1." "Entering 4 changes no buffer and sets byte 3
+-- to 0."
 abbrev pub loadingUnder : Read Code → List ℕ → Buffers → Moment
 loadingUnder (bad k) f b = moment 4 k 0 b
 loadingUnder (good C) f b = moment (pick (settled C f) 2 1) 0 0 (holding C f (b .store) b)
@@ -49,7 +51,9 @@ costsOk C c = allTo (λ i. leb (getD c i 0) 510) (C .columns * size C) && allTo 
 
 -- each stored record is of accepted form
 unfoldable pub storeOk : Code → List ℕ → Bool
-storeOk C s = allTo (λ m. recordOk (rule C) (length (check C m)) (part s (place C m) (recordLength (rule C) (length (check C m))))) (length (C .checks))
+storeOk C s =
+    allTo (λ m. recordOk (rule C) (length (check C m)) (part s (place C m) (recordLength (rule C) (length (check C m)))))
+    (length (C .checks))
 
 -- "While running, command 2 first tests decoding's refusals, then 13 for a cost above 510, or a column without a 0, .. then, if t is not 0,
 -- 16 for each stored record."
@@ -94,8 +98,8 @@ unfoldable pub onward : List ℕ → List ℕ → ℕ → Moment → Moment
 onward code f zero m = m
 onward code f (suc n) m = pick (eqb (m .stage .state) 1) (onward code f n (iterating code f (m .t) (m .buffers))) m
 
--- a load, and iterations while running, I of them or more, end with the outcome, t and buffers of one decode call on the buffers as the load found
--- them. The frame is bytes
+-- a load, and iterations while running, I of them or more, end with the outcome, t and buffers of one decode call on the buffers as the
+-- load found them. The frame is bytes
 abbrev pub Load-then-steps : Type 0
 Load-then-steps =
     (code f : List ℕ) (C : Code) (b : Buffers) → Accepts code f C → Room C b → ((i : ℕ) → getD f i 0 ≤ 255) → (n : ℕ) → C .limit ≤ n

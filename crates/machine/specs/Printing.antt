@@ -24,8 +24,8 @@ pub record Said : Type 0 where
 abbrev pub said : Reply → List ℕ → Said
 said r l = record { reply = r; symbols = l }
 
--- "Each frame gives one line: status, t, then the symbols, all as two-digit bytes. A refused line prints its number as such a byte (12 as 0C)
--- and 00 only". "Each printed line ends in 0A." (SPEC 9.6)
+-- "Each frame gives one line: status, t, then the symbols, all as two-digit bytes. A refused line prints its number as such a byte (12 as
+-- 0C) and 00 only". "Each printed line ends in 0A." (SPEC 9.6)
 unfoldable pub printed : Said → List ℕ
 printed s = each digitsOf (s .reply .number ∷ s .reply .value ∷ pick (s .reply .refused) [] (s .symbols)) ++ (0x0A ∷ [])
 
@@ -33,7 +33,8 @@ printed s = each digitsOf (s .reply .number ∷ s .reply .value ∷ pick (s .rep
 abbrev pub ofFrame : Read Code → List ℕ → Said
 ofFrame (bad k) f = said (refusal k) []
 ofFrame (good C) f =
-    pick (eqb (frameFault C f) 0) (said (outcome (run C f .status) (run C f .end .t)) (symbols C (run C f .end .costs))) (said (refusal (frameFault C f)) [])
+    pick (eqb (frameFault C f) 0) (said (outcome (run C f .status) (run C f .end .t)) (symbols C (run C f .end .costs)))
+    (said (refusal (frameFault C f)) [])
 
 -- "Line refusals come before all others": 15, 14, then decode's. The longest line has 16,384 bytes (SPEC 9.5)
 unfoldable pub frameSaid : List ℕ → List ℕ → Said

@@ -7,8 +7,9 @@ use Rattle.layered.specs.declared.answers.Outcome.the-variants.{Found, NotFound
 use Rattle.layered.specs.declared.answers.Stopped.{Stopped}
 use Rattle.layered.specs.declared.answers.Stopped.the-variants.{Found as FoundEarly, NotFound as NotFoundEarly}
 
--- What include/petsivola.h reads from a result: PETSIVOLA_NUMBER is document 01's number (0 accepted or found, 1 not found, else the refusal's),
--- PETSIVOLA_VALUE the value (the product, the bytes written, t, or the check updates; 0 on a refusal). The two fix the result: number times 65,536, plus the value
+-- What include/petsivola.h reads from a result: PETSIVOLA_NUMBER is document 01's number (0 accepted or found, 1 not found, else the
+-- refusal's), PETSIVOLA_VALUE the value (the product, the bytes written, t, or the check updates; 0 on a refusal). The two fix the
+-- result: number times 65,536, plus the value
 pub record Packs (result : ℕ) (r : Reply) : Type 0 where
   pub number : result / 65536 ≡ r .number
   pub value : result % 65536 ≡ r .value

@@ -147,11 +147,20 @@ pub extern "C" fn petsivola_decode(
     store: &mut [u8],
     margins: &mut [u16],
 ) -> u32
-    ensures { λ r. ⌜ Packs r (decoding (now (code .entry)) (now (frame .entry)) (lending (now (symbols .entry)) (now (costs .entry)) (now (store .entry)) (now (margins .entry))) .reply) ⌝ }
-    ensures { λ _. ⌜ now (symbols .exit) ≡ decoding (now (code .entry)) (now (frame .entry)) (lending (now (symbols .entry)) (now (costs .entry)) (now (store .entry)) (now (margins .entry))) .buffers .symbols ⌝ }
-    ensures { λ _. ⌜ now (costs .exit) ≡ decoding (now (code .entry)) (now (frame .entry)) (lending (now (symbols .entry)) (now (costs .entry)) (now (store .entry)) (now (margins .entry))) .buffers .costs ⌝ }
-    ensures { λ _. ⌜ now (store .exit) ≡ decoding (now (code .entry)) (now (frame .entry)) (lending (now (symbols .entry)) (now (costs .entry)) (now (store .entry)) (now (margins .entry))) .buffers .store ⌝ }
-    ensures { λ _. ⌜ now (margins .exit) ≡ decoding (now (code .entry)) (now (frame .entry)) (lending (now (symbols .entry)) (now (costs .entry)) (now (store .entry)) (now (margins .entry))) .buffers .margins ⌝ }
+    ensures { λ r. ⌜ Packs r (decoding (now (code .entry)) (now (frame .entry))
+        (lending (now (symbols .entry)) (now (costs .entry)) (now (store .entry)) (now (margins .entry))) .reply) ⌝ }
+    ensures { λ _. ⌜ now (symbols .exit)
+        ≡ decoding (now (code .entry)) (now (frame .entry))
+        (lending (now (symbols .entry)) (now (costs .entry)) (now (store .entry)) (now (margins .entry))) .buffers .symbols ⌝ }
+    ensures { λ _. ⌜ now (costs .exit)
+        ≡ decoding (now (code .entry)) (now (frame .entry))
+        (lending (now (symbols .entry)) (now (costs .entry)) (now (store .entry)) (now (margins .entry))) .buffers .costs ⌝ }
+    ensures { λ _. ⌜ now (store .exit)
+        ≡ decoding (now (code .entry)) (now (frame .entry))
+        (lending (now (symbols .entry)) (now (costs .entry)) (now (store .entry)) (now (margins .entry))) .buffers .store ⌝ }
+    ensures { λ _. ⌜ now (margins .exit)
+        ≡ decoding (now (code .entry)) (now (frame .entry))
+        (lending (now (symbols .entry)) (now (costs .entry)) (now (store .entry)) (now (margins .entry))) .buffers .margins ⌝ }
 {
     of_answer(layered::decode(code, frame, symbols, costs, store, margins))
 }
@@ -165,11 +174,20 @@ pub extern "C" fn petsivola_decode_early(
     store: &mut [u8],
     margins: &mut [u16],
 ) -> u32
-    ensures { λ r. ⌜ Packs r (decodingEarly (now (code .entry)) (now (frame .entry)) (lending (now (symbols .entry)) (now (costs .entry)) (now (store .entry)) (now (margins .entry))) .reply) ⌝ }
-    ensures { λ _. ⌜ now (symbols .exit) ≡ decodingEarly (now (code .entry)) (now (frame .entry)) (lending (now (symbols .entry)) (now (costs .entry)) (now (store .entry)) (now (margins .entry))) .buffers .symbols ⌝ }
-    ensures { λ _. ⌜ now (costs .exit) ≡ decodingEarly (now (code .entry)) (now (frame .entry)) (lending (now (symbols .entry)) (now (costs .entry)) (now (store .entry)) (now (margins .entry))) .buffers .costs ⌝ }
-    ensures { λ _. ⌜ now (store .exit) ≡ decodingEarly (now (code .entry)) (now (frame .entry)) (lending (now (symbols .entry)) (now (costs .entry)) (now (store .entry)) (now (margins .entry))) .buffers .store ⌝ }
-    ensures { λ _. ⌜ now (margins .exit) ≡ decodingEarly (now (code .entry)) (now (frame .entry)) (lending (now (symbols .entry)) (now (costs .entry)) (now (store .entry)) (now (margins .entry))) .buffers .margins ⌝ }
+    ensures { λ r. ⌜ Packs r (decodingEarly (now (code .entry)) (now (frame .entry))
+        (lending (now (symbols .entry)) (now (costs .entry)) (now (store .entry)) (now (margins .entry))) .reply) ⌝ }
+    ensures { λ _. ⌜ now (symbols .exit)
+        ≡ decodingEarly (now (code .entry)) (now (frame .entry))
+        (lending (now (symbols .entry)) (now (costs .entry)) (now (store .entry)) (now (margins .entry))) .buffers .symbols ⌝ }
+    ensures { λ _. ⌜ now (costs .exit)
+        ≡ decodingEarly (now (code .entry)) (now (frame .entry))
+        (lending (now (symbols .entry)) (now (costs .entry)) (now (store .entry)) (now (margins .entry))) .buffers .costs ⌝ }
+    ensures { λ _. ⌜ now (store .exit)
+        ≡ decodingEarly (now (code .entry)) (now (frame .entry))
+        (lending (now (symbols .entry)) (now (costs .entry)) (now (store .entry)) (now (margins .entry))) .buffers .store ⌝ }
+    ensures { λ _. ⌜ now (margins .exit)
+        ≡ decodingEarly (now (code .entry)) (now (frame .entry))
+        (lending (now (symbols .entry)) (now (costs .entry)) (now (store .entry)) (now (margins .entry))) .buffers .margins ⌝ }
 {
     of_early(layered::decode_early(code, frame, symbols, costs, store, margins))
 }
@@ -194,7 +212,9 @@ pub extern "C" fn petsivola_window_write(
     store: &mut [u8],
     margins: &mut [u16],
 ) -> Registers
-    ensures { λ r. ⌜ windowOf r (lending (now (symbols .exit)) (now (costs .exit)) (now (store .exit)) (now (margins .exit))) ≡ write (now (code .entry)) (now (frame .entry)) address value (windowOf window (lending (now (symbols .entry)) (now (costs .entry)) (now (store .entry)) (now (margins .entry)))) ⌝ }
+    ensures { λ r. ⌜ windowOf r (lending (now (symbols .exit)) (now (costs .exit)) (now (store .exit)) (now (margins .exit)))
+        ≡ write (now (code .entry)) (now (frame .entry)) address value
+        (windowOf window (lending (now (symbols .entry)) (now (costs .entry)) (now (store .entry)) (now (margins .entry)))) ⌝ }
 {
     window::write(
         window,
@@ -238,7 +258,9 @@ pub extern "C" fn petsivola_channels(
     store: &mut [u8],
     margins: &mut [u16],
 ) -> Served
-    ensures { λ r. ⌜ Gives (channels count allowance (now (code .entry)) (now (frames .entry)) (lending (now (symbols .entry)) (now (costs .entry)) (now (store .entry)) (now (margins .entry)))) (r .number) (r .spent) (r .status) (r .iterations) (lending (now (symbols .exit)) (now (costs .exit)) (now (store .exit)) (now (margins .exit))) ⌝ }
+    ensures { λ r. ⌜ Gives (channels count allowance (now (code .entry)) (now (frames .entry))
+        (lending (now (symbols .entry)) (now (costs .entry)) (now (store .entry)) (now (margins .entry)))) (r .number) (r .spent)
+        (r .status) (r .iterations) (lending (now (symbols .exit)) (now (costs .exit)) (now (store .exit)) (now (margins .exit))) ⌝ }
 {
     channels::decode_channels(
         count,

@@ -1,5 +1,5 @@
-// The rule that a first code byte stands for: p in its low digit, and by its high digit how many deviations a choice may have and how its costs
-// are joined. Each function is total, so that every crate above can call it with the byte as it came.
+// The rule that a first code byte stands for: p in its low digit, and by its high digit how many deviations a choice may have and how its
+// costs are joined. Each function is total, so that every crate above can call it with the byte as it came.
 ghost use mathlib.Core.Path.{_≡_};
 ghost use Prim.Native.Nat.{_-_, _*_, _≤_};
 ghost use Rattle.trellis.specs.Record.{groupLength};

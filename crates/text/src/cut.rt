@@ -48,11 +48,16 @@ fn keep(st: State, part: &[u8], line: &mut [u8]) -> State
 
 // A part of a line, and its end.
 fn whole(st: State, part: &[u8], line: &mut [u8], code: &mut [u8], out: &mut [u8]) -> State
-    requires { ⌜ (length (now line) ≡ 32769) × ((length (now code) ≡ 16384) × ((st .ended ≡ false) × (toNewline (now part) ≡ length (now part)))) ⌝ }
+    requires { ⌜ (length (now line)
+        ≡ 32769) × ((length (now code) ≡ 16384) × ((st .ended ≡ false) × (toNewline (now part) ≡ length (now part)))) ⌝ }
     requires { ⌜ st .full + length (fedOut (keptOf (held st (now line) (now code))) (now part ++ (0x0A ∷ []))) ≤ length (now out) ⌝ }
-    ensures { λ r. ⌜ held r (now (line .exit)) (now (code .exit)) ≡ fedHeld (held st (now (line .entry)) (now (code .entry))) (now (part .entry) ++ (0x0A ∷ [])) ⌝ }
-    ensures { λ r. ⌜ r .full ≡ st .full + length (fedOut (keptOf (held st (now (line .entry)) (now (code .entry)))) (now (part .entry) ++ (0x0A ∷ []))) ⌝ }
-    ensures { λ _. ⌜ now (out .exit) ≡ putAt (now (out .entry)) (st .full) (fedOut (keptOf (held st (now (line .entry)) (now (code .entry)))) (now (part .entry) ++ (0x0A ∷ []))) ⌝ }
+    ensures { λ r. ⌜ held r (now (line .exit)) (now (code .exit))
+        ≡ fedHeld (held st (now (line .entry)) (now (code .entry))) (now (part .entry) ++ (0x0A ∷ [])) ⌝ }
+    ensures { λ r. ⌜ r .full ≡ st .full + length (fedOut (keptOf (held st (now (line .entry)) (now (code .entry))))
+        (now (part .entry) ++ (0x0A ∷ []))) ⌝ }
+    ensures { λ _. ⌜ now (out .exit)
+        ≡ putAt (now (out .entry)) (st .full) (fedOut (keptOf (held st (now (line .entry)) (now (code .entry))))
+        (now (part .entry) ++ (0x0A ∷ []))) ⌝ }
 {
     let s = keep(st, part, line);
     line_end::finish_line(s, line, code, out)
@@ -60,10 +65,13 @@ fn whole(st: State, part: &[u8], line: &mut [u8], code: &mut [u8], out: &mut [u8
 
 // A block, line by line; no byte counts once the program has ended.
 fn feed_over(st: State, bytes: &[u8], line: &mut [u8], code: &mut [u8], out: &mut [u8]) -> State
-    requires { ⌜ (length (now line) ≡ 32769) × ((length (now code) ≡ 16384) × ((st .full ≡ 0) × (512 + 5 * length (now bytes) ≤ length (now out)))) ⌝ }
-    ensures { λ r. ⌜ held r (now (line .exit)) (now (code .exit)) ≡ fedHeld (held st (now (line .entry)) (now (code .entry))) (now (bytes .entry)) ⌝ }
+    requires { ⌜ (length (now line)
+        ≡ 32769) × ((length (now code) ≡ 16384) × ((st .full ≡ 0) × (512 + 5 * length (now bytes) ≤ length (now out)))) ⌝ }
+    ensures { λ r. ⌜ held r (now (line .exit)) (now (code .exit))
+        ≡ fedHeld (held st (now (line .entry)) (now (code .entry))) (now (bytes .entry)) ⌝ }
     ensures { λ r. ⌜ r .full ≡ length (fedOut (keptOf (held st (now (line .entry)) (now (code .entry)))) (now (bytes .entry))) ⌝ }
-    ensures { λ _. ⌜ now (out .exit) ≡ putAt (now (out .entry)) 0 (fedOut (keptOf (held st (now (line .entry)) (now (code .entry)))) (now (bytes .entry))) ⌝ }
+    ensures { λ _. ⌜ now (out .exit)
+        ≡ putAt (now (out .entry)) 0 (fedOut (keptOf (held st (now (line .entry)) (now (code .entry)))) (now (bytes .entry))) ⌝ }
 {
     let mut s = st;
     let mut at = 0;
@@ -89,10 +97,13 @@ pub fn feed_in(
     code: &mut [u8],
     out: &mut [u8],
 ) -> State
-    requires { ⌜ (length (now line) ≡ 32769) × ((length (now code) ≡ 16384) × ((n ≤ length (now block)) × (512 + 5 * n ≤ length (now out)))) ⌝ }
-    ensures { λ r. ⌜ held r (now (line .exit)) (now (code .exit)) ≡ fedHeld (held st (now (line .entry)) (now (code .entry))) (take n (now (block .entry))) ⌝ }
+    requires { ⌜ (length (now line)
+        ≡ 32769) × ((length (now code) ≡ 16384) × ((n ≤ length (now block)) × (512 + 5 * n ≤ length (now out)))) ⌝ }
+    ensures { λ r. ⌜ held r (now (line .exit)) (now (code .exit))
+        ≡ fedHeld (held st (now (line .entry)) (now (code .entry))) (take n (now (block .entry))) ⌝ }
     ensures { λ r. ⌜ r .full ≡ length (fedOut (keptOf (held st (now (line .entry)) (now (code .entry)))) (take n (now (block .entry)))) ⌝ }
-    ensures { λ _. ⌜ now (out .exit) ≡ putAt (now (out .entry)) 0 (fedOut (keptOf (held st (now (line .entry)) (now (code .entry)))) (take n (now (block .entry)))) ⌝ }
+    ensures { λ _. ⌜ now (out .exit)
+        ≡ putAt (now (out .entry)) 0 (fedOut (keptOf (held st (now (line .entry)) (now (code .entry)))) (take n (now (block .entry)))) ⌝ }
 {
     let s = State {
         len: st.len,

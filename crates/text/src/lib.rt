@@ -1,4 +1,5 @@
-// Text: a line of hexadecimal digits, the printed line of a frame, and the program's whole output, block by block. No input or output is done here.
+// Text: a line of hexadecimal digits, the printed line of a frame, and the program's whole output, block by block. No input or output is
+// done here.
 mod copies;
 mod cut;
 mod hex;
@@ -29,13 +30,15 @@ pub fn line(text: &[u8], out: &mut [u8]) -> Written
 // symbols, and 2 + 2 + 1.
 pub fn frame_line(code: &[u8], text: &[u8], out: &mut [u8; 517]) -> usize
     ensures { λ r. ⌜ r ≡ length (frameLine (now (code .entry)) (now (text .entry))) ⌝ }
-    ensures { λ _. ⌜ now (out .exit) ≡ frameLine (now (code .entry)) (now (text .entry)) ++ drop (length (frameLine (now (code .entry)) (now (text .entry)))) (now (out .entry)) ⌝ }
+    ensures { λ _. ⌜ now (out .exit)
+        ≡ frameLine (now (code .entry)) (now (text .entry))
+        ++ drop (length (frameLine (now (code .entry)) (now (text .entry)))) (now (out .entry)) ⌝ }
 {
     print::frame_line(code, text, out)
 }
 
-// One block of the input, its first n bytes: what is kept after it, and in `out` what is printed for it, `full` bytes. The longest is 512 and
-// five for each byte of the block.
+// One block of the input, its first n bytes: what is kept after it, and in `out` what is printed for it, `full` bytes. The longest is 512
+// and five for each byte of the block.
 pub fn feed(
     st: State,
     block: &[u8; 65536],
@@ -44,16 +47,18 @@ pub fn feed(
     code: &mut [u8; 16384],
     out: &mut [u8; 328192],
 ) -> State
-    ensures { λ r. ⌜ held r (now (line .exit)) (now (code .exit)) ≡ fedHeld (held st (now (line .entry)) (now (code .entry))) (take n (now (block .entry))) ⌝ }
+    ensures { λ r. ⌜ held r (now (line .exit)) (now (code .exit))
+        ≡ fedHeld (held st (now (line .entry)) (now (code .entry))) (take n (now (block .entry))) ⌝ }
     ensures { λ r. ⌜ r .full ≡ length (fedOut (keptOf (held st (now (line .entry)) (now (code .entry)))) (take n (now (block .entry)))) ⌝ }
-    ensures { λ _. ⌜ now (out .exit) ≡ putAt (now (out .entry)) 0 (fedOut (keptOf (held st (now (line .entry)) (now (code .entry)))) (take n (now (block .entry)))) ⌝ }
+    ensures { λ _. ⌜ now (out .exit)
+        ≡ putAt (now (out .entry)) 0 (fedOut (keptOf (held st (now (line .entry)) (now (code .entry)))) (take n (now (block .entry)))) ⌝ }
 {
     let k = scalar::min_usize(n, 65536);
     cut::feed_in(st, block, k, line, code, out)
 }
 
-// The end of the input: "a last line without it counts if not empty"; "Empty input prints the line `0500`", as an empty code line does. What is
-// printed stands in `out`; the answer is how many bytes that are. The code line's buffer is used for a code line that ends here.
+// The end of the input: "a last line without it counts if not empty"; "Empty input prints the line `0500`", as an empty code line does.
+// What is printed stands in `out`; the answer is how many bytes that are. The code line's buffer is used for a code line that ends here.
 pub fn close(st: State, line: &[u8; 32769], code: &mut [u8; 16384], out: &mut [u8; 517]) -> usize
     ensures { λ r. ⌜ r ≡ length (closeOut (keptOf (held st (now (line .entry)) (now (code .entry))))) ⌝ }
     ensures { λ _. ⌜ now (code .exit) ≡ closeHeld (held st (now (line .entry)) (now (code .entry))) .bytes ⌝ }

@@ -50,7 +50,8 @@ fn print(code: &[u8], text: &[u8], out: &mut [u8], full: usize) -> usize
 fn code_bytes(text: &[u8], code: &mut [u8]) -> usize
     requires { ⌜ length (now code) ≡ 16384 ⌝ }
     ensures { λ r. ⌜ (r ≡ length (codeBytes (now (text .entry)))) × (r ≤ 16384) ⌝ }
-    ensures { λ _. ⌜ now (code .exit) ≡ codeBytes (now (text .entry)) ++ drop (length (codeBytes (now (text .entry)))) (now (code .entry)) ⌝ }
+    ensures { λ _. ⌜ now (code .exit)
+        ≡ codeBytes (now (text .entry)) ++ drop (length (codeBytes (now (text .entry)))) (now (code .entry)) ⌝ }
 {
     match hex::line(text, code) {
         Written::Bytes(n) => n,
@@ -70,9 +71,11 @@ fn accepted(code: &[u8]) -> bool
 // The code line read to its end: "a refused code line ends the program".
 fn finish_code(text: &[u8], code: &mut [u8], out: &mut [u8], full: usize) -> State
     requires { ⌜ (length (now code) ≡ 16384) × (full + length (codeOut (readCode (now text))) ≤ length (now out)) ⌝ }
-    ensures { λ r. ⌜ (r .len ≡ 0) × ((r .code ≡ pick (accepts (codeBytes (now (text .entry)))) (length (codeBytes (now (text .entry)))) 0) × (r .ended ≡ not (accepts (codeBytes (now (text .entry)))))) ⌝ }
+    ensures { λ r. ⌜ (r .len ≡ 0) × ((r .code ≡ pick (accepts (codeBytes (now (text .entry)))) (length (codeBytes (now (text .entry)))) 0)
+        × (r .ended ≡ not (accepts (codeBytes (now (text .entry)))))) ⌝ }
     ensures { λ r. ⌜ r .full ≡ full + length (codeOut (readCode (now (text .entry)))) ⌝ }
-    ensures { λ _. ⌜ now (code .exit) ≡ codeBytes (now (text .entry)) ++ drop (length (codeBytes (now (text .entry)))) (now (code .entry)) ⌝ }
+    ensures { λ _. ⌜ now (code .exit)
+        ≡ codeBytes (now (text .entry)) ++ drop (length (codeBytes (now (text .entry)))) (now (code .entry)) ⌝ }
     ensures { λ _. ⌜ now (out .exit) ≡ putAt (now (out .entry)) full (codeOut (readCode (now (text .entry)))) ⌝ }
 {
     let n = code_bytes(text, code);
@@ -95,10 +98,14 @@ fn finish_code(text: &[u8], code: &mut [u8], out: &mut [u8], full: usize) -> Sta
 
 // A line read to its end.
 pub fn finish_line(st: State, line: &[u8], code: &mut [u8], out: &mut [u8]) -> State
-    requires { ⌜ (length (now line) ≡ 32769) × ((length (now code) ≡ 16384) × ((st .ended ≡ false) × (st .full + length (finishedOut (keptOf (held st (now line) (now code)))) ≤ length (now out)))) ⌝ }
+    requires { ⌜ (length (now line)
+        ≡ 32769) × ((length (now code)
+        ≡ 16384) × ((st .ended
+        ≡ false) × (st .full + length (finishedOut (keptOf (held st (now line) (now code)))) ≤ length (now out)))) ⌝ }
     ensures { λ r. ⌜ held r (now (line .entry)) (now (code .exit)) ≡ finishedHeld (held st (now (line .entry)) (now (code .entry))) ⌝ }
     ensures { λ r. ⌜ r .full ≡ st .full + length (finishedOut (keptOf (held st (now (line .entry)) (now (code .entry))))) ⌝ }
-    ensures { λ _. ⌜ now (out .exit) ≡ putAt (now (out .entry)) (st .full) (finishedOut (keptOf (held st (now (line .entry)) (now (code .entry))))) ⌝ }
+    ensures { λ _. ⌜ now (out .exit)
+        ≡ putAt (now (out .entry)) (st .full) (finishedOut (keptOf (held st (now (line .entry)) (now (code .entry))))) ⌝ }
 {
     let t = scalar::min_usize(st.len, 32769);
     let n = st.code;

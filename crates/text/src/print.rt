@@ -72,8 +72,8 @@ fn answer(a: Answer, symbols: &[u8], out: &mut [u8]) -> usize
     }
 }
 
-// A frame's line under a code, printed from its bytes. The buffers are long enough for every code line that is accepted, so that 2, 3, 4 and
-// 19 never occur.
+// A frame's line under a code, printed from its bytes. The buffers are long enough for every code line that is accepted, so that 2, 3, 4
+// and 19 never occur.
 fn frame_in(
     code: &[u8],
     frame: &[u8],
@@ -83,7 +83,9 @@ fn frame_in(
     margins: &mut [u16],
     out: &mut [u8],
 ) -> usize
-    requires { ⌜ (length (now symbols) ≡ 256) × ((length (now costs) ≡ 16384) × ((length (now store) ≡ 57472) × ((length (now margins) ≡ 256) × (length (now out) ≡ 517)))) ⌝ }
+    requires { ⌜ (length (now symbols)
+        ≡ 256) × ((length (now costs)
+        ≡ 16384) × ((length (now store) ≡ 57472) × ((length (now margins) ≡ 256) × (length (now out) ≡ 517)))) ⌝ }
     ensures { λ r. ⌜ r ≡ length (printed (ofFrame (parse (now (code .entry))) (now (frame .entry)))) ⌝ }
     ensures { λ _. ⌜ now (out .exit) ≡ over (printed (ofFrame (parse (now (code .entry))) (now (frame .entry)))) (now (out .entry)) ⌝ }
 {
@@ -104,7 +106,10 @@ pub fn text_in(
     margins: &mut [u16],
     out: &mut [u8],
 ) -> usize
-    requires { ⌜ (length (now bytes) ≡ 16384) × ((length (now symbols) ≡ 256) × ((length (now costs) ≡ 16384) × ((length (now store) ≡ 57472) × ((length (now margins) ≡ 256) × (length (now out) ≡ 517))))) ⌝ }
+    requires { ⌜ (length (now bytes)
+        ≡ 16384) × ((length (now symbols)
+        ≡ 256) × ((length (now costs)
+        ≡ 16384) × ((length (now store) ≡ 57472) × ((length (now margins) ≡ 256) × (length (now out) ≡ 517))))) ⌝ }
     ensures { λ r. ⌜ r ≡ length (frameLine (now (code .entry)) (now (text .entry))) ⌝ }
     ensures { λ _. ⌜ now (out .exit) ≡ over (frameLine (now (code .entry)) (now (text .entry))) (now (out .entry)) ⌝ }
 {

@@ -13,7 +13,8 @@ aboveOfAll R cs a = keep (λ n. ltb (extraOfAll R cs a) (sentAt R cs n a)) (upTo
 
 unfoldable pub groupOfAll : Rule → List Column → ℕ → List ℕ
 groupOfAll R cs a =
-    extraOfAll R cs a ∷ (each (λ n. n ∷ sentAt R cs n a ∷ []) (aboveOfAll R cs a) ++ each (λ i. 0xFF ∷ 0x00 ∷ []) (upTo (R .most - length (aboveOfAll R cs a))))
+    extraOfAll R cs a ∷ (each (λ n. n ∷ sentAt R cs n a ∷ []) (aboveOfAll R cs a)
+    ++ each (λ i. 0xFF ∷ 0x00 ∷ []) (upTo (R .most - length (aboveOfAll R cs a))))
 
 unfoldable pub recordOfAll : Rule → List Column → List ℕ
 recordOfAll R cs = shifts R cs ++ each (groupOfAll R cs) (countFrom 1 (R .size - 1))

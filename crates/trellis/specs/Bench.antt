@@ -1,4 +1,5 @@
--- Document 01's bench table, the cases marked #, two checks of degree 2, and checks of the later editions: what is asked and what is expected.
+-- Document 01's bench table, the cases marked #, two checks of degree 2, and checks of the later editions: what is asked and what is
+-- expected.
 use mathlib.Core.List.{List, [], _∷_, map, _++_}
 use Prim.Native.Nat.{ℕ}
 use lib.ListN.{replicate}
@@ -8,8 +9,8 @@ use Rattle.trellis.specs.Check.{Column, extra, extraOfAll}
 use Rattle.trellis.specs.Record.{shifts, group, recordOf}
 use Rattle.trellis.specs.Rules.{ruleFor}
 
--- a product, a check's record, its shifts, its E for each a from 1 on, the least cost over choices for all columns; a record, and the bytes of
--- one a, under a first code byte
+-- a product, a check's record, its shifts, its E for each a from 1 on, the least cost over choices for all columns; a record, and the
+-- bytes of one a, under a first code byte
 pub data Case : Type 0 where
   productOf : (p a b : ℕ) → Case
   recordAt : List Column → Case
@@ -76,14 +77,15 @@ table =
     -- Weights 1, 2, 3, decisions all 1: shifts 010203
     gives (shiftsAt (weighted 1 (9 ∷ 0 ∷ 9 ∷ 9 ∷ []) ∷ weighted 2 (9 ∷ 0 ∷ 9 ∷ 9 ∷ []) ∷ weighted 3 (9 ∷ 0 ∷ 9 ∷ 9 ∷ []) ∷ []))
     (0x01 ∷ 0x02 ∷ 0x03 ∷ []) ∷
-    -- Document 02, degree 2: "a cheapest choice may deviate in both columns, so E would be a cost nobody was sent". At a = 1 the symbols 2 and 3
-    -- cost 1 + 1, but either column is sent the other's 9
+    -- Document 02, degree 2: "a cheapest choice may deviate in both columns, so E would be a cost nobody was sent". At a = 1 the symbols
+    -- 2 and 3 cost 1 + 1, but either column is sent the other's 9
     gives (recordAt (columns ((0 ∷ 9 ∷ 1 ∷ 9 ∷ []) ∷ (0 ∷ 9 ∷ 9 ∷ 1 ∷ []) ∷ [])))
     (0x00 ∷ 0x00 ∷ 0x09 ∷ 0xFF ∷ 0x00 ∷ 0xFF ∷ 0x00 ∷ 0x01 ∷ 0x00 ∷ 0x09 ∷ 0xFF ∷ 0x00 ∷ 0x01 ∷ 0x01 ∷ 0x09 ∷ 0xFF ∷ 0x00 ∷ []) ∷
     gives (ofAllAt (columns ((0 ∷ 9 ∷ 1 ∷ 9 ∷ []) ∷ (0 ∷ 9 ∷ 9 ∷ 1 ∷ []) ∷ []))) (2 ∷ 1 ∷ 1 ∷ []) ∷
     -- Three deviations, first byte 22: the record above, with a pair more for each a
     gives (recordUnder 0x22 (columns ((0 ∷ 5 ∷ 7 ∷ 9 ∷ []) ∷ (0 ∷ 4 ∷ 8 ∷ 3 ∷ []) ∷ (0 ∷ 6 ∷ 2 ∷ 10 ∷ []) ∷ [])))
-    (0x00 ∷ 0x00 ∷ 0x00 ∷ 0x04 ∷ 0x01 ∷ 0x05 ∷ 0xFF ∷ 0x00 ∷ 0xFF ∷ 0x00 ∷ 0x02 ∷ 0x02 ∷ 0x07 ∷ 0xFF ∷ 0x00 ∷ 0xFF ∷ 0x00 ∷ 0x03 ∷ 0x01 ∷ 0x07 ∷ 0xFF ∷ 0x00 ∷ 0xFF ∷ 0x00 ∷ []) ∷
+    (0x00 ∷ 0x00 ∷ 0x00 ∷ 0x04 ∷ 0x01 ∷ 0x05 ∷ 0xFF ∷ 0x00 ∷ 0xFF ∷ 0x00 ∷ 0x02 ∷ 0x02 ∷ 0x07 ∷ 0xFF ∷ 0x00 ∷ 0xFF ∷ 0x00 ∷ 0x03 ∷ 0x01
+    ∷ 0x07 ∷ 0xFF ∷ 0x00 ∷ 0xFF ∷ 0x00 ∷ []) ∷
     -- at a = 7 column 0 is sent 1 + 1 + 1, and each other column the 9 of column 0
     gives (groupUnder 0x23 threeCheap 7) (0x03 ∷ 0x01 ∷ 0x09 ∷ 0x02 ∷ 0x09 ∷ 0x03 ∷ 0x09 ∷ []) ∷
     -- with two deviations column 0 is sent 100

@@ -1,6 +1,6 @@
--- One check of document 01: choices, their costs, the cost sent to a column, the extra column. SPEC 2.
--- A rule holds what the code line's first byte fixes: q, the product, how the costs of a choice are joined, and how many deviations it may have.
--- Document 02: "at most two" reads "at most k".
+-- One check of document 01: choices, their costs, the cost sent to a column, the extra column. SPEC 2. A rule holds what the code line's
+-- first byte fixes: q, the product, how the costs of a choice are joined, and how many deviations it may have. Document 02: "at most two"
+-- reads "at most k".
 use mathlib.Core.Path.{_≡_}
 use mathlib.Core.Bool.{Bool, cond, _&&_}
 use mathlib.Core.List.{List, [], _∷_, map}

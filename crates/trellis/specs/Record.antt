@@ -15,7 +15,8 @@ above R cs a = keep (λ n. ltb (extra R cs a) (sentAt R cs n a)) (upTo (length c
 -- the bytes of a: "E(a), column, its S, column, its S .. an unused pair is FF 00"; k pairs in all (SPEC 3.1)
 unfoldable pub group : Rule → List Column → ℕ → List ℕ
 group R cs a =
-    extra R cs a ∷ (each (λ n. n ∷ sentAt R cs n a ∷ []) (above R cs a) ++ each (λ i. 0xFF ∷ 0x00 ∷ []) (upTo (R .most - length (above R cs a))))
+    extra R cs a ∷ (each (λ n. n ∷ sentAt R cs n a ∷ []) (above R cs a)
+    ++ each (λ i. 0xFF ∷ 0x00 ∷ []) (upTo (R .most - length (above R cs a))))
 
 -- "d shift bytes, s_0 first" (SPEC 3.1)
 unfoldable pub shifts : Rule → List Column → List ℕ

@@ -1,4 +1,5 @@
--- The rule that a first code byte stands for, and a check as a caller hands it over: this byte, the weights, and the costs column by column.
+-- The rule that a first code byte stands for, and a check as a caller hands it over: this byte, the weights, and the costs column by
+-- column.
 use mathlib.Core.Bool.{Bool, cond, _&&_}
 use mathlib.Core.List.{List, [], _∷_}
 use Prim.Native.Nat.{ℕ, _+_, _^_, _*_, _/_, _%_, max}

@@ -1,5 +1,5 @@
--- Two sweeps over the columns of one check, "for each partial sum and each count of deviations up to k, the least cost over the columns before n,
--- and the same over the columns after n", and their join, the cost sent to column n.
+-- Two sweeps over the columns of one check, "for each partial sum and each count of deviations up to k, the least cost over the columns
+-- before n, and the same over the columns after n", and their join, the cost sent to column n.
 use mathlib.Core.Path.{_≡_}
 use mathlib.Core.Logic.{_⊎_}
 use mathlib.Core.Bool.{Bool, cond, _&&_}
@@ -52,7 +52,8 @@ deviationCost c x = cond (eqb x (decision c .symbol)) mark (costAt c x)
 unfoldable pub stepped : Rule → Column → (ℕ → ℕ → ℕ) → ℕ → ℕ → ℕ
 stepped R c f zero t = f 0 (xor t (weigh R c (decision c .symbol)))
 stepped R c f (suc j) t =
-    min (f (suc j) (xor t (weigh R c (decision c .symbol)))) (leastTo (λ x. R .join (deviationCost c x) (f j (xor t (weigh R c x)))) (R .size))
+    min (f (suc j) (xor t (weigh R c (decision c .symbol))))
+    (leastTo (λ x. R .join (deviationCost c x) (f j (xor t (weigh R c x)))) (R .size))
 
 -- two sweeps joined at i and j deviations, at partial sums s and s + t
 abbrev pub across : Rule → (ℕ → ℕ → ℕ) → (ℕ → ℕ → ℕ) → ℕ → ℕ → ℕ → ℕ

@@ -9,7 +9,8 @@ use Rattle.trellis.specs.Lists.{pick}
 use Rattle.machine.specs.Decoding.{Buffers}
 use Rattle.machine.specs.Moments.{Moment, loading, iterating}
 
--- "1 state, 2 refusal number, 3 iterations done, 4 interrupt mask, 5 pending"; "States: 0 idle, 1 running, 2 found, 3 not found, 4 refused."
+-- "1 state, 2 refusal number, 3 iterations done, 4 interrupt mask, 5 pending"; "States: 0 idle, 1 running, 2 found, 3 not found, 4
+-- refused."
 pub record Registers : Type 0 where
   pub state : ℕ
   pub refusal : ℕ
@@ -43,7 +44,8 @@ setting pending bit = bitOr pending bit
 
 -- a state after a load or an iteration, with bytes 2 and 3; "mask and pending are kept"
 abbrev pub entering : ℕ → ℕ → ℕ → Registers → Registers
-entering state number t r = record { state = state; refusal = number; iterations = t; mask = r .mask; pending = setting (r .pending) (bitFor state) }
+entering state number t r =
+    record { state = state; refusal = number; iterations = t; mask = r .mask; pending = setting (r .pending) (bitFor state) }
 
 -- the window after such a moment
 abbrev pub taking : Moment → Registers → Window
@@ -61,18 +63,25 @@ iterate code f w = taking (iterating code f (w .registers .iterations) (w .buffe
 abbrev pub masked : ℕ → Window → Window
 masked v w =
     let r : Registers = w .registers in
-    record { registers = record { state = r .state; refusal = r .refusal; iterations = r .iterations; mask = v; pending = r .pending }; buffers = w .buffers }
+    record {
+      registers = record { state = r .state; refusal = r .refusal; iterations = r .iterations; mask = v; pending = r .pending };
+      buffers = w .buffers;
+    }
 
 abbrev pub cleared : Window → Window
 cleared w =
     let r : Registers = w .registers in
-    record { registers = record { state = r .state; refusal = r .refusal; iterations = r .iterations; mask = r .mask; pending = 0 }; buffers = w .buffers }
+    record {
+      registers = record { state = r .state; refusal = r .refusal; iterations = r .iterations; mask = r .mask; pending = 0 };
+      buffers = w .buffers;
+    }
 
 -- command 2 "runs one iteration if running", and "with byte 3 at 255" does nothing
 unfoldable pub second : List ℕ → List ℕ → Window → Window
 second code f w = pick (eqb (w .registers .state) 1) (pick (eqb (w .registers .iterations) 255) w (iterate code f w)) w
 
--- "Command 1 loads the lent code and frame and runs the first test; 2 runs one iteration if running; 3 clears pending; other values .. do nothing."
+-- "Command 1 loads the lent code and frame and runs the first test; 2 runs one iteration if running; 3 clears pending; other values .. do
+-- nothing."
 unfoldable pub command : List ℕ → List ℕ → ℕ → Window → Window
 command code f v w =
     pick (eqb v 1) (load code f w)

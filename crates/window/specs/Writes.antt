@@ -40,8 +40,8 @@ pub record EndsAs (code f : List ℕ) (before : Buffers) (after : Window) : Type
 abbrev pub Bytes : List ℕ → Type 0
 Bytes l = (i : ℕ) → getD l i 0 ≤ 255
 
--- "a load that is not refused, followed by I commands 2 with no load between": from any state of the window, among any other writes, and with
--- more commands 2 too
+-- "a load that is not refused, followed by I commands 2 with no load between": from any state of the window, among any other writes, and
+-- with more commands 2 too
 abbrev pub Load-and-iterate : Type 0
 Load-and-iterate =
     (code f : List ℕ) (C : Code) (w : Window) (l : List Write) → Bytes code → Bytes f → parse code ≡ good C
@@ -92,11 +92,14 @@ acts r x = eqb (x .byte) 0 && (eqb (x .value) 1 || (eqb (x .value) 2 && (eqb (r 
 -- register by register: what a write changes
 pub record Changes (r : Registers) (x : Lending) : Type 0 where
   -- only a load or an iteration changes bytes 1 to 3 and the buffers
-  pub quiet : acts r x ≡ false → (step r x .state ≡ r .state) × (step r x .refusal ≡ r .refusal) × (step r x .iterations ≡ r .iterations) × (lentTo r x .buffers ≡ x .buffers)
+  pub quiet : acts r x ≡ false
+      → (step r x .state ≡ r .state) × (step r x .refusal ≡ r .refusal) × (step r x .iterations ≡ r .iterations)
+      × (lentTo r x .buffers ≡ x .buffers)
   -- only a write to byte 4 changes the mask
   pub mask : step r x .mask ≡ pick (eqb (x .byte) 4) (x .value) (r .mask)
   -- only 3 clears pending, and only entering 2, 3 or 4 sets bits
-  pub pending : step r x .pending ≡ pick (eqb (x .byte) 0 && eqb (x .value) 3) 0 (pick (acts r x) (setting (r .pending) (bitFor (step r x .state))) (r .pending))
+  pub pending : step r x .pending
+      ≡ pick (eqb (x .byte) 0 && eqb (x .value) 3) 0 (pick (acts r x) (setting (r .pending) (bitFor (step r x .state))) (r .pending))
   -- "Entering 4 changes no buffer"
   pub refusing : step r x .state ≡ 4 → lentTo r x .buffers ≡ x .buffers
   -- only an iteration adds to byte 3, and adds 1

@@ -45,7 +45,8 @@ fn entering(window: Registers, state: u8, number: u8, t: u8) -> Registers
 
 // The registers after a load or an iteration that ended in a stage at t; "Entering 4 .. sets byte 3 to 0."
 pub fn taking(window: Registers, stage: Stage, t: u8) -> Registers
-    ensures { λ r. ⌜ bytesOf r ≡ entering (stageOf stage .state) (stageOf stage .number) (pick (eqb (stageOf stage .state) 4) 0 t) (bytesOf window) ⌝ }
+    ensures { λ r. ⌜ bytesOf r ≡ entering (stageOf stage .state) (stageOf stage .number) (pick (eqb (stageOf stage .state) 4) 0 t)
+        (bytesOf window) ⌝ }
 {
     match stage {
         Stage::Running => entering(window, RUNNING, 0, t),
@@ -57,7 +58,13 @@ pub fn taking(window: Registers, stage: Stage, t: u8) -> Registers
 
 // Byte 5 at 0.
 pub fn cleared(window: Registers) -> Registers
-    ensures { λ r. ⌜ bytesOf r ≡ record { state = window .state; refusal = window .refusal; iterations = window .iterations; mask = window .mask; pending = 0 } ⌝ }
+    ensures { λ r. ⌜ bytesOf r ≡ record {
+      state = window .state;
+      refusal = window .refusal;
+      iterations = window .iterations;
+      mask = window .mask;
+      pending = 0;
+    } ⌝ }
 {
     Registers {
         state: window.state,
@@ -70,7 +77,13 @@ pub fn cleared(window: Registers) -> Registers
 
 // Byte 4 at a value.
 pub fn masked(window: Registers, value: u8) -> Registers
-    ensures { λ r. ⌜ bytesOf r ≡ record { state = window .state; refusal = window .refusal; iterations = window .iterations; mask = value; pending = window .pending } ⌝ }
+    ensures { λ r. ⌜ bytesOf r ≡ record {
+      state = window .state;
+      refusal = window .refusal;
+      iterations = window .iterations;
+      mask = value;
+      pending = window .pending;
+    } ⌝ }
 {
     Registers {
         state: window.state,

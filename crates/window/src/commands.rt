@@ -16,7 +16,9 @@ fn loaded(
     store: &[u8],
     margins: &mut [u16],
 ) -> Registers
-    ensures { λ r. ⌜ windowOf r (lending (now (symbols .exit)) (now (costs .exit)) (now (store .entry)) (now (margins .exit))) ≡ load (now (code .entry)) (now (frame .entry)) (windowOf window (lending (now (symbols .entry)) (now (costs .entry)) (now (store .entry)) (now (margins .entry)))) ⌝ }
+    ensures { λ r. ⌜ windowOf r (lending (now (symbols .exit)) (now (costs .exit)) (now (store .entry)) (now (margins .exit)))
+        ≡ load (now (code .entry)) (now (frame .entry))
+        (windowOf window (lending (now (symbols .entry)) (now (costs .entry)) (now (store .entry)) (now (margins .entry)))) ⌝ }
 {
     let stage = layered::load(code, frame, symbols, costs, store, margins);
     bytes::taking(window, stage, 0)
@@ -32,7 +34,9 @@ fn iterated(
     store: &mut [u8],
     margins: &mut [u16],
 ) -> Registers
-    ensures { λ r. ⌜ windowOf r (lending (now (symbols .exit)) (now (costs .exit)) (now (store .exit)) (now (margins .exit))) ≡ second (now (code .entry)) (now (frame .entry)) (windowOf window (lending (now (symbols .entry)) (now (costs .entry)) (now (store .entry)) (now (margins .entry)))) ⌝ }
+    ensures { λ r. ⌜ windowOf r (lending (now (symbols .exit)) (now (costs .exit)) (now (store .exit)) (now (margins .exit)))
+        ≡ second (now (code .entry)) (now (frame .entry))
+        (windowOf window (lending (now (symbols .entry)) (now (costs .entry)) (now (store .entry)) (now (margins .entry)))) ⌝ }
 {
     if window.state != bytes::RUNNING {
         return window;
@@ -56,7 +60,9 @@ pub fn command(
     store: &mut [u8],
     margins: &mut [u16],
 ) -> Registers
-    ensures { λ r. ⌜ windowOf r (lending (now (symbols .exit)) (now (costs .exit)) (now (store .exit)) (now (margins .exit))) ≡ command (now (code .entry)) (now (frame .entry)) value (windowOf window (lending (now (symbols .entry)) (now (costs .entry)) (now (store .entry)) (now (margins .entry)))) ⌝ }
+    ensures { λ r. ⌜ windowOf r (lending (now (symbols .exit)) (now (costs .exit)) (now (store .exit)) (now (margins .exit)))
+        ≡ command (now (code .entry)) (now (frame .entry)) value
+        (windowOf window (lending (now (symbols .entry)) (now (costs .entry)) (now (store .entry)) (now (margins .entry)))) ⌝ }
 {
     if value == 1 {
         return loaded(window, code, frame, symbols, costs, store, margins);

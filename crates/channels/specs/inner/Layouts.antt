@@ -1,4 +1,5 @@
--- What the functions ask and leave: the struct that a call answers by, the numbers and lengths that a channel needs, and room for each loop.
+-- What the functions ask and leave: the struct that a call answers by, the numbers and lengths that a channel needs, and room for each
+-- loop.
 use mathlib.Core.Path.{_≡_}
 use mathlib.Core.Bool.{true, _||_}
 use mathlib.Core.List.{List, map, _++_, [], _∷_}
@@ -43,7 +44,8 @@ pub record LaidOut (k : Numbers) (ds : List ℕ) (z : Layout) : Type 0 where
 
 -- 12, 2, 3, 4, 19 by the lengths; 0 for none
 unfoldable pub faultFor : ℕ → Layout → ℕ → ℕ → ℕ → ℕ → ℕ → ℕ
-faultFor n z f y c s v = refusedBy (unless (eqb f (n * z .costs)) 12 ∷ []) (λ k. k) (roomFault (n * z .columns) (n * z .costs) (n * z .store) y c s v)
+faultFor n z f y c s v =
+    refusedBy (unless (eqb f (n * z .costs)) 12 ∷ []) (λ k. k) (roomFault (n * z .columns) (n * z .costs) (n * z .store) y c s v)
 
 -- lengths whose multiples fit
 pub record FaultRoom (n : ℕ) (z : Layout) : Type 0 where

@@ -54,7 +54,8 @@ checkRead (CheckRefused k) total cs ws = bad k
 
 -- the degree is the check's first byte; the line and the tables have room for the check; the place behind it
 abbrev pub CheckFits : Check → List ℕ → ℕ → ℕ → Type 0
-CheckFits (Degree d next) s at total = (d ≡ getD s at 0) × ((d ≤ 32) × ((total + d ≤ 1024) × ((at + 1 + 3 * d ≤ length s) × (next ≡ at + 1 + 3 * d))))
+CheckFits (Degree d next) s at total =
+    (d ≡ getD s at 0) × ((d ≤ 32) × ((total + d ≤ 1024) × ((at + 1 + 3 * d ≤ length s) × (next ≡ at + 1 + 3 * d))))
 CheckFits (CheckRefused k) s at total = Unit {0}
 
 -- count checks

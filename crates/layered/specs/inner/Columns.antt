@@ -39,7 +39,8 @@ leastSummed g Q new n = upto (λ k a. min a (summed g Q new k)) n 1000
 
 -- P after the first n columns of an update
 unfoldable pub scattered : List ℕ → List ℕ → List ℕ → ℕ → ℕ → ℕ → List ℕ → List ℕ
-scattered Q new cols g q n P = upto (λ k (P : List ℕ). patch P (getD cols k 0 * q) q (outgoing q (part Q (k * q) q) (map (scaled g) (part new (k * q) q)))) n P
+scattered Q new cols g q n P =
+    upto (λ k (P : List ℕ). patch P (getD cols k 0 * q) q (outgoing q (part Q (k * q) q) (map (scaled g) (part new (k * q) q)))) n P
 
 pub record ScatterRoom (Q new cols : List ℕ) (g q : ℕ) (P : List ℕ) : Type 0 where
   pub columns : (k : ℕ) → k < length cols → getD cols k 0 * q + q ≤ length P

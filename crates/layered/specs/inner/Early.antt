@@ -1,4 +1,5 @@
--- What the functions ask that stop inside an iteration, and the loop's invariant over stopLent of the machine. proofs/Advances.antt keeps it.
+-- What the functions ask that stop inside an iteration, and the loop's invariant over stopLent of the machine. proofs/Advances.antt keeps
+-- it.
 use mathlib.Core.Path.{_≡_}
 use mathlib.Core.Bool.{false}
 use mathlib.Core.List.{List}
@@ -32,7 +33,8 @@ pub record AgainRoom (q : ℕ) (P cs z : List ℕ) : Type 0 where
   pub in-costs : (k : ℕ) → k < length cs → getD cs k 0 * q + q ≤ length P
   pub in-symbols : (k : ℕ) → k < length cs → getD cs k 0 < length z
 
--- the symbols z are the decisions of other costs, and check `from` was not satisfied; deciding the columns of the check at p again gives those of P
+-- the symbols z are the decisions of other costs, and check `from` was not satisfied; deciding the columns of the check at p again gives
+-- those of P
 pub record RetestRoom (k : Numbers) (ds cs ws : List ℕ) (p : Place) (from : CheckAt) (P z : List ℕ) : Type 0 where
   pub settled-room : SettledRoom k ds cs ws P z
   pub inside : p .check < k .checks
@@ -42,7 +44,8 @@ pub record RetestRoom (k : Numbers) (ds cs ws : List ℕ) (p : Place) (from : Ch
   pub old : List ℕ
   pub decided : z ≡ symbols (codeOf k ds cs ws) old
   pub unsettled : settled (codeOf k ds cs ws) old ≡ false
-  pub again : decidedAgain (sizeOf (k .first)) P (tableAt ds cs (p .check)) (length (tableAt ds cs (p .check))) (symbols (codeOf k ds cs ws) old)
+  pub again : decidedAgain (sizeOf (k .first)) P (tableAt ds cs (p .check)) (length (tableAt ds cs (p .check)))
+      (symbols (codeOf k ds cs ws) old)
       ≡ symbols (codeOf k ds cs ws) P
 
 -- r is the number of checks exactly where the decisions of P satisfy every one
@@ -69,9 +72,10 @@ pub record GoRoom (k : Numbers) (ds cs ws P store z A S : List ℕ) : Type 0 whe
   pub arrived : 2048 ≤ length A
   pub sent : 2048 ≤ length S
 
--- in the loop over the updates, of which there are at most `most`: the next check stands here, check `from` is not satisfied, and what is left gives the
--- same as the whole
-pub record Going (k : Numbers) (ds cs ws : List ℕ) (most : ℕ) (l₀ : Lent) (u : ℕ) (here : Place) (from : CheckAt) (P store z : List ℕ) : Type 0 where
+-- in the loop over the updates, of which there are at most `most`: the next check stands here, check `from` is not satisfied, and what is
+-- left gives the same as the whole
+pub record Going (k : Numbers) (ds cs ws : List ℕ) (most : ℕ) (l₀ : Lent) (u : ℕ) (here : Place) (from : CheckAt)
+    (P store z : List ℕ) : Type 0 where
   pub at-most : u ≤ most
   pub check-is : here .check ≡ u % k .checks
   pub stands : Stands (k .first) ds (here .check) here

@@ -1,4 +1,5 @@
--- The refusals of a frame and of the buffers by numbers, 0 for none, and a decoding under a code that is read. proofs/Decoded.antt shows that these are decoding's.
+-- The refusals of a frame and of the buffers by numbers, 0 for none, and a decoding under a code that is read. proofs/Decoded.antt shows
+-- that these are decoding's.
 use mathlib.Core.List.{List}
 use Prim.Native.Nat.{ℕ, _*_, _≤_}
 use lib.Dec.{eqb}
@@ -24,7 +25,8 @@ roomFault n w u y c s v = faultBy (roomTests n w u y c s v)
 -- "12, 13, 2, 3, 4", 19
 unfoldable pub faultOf : ℕ → ℕ → List ℕ → List ℕ → ℕ → ℕ → ℕ → ℕ → ℕ
 faultOf first n ds f y c s v =
-    pick (eqb (frameFaultOf first n f) 0) (roomFault n (n * sizeOf first) (bytesBefore first ds (length ds)) y c s v) (frameFaultOf first n f)
+    pick (eqb (frameFaultOf first n f) 0) (roomFault n (n * sizeOf first) (bytesBefore first ds (length ds)) y c s v)
+    (frameFaultOf first n f)
 
 -- decoding under a code that is read
 abbrev pub decodingOf : Code → List ℕ → Buffers → After

@@ -1,5 +1,5 @@
--- Where a load or an iteration ends, and what an iteration tests of the lent costs and records, over the tables of a code. proofs/Steps.antt
--- shows that these are loading and iterating.
+-- Where a load or an iteration ends, and what an iteration tests of the lent costs and records, over the tables of a code.
+-- proofs/Steps.antt shows that these are loading and iterating.
 use mathlib.Core.Path.{_≡_}
 use mathlib.Core.Bool.{Bool, true, _&&_, _||_}
 use mathlib.Core.List.{List, [], _∷_}

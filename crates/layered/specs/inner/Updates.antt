@@ -1,5 +1,5 @@
--- What the functions of one update ask of a check's columns and weights, its record and the costs. proofs/Updates.antt shows that together they are
--- costsLent and recordLent of the machine.
+-- What the functions of one update ask of a check's columns and weights, its record and the costs. proofs/Updates.antt shows that
+-- together they are costsLent and recordLent of the machine.
 use mathlib.Core.Path.{_≡_}
 use mathlib.Core.Bool.{Bool, false, true}
 use mathlib.Core.Logic.{_≢_}

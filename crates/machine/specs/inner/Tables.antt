@@ -24,7 +24,8 @@ flat cs ws = record { columns = cs; weights = ws }
 unfoldable pub edgesInto : ℕ → List ℕ → ℕ → ℕ → ℕ → ℕ → List ℕ → List ℕ → Read Flat
 edgesInto zero s at n q low cs ws = good (flat cs ws)
 edgesInto (suc c) s at n q low cs ws =
-    then (readEdge s at n q low) (λ (e : Edge). edgesInto c s (at + 3) n q (e .column + 1) (cs ++ (e .column ∷ [])) (ws ++ (e .weight ∷ [])))
+    then (readEdge s at n q low) (λ (e : Edge). edgesInto c s (at + 3) n q (e .column + 1) (cs ++ (e .column ∷ []))
+    (ws ++ (e .weight ∷ [])))
 
 unfoldable pub checkInto : List ℕ → ℕ → ℕ → ℕ → ℕ → List ℕ → List ℕ → Read Flat
 checkInto s at n q total cs ws = refusedBy (checkTests s at total) bad (edgesInto (getD s at 0) s (at + 1) n q 0 cs ws)

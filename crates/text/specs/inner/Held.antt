@@ -51,7 +51,14 @@ roomFor n s = min (length s) (32769 - n)
 -- a part of a line at once: 32,769 bytes are enough to refuse it by 15
 unfoldable pub partHeld : Held → List ℕ → Held
 partHeld h s =
-    record { len = h .len + roomFor (h .len) s; code = h .code; over = h .over; line = putAt (h .line) (h .len) (take (roomFor (h .len) s) s); bytes = h .bytes }
+    record {
+      len = h .len + roomFor (h .len) s;
+      code = h .code;
+      over = h .over;
+      line = putAt (h .line) (h .len)
+          (take (roomFor (h .len) s) s);
+      bytes = h .bytes;
+    }
 
 -- r and m are s and l with a part more, whatever the other buffer holds
 abbrev pub Keeps : State → List ℕ → List ℕ → State → List ℕ → Type 0
