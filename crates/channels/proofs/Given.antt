@@ -21,14 +21,14 @@ use Rattle.codeline.specs.declared.answers.Numbers.{Numbers}
 use Rattle.codeline.specs.inner.Coding.{codeOf, Coded}
 use Rattle.codeline.specs.Answers.{headerNumbers}
 use Rattle.codeline.proofs.Answered.{header-refused}
-use Rattle.layered.specs.inner.Frames.{roomFault}
+use Rattle.layered.specs.inner.Frames.{roomFaultOf}
 use Rattle.layered.proofs.Runs.{checks-count}
 use Rattle.layered.proofs.Decoded.{used-is}
 use Rattle.channels.specs.declared.service.Layout.{Layout}
 use Rattle.channels.specs.Channels.{results, refusing, roomFaultFor, under, channels}
 use Rattle.channels.specs.inner.Rounds.{Standing, standing, roundsAt, loadedTo, RoomFor, Asked, Ends, replyBy, statusAt, countAt, Serves}
 use Rattle.channels.specs.Answers.{Gives}
-use Rattle.channels.specs.inner.Layouts.{LayoutRoom, LaidOut, Shaped, countFault, faultFor, FaultRoom, UnderRoom}
+use Rattle.channels.specs.inner.Layouts.{LayoutRoom, LaidOut, Fitted, countFault, faultFor, FaultRoom, UnderRoom}
 use Rattle.channels.proofs.Parts.{room-for}
 use Rattle.channels.proofs.Ends.{eight-end}
 use Rattle.channels.proofs.Quiet.{round-left}
@@ -75,7 +75,7 @@ rounds-left C n k l l′ e = rw e (go k)
     go (suc k) = ⊎-elim (λ o. rw o (go k)) (λ o. omega (arith, go k)) (round-left C n (roundsAt C n k l))
 
 -- lengths whose multiples fit
-pub fault-room : (C : Code) (z : Layout) (ds cs ws : List ℕ) → Shaped C z ds cs ws → (n : ℕ) → n ≤ 8 → FaultRoom n z
+pub fault-room : (C : Code) (z : Layout) (ds cs ws : List ℕ) → Fitted C z ds cs ws → (n : ℕ) → n ≤ 8 → FaultRoom n z
 fault-room C z ds cs ws H n h =
     record {
       few = h;
@@ -84,13 +84,13 @@ fault-room C z ds cs ws H n h =
       store = omega (arith, H .store-is, used-high C (H .good));
     }
 
-module _ (C : Code) (z : Layout) (ds cs ws : List ℕ) (H : Shaped C z ds cs ws) (n A : ℕ) (low : 1 ≤ n) (high : n ≤ 8) (some : 0 < A) (code : List ℕ) (line : parse code ≡ good C)
+module _ (C : Code) (z : Layout) (ds cs ws : List ℕ) (H : Fitted C z ds cs ws) (n A : ℕ) (low : 1 ≤ n) (high : n ≤ 8) (some : 0 < A) (code : List ℕ) (line : parse code ≡ good C)
     (fs y p s v : List ℕ) (k : ℕ) (e : k ≡ faultFor n z (length fs) (length y) (length p) (length s) (length v)) where
   abbrev b : Buffers
   b = lending y p s v
 
   fault-is : k ≡ pick (eqb (length fs) (n * (C .columns * size C))) (roomFaultFor C n b) 12
-  unfolding faultFor roomFault roomFaultFor
+  unfolding faultFor roomFaultOf roomFaultFor
   fault-is = e ∙ rw (H .columns-is, H .costs-is, H .store-is)
 
   under-is : channels n A code fs b ≡ under (good C) n A fs b
@@ -163,7 +163,7 @@ module _ (C : Code) (z : Layout) (ds cs ws : List ℕ) (H : Shaped C z ds cs ws)
           }
 
 -- the layout of a code that is read
-shaped-of : (k : Numbers) (ds cs ws : List ℕ) → Coded k ds cs ws → (z : Layout) → LaidOut k ds z → Shaped (codeOf k ds cs ws) z ds cs ws
+shaped-of : (k : Numbers) (ds cs ws : List ℕ) → Coded k ds cs ws → (z : Layout) → LaidOut k ds z → Fitted (codeOf k ds cs ws) z ds cs ws
 shaped-of k ds cs ws T z L =
     record {
       coded = rw (L .numbers-is) T;
@@ -205,6 +205,6 @@ module _ (s₀ : List ℕ) (k : Numbers) (ds cs ws : List ℕ) (T : Coded k ds c
       }
 
   pub line-gives : (c A : ℕ) (fs : List ℕ) (b : Buffers) (x y : ℕ) (p q : List ℕ) (b′ : Buffers)
-      → ((code : List ℕ) (C : Code) → parse code ≡ good C → Shaped C z ds cs ws → Gives (channels c A code fs b) x y p q b′)
+      → ((code : List ℕ) (C : Code) → parse code ≡ good C → Fitted C z ds cs ws → Gives (channels c A code fs b) x y p q b′)
       → Gives (channels c A s₀ fs b) x y p q b′
   line-gives c A fs b x y p q b′ W = W s₀ (codeOf k ds cs ws) e (shaped-of k ds cs ws T z L)

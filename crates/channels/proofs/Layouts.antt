@@ -26,7 +26,7 @@ use Rattle.layered.specs.inner.Stages.{StepRoom as IterateRoom}
 use Rattle.channels.specs.declared.service.Layout.{Layout}
 use Rattle.channels.specs.Channels.{frameOf, ownOf}
 use Rattle.channels.specs.inner.Rounds.{lentIn, statusOf, patchAt, loadAt, stepAt}
-use Rattle.channels.specs.inner.Layouts.{Shaped, Puts, OnePart, PartRoom}
+use Rattle.channels.specs.inner.Layouts.{Fitted, Puts, OnePart, PartRoom}
 use Rattle.layered.proofs.Columns.{length-part}
 use Rattle.channels.proofs.Parts.{Exact}
 use Rattle.channels.proofs.Serves.{further-own}
@@ -42,7 +42,7 @@ between l w k e c = rw (add-sub-cancel-left (c * w) w, e)
 put-between : (l x : List ℕ) (w k : ℕ) → w ≡ k → (c : ℕ) → patch l (c * w) (c * w + w - c * w) x ≡ patch l (c * k) k x
 put-between l x w k e c = rw (add-sub-cancel-left (c * w) w, e)
 
-module _ (C : Code) (z : Layout) (ds cs ws : List ℕ) (H : Shaped C z ds cs ws) where
+module _ (C : Code) (z : Layout) (ds cs ws : List ℕ) (H : Fitted C z ds cs ws) where
   limit-is : z .numbers .limit ≡ C .limit
   limit-is = ap (λ (D : Code). D .limit) (H .code-is)
 
@@ -272,7 +272,7 @@ module _ (C : Code) (z : Layout) (ds cs ws : List ℕ) (H : Shaped C z ds cs ws)
               }
 
 -- two codes of one layout have parts of the same lengths
-module _ (C D : Code) (z : Layout) (ds cs ws : List ℕ) (H : Shaped C z ds cs ws) (K : Shaped D z ds cs ws) where
+module _ (C D : Code) (z : Layout) (ds cs ws : List ℕ) (H : Fitted C z ds cs ws) (K : Fitted D z ds cs ws) where
   columns-same : D .columns ≡ C .columns
   columns-same = sym (K .columns-is) ∙ H .columns-is
 
@@ -304,7 +304,7 @@ module _ (C D : Code) (z : Layout) (ds cs ws : List ℕ) (H : Shaped C z ds cs w
 abbrev pub someStore : Code → ℕ → List ℕ
 someStore C c = replicate (c * used C + used C) 0
 
-pub some-room : (C : Code) (z : Layout) (ds cs ws : List ℕ) → Shaped C z ds cs ws → (c : ℕ) (y p v : List ℕ)
+pub some-room : (C : Code) (z : Layout) (ds cs ws : List ℕ) → Fitted C z ds cs ws → (c : ℕ) (y p v : List ℕ)
     → c * C .columns + C .columns ≤ length y → c * (C .columns * size C) + C .columns * size C ≤ length p → c * C .columns + C .columns ≤ length v
     → PartRoom C c (lending y p (someStore C c) v)
 some-room C z ds cs ws H c y p v i j k =

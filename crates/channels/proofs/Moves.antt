@@ -13,7 +13,7 @@ use Rattle.machine.specs.Decoding.{Buffers}
 use Rattle.machine.proofs.Ranges.{column-room}
 use Rattle.channels.specs.declared.service.Layout.{Layout}
 use Rattle.channels.specs.inner.Rounds.{Standing, standing, statusAt, countAt, stepAt, loadAt, loadedAt, loadedTo, movedAt, servingAt, roundAt, RoomFor}
-use Rattle.channels.specs.inner.Layouts.{Shaped, Puts, OnePart, AllParts, PartRoom, StepRoom, ServeRoom}
+use Rattle.channels.specs.inner.Layouts.{Fitted, Puts, OnePart, AllParts, PartRoom, NextRoom, ServeRoom}
 use Rattle.channels.proofs.Serves.{serving-serves, round-serves}
 use Rattle.channels.proofs.Quiet.{less-law}
 
@@ -54,7 +54,7 @@ module _ (C : Code) (c : ℕ) (l : Standing) where
 
 -- what an iteration of a running channel asks
 module _ (n : ℕ) (z : Layout) (ds cs ws : List ℕ) (l : Standing) (A S : List ℕ) (R : ServeRoom n z ds cs ws l A S) (c : ℕ) (h : c < n) (e : statusAt l c ≡ 20) where
-  pub step-room : StepRoom c (countAt l c) z ds cs ws (l .buffers) A S
+  pub step-room : NextRoom c (countAt l c) z ds cs ws (l .buffers) A S
   step-room =
       record {
         code = R .code;
@@ -73,7 +73,7 @@ module _ (n : ℕ) (z : Layout) (ds cs ws : List ℕ) (l : Standing) (A S : List
 
 -- after a serving there is room for the next one
 pub serve-next : (n : ℕ) (z : Layout) (ds cs ws : List ℕ) (l : Standing) (A S : List ℕ) → ServeRoom n z ds cs ws l A S → (c : ℕ) → c < n
-    → (l′ : Standing) (A′ S′ : List ℕ) → ((C : Code) → Shaped C z ds cs ws → l′ ≡ servingAt C c l) → length A′ ≡ length A → length S′ ≡ length S
+    → (l′ : Standing) (A′ S′ : List ℕ) → ((C : Code) → Fitted C z ds cs ws → l′ ≡ servingAt C c l) → length A′ ≡ length A → length S′ ≡ length S
     → ServeRoom n z ds cs ws l′ A′ S′
 serve-next n z ds cs ws l A S R c h l′ A′ S′ e i j =
     record {
@@ -86,7 +86,7 @@ serve-next n z ds cs ws l A S R c h l′ A′ S′ e i j =
 
 -- and after a round
 pub round-next : (n : ℕ) (z : Layout) (ds cs ws : List ℕ) (l : Standing) (A S : List ℕ) → ServeRoom n z ds cs ws l A S
-    → (l′ : Standing) (A′ S′ : List ℕ) → ((C : Code) → Shaped C z ds cs ws → l′ ≡ roundAt C n l) → length A′ ≡ length A → length S′ ≡ length S
+    → (l′ : Standing) (A′ S′ : List ℕ) → ((C : Code) → Fitted C z ds cs ws → l′ ≡ roundAt C n l) → length A′ ≡ length A → length S′ ≡ length S
     → ServeRoom n z ds cs ws l′ A′ S′
 round-next n z ds cs ws l A S R l′ A′ S′ e i j =
     record {

@@ -10,7 +10,7 @@ ghost use Rattle.machine.specs.CodeLine.{Code};
 ghost use Rattle.machine.specs.Decoding.{lending};
 ghost use Rattle.layered.specs.Answers.{stageOf};
 ghost use Rattle.channels.specs.inner.Rounds.{statusOf, loadAt, stepAt};
-ghost use Rattle.channels.specs.inner.Layouts.{Shaped, OnePart, LoadRoom, StepRoom, Puts};
+ghost use Rattle.channels.specs.inner.Layouts.{Fitted, OnePart, LoadRoom, NextRoom, Puts};
 
 // 20 while running: at the end it is the channel's status.
 fn status_of(s: Stage) -> u8
@@ -38,7 +38,7 @@ pub fn load_at(
     margins: &mut [u16],
 ) -> u8
     requires { ⌜ LoadRoom c z (now degrees) (now columns) (now weights) (now frames) (now symbols) (now costs) (now margins) ⌝ }
-    ensures { λ r. ⌜ ((C : Code) → Shaped C z (now (degrees .entry)) (now (columns .entry)) (now (weights .entry)) → (store : List ℕ)
+    ensures { λ r. ⌜ ((C : Code) → Fitted C z (now (degrees .entry)) (now (columns .entry)) (now (weights .entry)) → (store : List ℕ)
         → OnePart C c store → Puts C c (lending (now (symbols .entry)) (now (costs .entry)) store (now (margins .entry)))
         (loadAt C (now (frames .entry)) c (lending (now (symbols .entry)) (now (costs .entry)) store (now (margins .entry)))) r
         (lending (now (symbols .exit)) (now (costs .exit)) store (now (margins .exit)))) ⌝ }
@@ -79,9 +79,9 @@ pub fn step_at(
     arrived: &mut [u8],
     sent: &mut [u8],
 ) -> u8
-    requires { ⌜ StepRoom c t z (now degrees) (now columns) (now weights) (lending (now symbols) (now costs) (now store) (now margins))
+    requires { ⌜ NextRoom c t z (now degrees) (now columns) (now weights) (lending (now symbols) (now costs) (now store) (now margins))
         (now arrived) (now sent) ⌝ }
-    ensures { λ r. ⌜ ((C : Code) → Shaped C z (now (degrees .entry)) (now (columns .entry)) (now (weights .entry))
+    ensures { λ r. ⌜ ((C : Code) → Fitted C z (now (degrees .entry)) (now (columns .entry)) (now (weights .entry))
         → Puts C c (lending (now (symbols .entry)) (now (costs .entry)) (now (store .entry)) (now (margins .entry)))
         (stepAt C c t (lending (now (symbols .entry)) (now (costs .entry)) (now (store .entry)) (now (margins .entry)))) r
         (lending (now (symbols .exit)) (now (costs .exit)) (now (store .exit)) (now (margins .exit)))) ⌝ }

@@ -7,7 +7,7 @@ ghost use Prim.Native.Nat.{ℕ};
 ghost use Rattle.machine.specs.CodeLine.{Code};
 ghost use Rattle.machine.specs.Decoding.{lending};
 ghost use Rattle.channels.specs.inner.Rounds.{standing, servingAt, loadedTo, roundAt, roundsAt};
-ghost use Rattle.channels.specs.inner.Layouts.{Shaped, AllParts, LoadsRoom, OneRoom, ServeRoom};
+ghost use Rattle.channels.specs.inner.Layouts.{Fitted, AllParts, LoadsRoom, OneRoom, ServeRoom};
 
 // The numbers of the code line, and the lengths of a channel's parts: N, N times q, and the M record lengths added up.
 pub struct Layout {
@@ -32,7 +32,7 @@ pub fn load_all(
 )
     requires { ⌜ LoadsRoom count z (now degrees) (now columns) (now weights) (now frames) (now symbols) (now costs) (now margins)
         (now status) ⌝ }
-    ensures { λ _. ⌜ ((C : Code) → Shaped C z (now (degrees .entry)) (now (columns .entry)) (now (weights .entry))
+    ensures { λ _. ⌜ ((C : Code) → Fitted C z (now (degrees .entry)) (now (columns .entry)) (now (weights .entry))
         → (store counts : List ℕ) (left : ℕ) → AllParts C count store
         → standing (now (status .exit)) counts left (lending (now (symbols .exit)) (now (costs .exit)) store (now (margins .exit)))
         ≡ loadedTo C (now (frames .entry)) count (standing (now (status .entry)) counts left
@@ -75,7 +75,7 @@ fn serve_at(
     requires { ⌜ OneRoom c z (now degrees) (now columns) (now weights)
         (standing (now status) (now counts) left (lending (now symbols) (now costs) (now store) (now margins))) (now arrived)
         (now sent) ⌝ }
-    ensures { λ r. ⌜ ((C : Code) → Shaped C z (now (degrees .entry)) (now (columns .entry)) (now (weights .entry))
+    ensures { λ r. ⌜ ((C : Code) → Fitted C z (now (degrees .entry)) (now (columns .entry)) (now (weights .entry))
         → standing (now (status .exit)) (now (counts .exit)) r
         (lending (now (symbols .exit)) (now (costs .exit)) (now (store .exit)) (now (margins .exit)))
         ≡ servingAt C c (standing (now (status .entry)) (now (counts .entry)) left
@@ -126,7 +126,7 @@ fn round(
     requires { ⌜ ServeRoom count z (now degrees) (now columns) (now weights)
         (standing (now status) (now counts) left (lending (now symbols) (now costs) (now store) (now margins))) (now arrived)
         (now sent) ⌝ }
-    ensures { λ r. ⌜ ((C : Code) → Shaped C z (now (degrees .entry)) (now (columns .entry)) (now (weights .entry))
+    ensures { λ r. ⌜ ((C : Code) → Fitted C z (now (degrees .entry)) (now (columns .entry)) (now (weights .entry))
         → standing (now (status .exit)) (now (counts .exit)) r
         (lending (now (symbols .exit)) (now (costs .exit)) (now (store .exit)) (now (margins .exit)))
         ≡ roundAt C count (standing (now (status .entry)) (now (counts .entry)) left
@@ -176,7 +176,7 @@ pub fn serve(
     requires { ⌜ ServeRoom count z (now degrees) (now columns) (now weights)
         (standing (now status) (now counts) allowance (lending (now symbols) (now costs) (now store) (now margins))) (now arrived)
         (now sent) ⌝ }
-    ensures { λ r. ⌜ ((C : Code) → Shaped C z (now (degrees .entry)) (now (columns .entry)) (now (weights .entry))
+    ensures { λ r. ⌜ ((C : Code) → Fitted C z (now (degrees .entry)) (now (columns .entry)) (now (weights .entry))
         → standing (now (status .exit)) (now (counts .exit)) r
         (lending (now (symbols .exit)) (now (costs .exit)) (now (store .exit)) (now (margins .exit)))
         ≡ roundsAt C count allowance (standing (now (status .entry)) (now (counts .entry)) allowance

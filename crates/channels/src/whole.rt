@@ -12,7 +12,7 @@ ghost use Rattle.machine.specs.CodeLine.{good, Code, parse};
 ghost use Rattle.machine.specs.Decoding.{Buffers, lending};
 ghost use Rattle.channels.specs.Channels.{refusing, channels};
 ghost use Rattle.channels.specs.Answers.{Gives};
-ghost use Rattle.channels.specs.inner.Layouts.{Shaped, LayoutRoom, LaidOut, countFault, faultFor, FaultRoom, UnderRoom};
+ghost use Rattle.channels.specs.inner.Layouts.{Fitted, LayoutRoom, LaidOut, countFault, faultFor, FaultRoom, UnderRoom};
 
 // A refusal of the whole call.
 fn refused(k: u8) -> Served
@@ -105,7 +105,7 @@ fn under_code(
 ) -> Served
     requires { ⌜ UnderRoom count allowance z (now degrees) (now columns) (now weights) (now arrived) (now sent) ⌝ }
     ensures { λ r. ⌜ ((code : List ℕ) (C : Code) → parse code ≡ good C
-        → Shaped C z (now (degrees .entry)) (now (columns .entry)) (now (weights .entry))
+        → Fitted C z (now (degrees .entry)) (now (columns .entry)) (now (weights .entry))
         → Gives (channels count allowance code (now (frames .entry))
         (lending (now (symbols .entry)) (now (costs .entry)) (now (store .entry)) (now (margins .entry)))) (r .number) (r .spent)
         (r .status) (r .iterations) (lending (now (symbols .exit)) (now (costs .exit)) (now (store .exit)) (now (margins .exit)))) ⌝ }

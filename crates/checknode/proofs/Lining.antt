@@ -18,15 +18,15 @@ use Rattle.engine.specs.inner.Lines.{placed}
 use Rattle.field.specs.Answers.{rowOf}
 use Rattle.field.proofs.Blocks.{part-room, block-at}
 use Rattle.field.proofs.Filling.{row-full}
-use Rattle.checknode.specs.inner.Lines.{PlaceRoom, ColumnRoom, LinesRoom, lineFrom, restsFrom, restsOf, sentFrom, sentColumn, SendRoom, SendsRoom}
+use Rattle.checknode.specs.inner.Lines.{PutRoom, ColumnRoom, LinesRoom, lineFrom, restsFrom, restsOf, sentIn, sentColumn, SentRoom, SendsRoom}
 use Rattle.checknode.proofs.Turns.{part-is, ready-times}
 
-pub rest-below : (costs row line : List ℕ) (s x : ℕ) → PlaceRoom costs row s line → x < length costs → xor (getD row x 0) s < length line
+pub rest-below : (costs row line : List ℕ) (s x : ℕ) → PutRoom costs row s line → x < length costs → xor (getD row x 0) s < length line
 unfolding xor
 rest-below costs row line s x P h = omega (arith, P .wide, xor-lt (P .p) _ _ (P .below x h) (P .s-below))
 
 -- some symbols of a column by themselves, from x on
-pub room-part : (costs row line l : List ℕ) (s x m : ℕ) → PlaceRoom costs row s line → x + m ≤ length costs → length l ≡ length line → PlaceRoom (part costs x m) (part row x m) s l
+pub room-part : (costs row line l : List ℕ) (s x m : ℕ) → PutRoom costs row s line → x + m ≤ length costs → length l ≡ length line → PutRoom (part costs x m) (part row x m) s l
 room-part costs row line l s x m P h e =
     let c : length (part costs x m) ≡ m = simp (length-take, length-drop) (omega arith) in
     let r : length (part row x m) ≡ m = simp (length-take, length-drop) (omega (arith, P .full)) in
@@ -49,7 +49,7 @@ unfolding placed
 length-placed costs row s zero l = refl
 length-placed costs row s (suc q) l = simp length-set (length-placed costs row s q l)
 
-pub place-room : (costs row line : List ℕ) {z : ℕ} → ColumnRoom costs row line → z ≡ firstZero costs → PlaceRoom costs row (getD row z 0) line
+pub place-room : (costs row line : List ℕ) {z : ℕ} → ColumnRoom costs row line → z ≡ firstZero costs → PutRoom costs row (getD row z 0) line
 place-room costs row line {z} C e =
     record {
       p = C .p;
@@ -156,10 +156,10 @@ lines-turn first ws cs l n D i w lines₀ lines {r} e h f g k =
     block-more (restsOf (powerOf first) ws cs l) l (rests-full (powerOf first) ws cs l) lines₀ lines n h (k ∙ rw (m, part-is first ws cs D n i w e) refl)
 
 -- one symbol's cost more
-pub send-turn : (row : List ℕ) (s : ℕ) (rests out₀ out : List ℕ) (x : ℕ) {i r : ℕ} → x < length out₀ → out ≡ tab (sentFrom row s rests) x ++ drop x out₀ → i ≡ bitXor (getD row x 0) s → r ≡ 255 - getD rests i 0
-    → set out x r ≡ tab (sentFrom row s rests) (x + 1) ++ drop (x + 1) out₀
+pub send-turn : (row : List ℕ) (s : ℕ) (rests out₀ out : List ℕ) (x : ℕ) {i r : ℕ} → x < length out₀ → out ≡ tab (sentIn row s rests) x ++ drop x out₀ → i ≡ bitXor (getD row x 0) s → r ≡ 255 - getD rests i 0
+    → set out x r ≡ tab (sentIn row s rests) (x + 1) ++ drop (x + 1) out₀
 unfolding xor
-send-turn row s rests out₀ out x h e k o = rw (e, o, k) (tab-more (sentFrom row s rests) out₀ x h)
+send-turn row s rests out₀ out x h e k o = rw (e, o, k) (tab-more (sentIn row s rests) out₀ x h)
 
 -- the loop over the columns
 module _ (w l : ℕ) (rows shifts rests out : List ℕ) (R : SendsRoom w l rows shifts rests out) (n : ℕ) (h : n < length shifts) where
@@ -173,7 +173,7 @@ module _ (w l : ℕ) (rows shifts rests out : List ℕ) (R : SendsRoom w l rows 
     part-long : length (take (n * w + w - n * w) (drop (n * w) now)) ≡ w
     part-long = simp (length-take, length-drop) (omega (arith, send-bounds .2))
 
-    pub send-room : SendRoom (take (n * w + w - n * w) (drop (n * w) rows)) (getD shifts n 0) (take (n * l + l - n * l) (drop (n * l) rests)) (take (n * w + w - n * w) (drop (n * w) now))
+    pub send-room : SentRoom (take (n * w + w - n * w) (drop (n * w) rows)) (getD shifts n 0) (take (n * l + l - n * l) (drop (n * l) rests)) (take (n * w + w - n * w) (drop (n * w) now))
     send-room =
         let r : length (take (n * w + w - n * w) (drop (n * w) rows)) ≡ w = simp (length-take, length-drop) (omega (arith, send-bounds .0)) in
         let t : length (take (n * l + l - n * l) (drop (n * l) rests)) ≡ l = simp (length-take, length-drop) (omega (arith, send-bounds .1)) in
@@ -186,7 +186,7 @@ module _ (w l : ℕ) (rows shifts rests out : List ℕ) (R : SendsRoom w l rows 
               rw (t, g) (R .below n x h k);
         }
 
-    pub send-done : {r : List ℕ} → r ≡ tab (sentFrom (take (n * w + w - n * w) (drop (n * w) rows)) (getD shifts n 0) (take (n * l + l - n * l) (drop (n * l) rests))) (length (take (n * w + w - n * w) (drop (n * w) now)))
+    pub send-done : {r : List ℕ} → r ≡ tab (sentIn (take (n * w + w - n * w) (drop (n * w) rows)) (getD shifts n 0) (take (n * l + l - n * l) (drop (n * l) rests))) (length (take (n * w + w - n * w) (drop (n * w) now)))
         → r ≡ sentColumn w l rows shifts rests n
     send-done e = e ∙ rw (part-long, add-sub-cancel-left (n * w) w, add-sub-cancel-left (n * l) l) refl
 

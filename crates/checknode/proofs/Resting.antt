@@ -32,7 +32,7 @@ use Rattle.tables.proofs.Meaning.{Asked, sent-means}
 use Rattle.groups.proofs.Meaning.{groups-mean}
 use Rattle.checknode.specs.inner.Asks.{shiftsOf}
 use Rattle.field.specs.Answers.{rowOf}
-use Rattle.checknode.specs.inner.Lines.{restsOf, sideOf, Rests, sentFrom, sentColumn, SendsRoom}
+use Rattle.checknode.specs.inner.Lines.{restsOf, sideOf, Rests, sentIn, sentColumn, SendsRoom}
 use Rattle.field.proofs.Blocks.{in-block}
 use Rattle.field.proofs.Filling.{row-full}
 use Rattle.checknode.proofs.Turns.{ready-times}
@@ -149,7 +149,7 @@ module _ (first : ℕ) (ws cs : List ℕ) (D : Ready first ws cs) where
 
     -- what each column is sent, by symbols
     sent-one : (rows rests : List ℕ) → rows ≡ blocks (rowOf p ws) (length ws) → Rests first ws cs rests → (n x : ℕ) → n < length ws → x < q
-        → sentFrom (part rows (n * q) q) (getD (shiftsOf p ws cs) n 0) (part rests (n * l) l) x ≡ sent (ruleFor first) cols n x
+        → sentIn (part rows (n * q) q) (getD (shiftsOf p ws cs) n 0) (part rests (n * l) l) x ≡ sent (ruleFor first) cols n x
     sent-one rows rests e S n x h k =
         let i : n < length cols = omega (arith, length-columns q ws cs) in
         let P = ready-proper first ws cs D in

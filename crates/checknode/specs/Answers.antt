@@ -17,8 +17,8 @@ unfoldable pub zeroOk : ℕ → List ℕ → ℕ → Bool
 zeroOk q cs n = ltb (firstZero (costsAt q cs n)) q
 
 -- "Check: 6, 9, 11, 12, 13, 4." (SPEC 8.5)
-abbrev pub checkTests : ℕ → List ℕ → List ℕ → ℕ → List Test
-checkTests f ws cs room =
+abbrev pub checkCallTests : ℕ → List ℕ → List ℕ → ℕ → List Test
+checkCallTests f ws cs room =
     weightTests f ws
     ++ (unless (eqb (length cs) (length ws * sizeOf f)) 12
     ∷ unless (allTo (zeroOk (sizeOf f) cs) (length ws)) 13
@@ -26,7 +26,7 @@ checkTests f ws cs room =
     ∷ [])
 
 abbrev pub checkCases {ℓ} : {A : Type ℓ} → ℕ → List ℕ → List ℕ → ℕ → (ℕ → A) → A → A
-checkCases f ws cs room bad good = refusedBy (checkTests f ws cs room) bad good
+checkCases f ws cs room bad good = refusedBy (checkCallTests f ws cs room) bad good
 
 -- the number of a check's refusal where the record buffer has `room` bytes, 0 for none
 unfoldable pub checkFault : ℕ → List ℕ → List ℕ → ℕ → ℕ
@@ -43,7 +43,8 @@ checkLeaves f ws cs out =
 -- a check's record and its sent costs in one call: refused as a check is, then by 2 where the buffer for the d times q sent costs, of
 -- `many` bytes, is too short. It returns the length of the record, as a check does (SPEC 7.7.4)
 abbrev pub messagesCases {ℓ} : {A : Type ℓ} → ℕ → List ℕ → List ℕ → ℕ → ℕ → (ℕ → A) → A → A
-messagesCases f ws cs room many bad good = refusedBy (checkTests f ws cs room ++ (when (ltb many (length ws * sizeOf f)) 2 ∷ [])) bad good
+messagesCases f ws cs room many bad good =
+    refusedBy (checkCallTests f ws cs room ++ (when (ltb many (length ws * sizeOf f)) 2 ∷ [])) bad good
 
 unfoldable pub messagesReply : ℕ → List ℕ → List ℕ → List ℕ → List ℕ → Reply
 messagesReply f ws cs out sent =

@@ -11,7 +11,7 @@ ghost use Rattle.trellis.specs.Ready.{Ready};
 ghost use Rattle.engine.specs.inner.Terms.{termOf, sumTo};
 ghost use Rattle.engine.specs.inner.Lines.{placed};
 ghost use Rattle.field.specs.Answers.{rowOf};
-ghost use Rattle.checknode.specs.inner.Lines.{PlaceRoom, ColumnRoom, lineFrom, restsOf, LinesRoom};
+ghost use Rattle.checknode.specs.inner.Lines.{PutRoom, ColumnRoom, lineFrom, restsOf, LinesRoom};
 
 // The row of a symbol, from its product.
 fn row_of(product: u8, s: u8) -> usize
@@ -30,7 +30,7 @@ fn rest_of(cost: u8) -> u8
 // The rests of four symbols, put into their rows. All are read before the first is written: a read behind a write may have to wait
 // until the row of that write is known.
 fn put_four(costs: &[u8], row: &[u8], s: u8, line: &mut [u8])
-    requires { ⌜ PlaceRoom (now costs) (now row) s (now line) ⌝ }
+    requires { ⌜ PutRoom (now costs) (now row) s (now line) ⌝ }
     requires { ⌜ length (now costs) ≡ 4 ⌝ }
     ensures { λ _. ⌜ now (line .exit) ≡ placed (now (costs .entry)) (now (row .entry)) s 4 (now (line .entry)) ⌝ }
 {
@@ -50,7 +50,7 @@ fn put_four(costs: &[u8], row: &[u8], s: u8, line: &mut [u8])
 
 // One column's rests, put into their rows.
 fn place(costs: &[u8], row: &[u8], s: u8, line: &mut [u8])
-    requires { ⌜ PlaceRoom (now costs) (now row) s (now line) ⌝ }
+    requires { ⌜ PutRoom (now costs) (now row) s (now line) ⌝ }
     requires { ⌜ length (now costs) % 4 ≡ 0 ⌝ }
     ensures { λ _. ⌜
         now (line .exit) ≡ placed (now (costs .entry)) (now (row .entry)) s (length (now (costs .entry))) (now (line .entry)) ⌝ }

@@ -3,7 +3,7 @@ ghost use mathlib.Core.Path.{_≡_};
 ghost use Prim.Native.Nat.{_-_, _*_, _<_};
 ghost use lib.ListN.{length};
 ghost use Rattle.trellis.specs.Lists.{tab, blocks};
-ghost use Rattle.checknode.specs.inner.Lines.{sentFrom, sentColumn, SendRoom, SendsRoom};
+ghost use Rattle.checknode.specs.inner.Lines.{sentIn, sentColumn, SentRoom, SendsRoom};
 
 // The cost of a rest.
 fn cost_of(rest: u8) -> u8
@@ -14,8 +14,8 @@ fn cost_of(rest: u8) -> u8
 
 // One column: symbol x is sent what stands in its row, its product moved by the shift.
 fn column(row: &[u8], s: u8, rests: &[u8], out: &mut [u8])
-    requires { ⌜ SendRoom (now row) s (now rests) (now out) ⌝ }
-    ensures { λ _. ⌜ now (out .exit) ≡ tab (sentFrom (now (row .entry)) s (now (rests .entry))) (length (now (out .entry))) ⌝ }
+    requires { ⌜ SentRoom (now row) s (now rests) (now out) ⌝ }
+    ensures { λ _. ⌜ now (out .exit) ≡ tab (sentIn (now (row .entry)) s (now (rests .entry))) (length (now (out .entry))) ⌝ }
 {
     let mut x = 0;
     while x < out.len() {

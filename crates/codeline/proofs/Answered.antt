@@ -10,7 +10,7 @@ use Rattle.machine.specs.inner.Tables.{Tabled}
 use Rattle.codeline.specs.declared.answers.Header.{Header}
 use Rattle.codeline.specs.declared.answers.Header.the-variants.{Read as HeaderRead, Refused as HeaderRefused}
 use Rattle.codeline.specs.declared.answers.Numbers.{Numbers as LineNumbers}
-use Rattle.codeline.specs.Answers.{numbersIn, headerNumbers, degreesOf, columnsOf, weightsOf, leftIn}
+use Rattle.codeline.specs.Answers.{numbersIn, headerNumbers, degreeTable, columnTable, weightTable, leftIn}
 use Rattle.codeline.specs.inner.Reading.{CountFits, checksIn, handed}
 
 -- the line is accepted, and these are the numbers of its code
@@ -78,7 +78,7 @@ module _ (s : List ℕ) (h : Header) (e : headerNumbers h ≡ numbersOf (parse s
       go (HeaderRead k) o u = let r = rw o at f in omega (arith, r)
       go (HeaderRefused k) o u = let z : _≡_ {A = ℕ} 0 1 = cc in absurd (omega arith)
 
-  pub taken-degrees : (ds : List ℕ) → take (length (C .checks)) ds ≡ degreesOf C → take (checksIn h) ds ≡ degreesOf C
+  pub taken-degrees : (ds : List ℕ) → take (length (C .checks)) ds ≡ degreeTable C → take (checksIn h) ds ≡ degreeTable C
   taken-degrees ds t = ap (λ n. take n ds) (go h refl (e ∙ ap numbersOf a)) ∙ t
     where
       go : (k : Header) → h ≡ k → headerNumbers h ≡ numbersOf (good C) → checksIn h ≡ length (C .checks)
@@ -88,10 +88,10 @@ module _ (s : List ℕ) (h : Header) (e : headerNumbers h ≡ numbersOf (parse s
       go (HeaderRefused k) o u = let z : _≡_ {A = ℕ} 0 1 = cc in absurd (omega arith)
 
 -- what the tables then start with
-pub tables-left : (s ds cs ws : List ℕ) {d c w : List ℕ} → d ≡ leftIn degreesOf (parse s) ds → c ≡ leftIn columnsOf (parse s) cs → w ≡ leftIn weightsOf (parse s) ws
+pub tables-left : (s ds cs ws : List ℕ) {d c w : List ℕ} → d ≡ leftIn degreeTable (parse s) ds → c ≡ leftIn columnTable (parse s) cs → w ≡ leftIn weightTable (parse s) ws
     → (C : Code) → parse s ≡ good C → Tabled C d c w
 tables-left s ds cs ws a b e C i =
-    record { degrees = front degreesOf ds a; columns = front columnsOf cs b; weights = front weightsOf ws e }
+    record { degrees = front degreeTable ds a; columns = front columnTable cs b; weights = front weightTable ws e }
   where
     front : (f : Code → List ℕ) (l : List ℕ) {r : List ℕ} → r ≡ leftIn f (parse s) l → take (length (f C)) r ≡ f C
     front f l o = ap (take (length (f C))) (rw i at o) ∙ take-at (f C) (drop (length (f C)) l) (length (f C)) refl

@@ -5,7 +5,7 @@ use Prim.Native.Nat.{ℕ, _≤_}
 use native.Mathlib.Omega.{arith}
 use lib.ListN.{length, length-map}
 use Rattle.machine.specs.CodeLine.{Read, good, bad, Edge, Code, numbersOf, parse}
-use Rattle.machine.specs.inner.Tables.{tablesOf, before, checksFrom, Tabled}
+use Rattle.machine.specs.inner.Tables.{tablesOf, edgesBefore, checksFrom, Tabled}
 use Rattle.machine.specs.inner.Accepted.{GoodCode}
 use Rattle.machine.proofs.Lines.{parse-good}
 use Rattle.machine.proofs.Places.{start-length}
@@ -14,12 +14,12 @@ use Rattle.machine.proofs.InTables.{checks-say, before-own}
 use Rattle.codeline.specs.declared.answers.Numbers.{Numbers}
 use Rattle.codeline.specs.declared.answers.Header.{Header}
 use Rattle.codeline.specs.declared.answers.Header.the-variants.{Read as HeaderRead}
-use Rattle.codeline.specs.Answers.{headerNumbers, degreesOf, columnsOf, weightsOf, leftIn}
+use Rattle.codeline.specs.Answers.{headerNumbers, degreeTable, columnTable, weightTable, leftIn}
 use Rattle.codeline.specs.inner.Coding.{codeOf, Coded}
 use Rattle.codeline.proofs.Answered.{Accepted, header-read, tables-left}
 
 module _ (s : List ℕ) (h : Header) (e : headerNumbers h ≡ numbersOf (parse s)) (k : Numbers) (i : h ≡ HeaderRead k)
-    (ds₀ cs₀ ws₀ ds cs ws : List ℕ) (d : ds ≡ leftIn degreesOf (parse s) ds₀) (c : cs ≡ leftIn columnsOf (parse s) cs₀) (w : ws ≡ leftIn weightsOf (parse s) ws₀) where
+    (ds₀ cs₀ ws₀ ds cs ws : List ℕ) (d : ds ≡ leftIn degreeTable (parse s) ds₀) (c : cs ≡ leftIn columnTable (parse s) cs₀) (w : ws ≡ leftIn weightTable (parse s) ws₀) where
   accepted : Accepted s k
   accepted = header-read s h e k i
 
@@ -43,10 +43,10 @@ module _ (s : List ℕ) (h : Header) (e : headerNumbers h ≡ numbersOf (parse s
   line-coded =
       let A = accepted in
       let G : GoodCode (codeOf k ds cs ws) = rw same (parse-good s (A .code) (A .parsed)) in
-      let b : before ds (k .checks) ≡ before (degreesOf (A .code)) (length (A .code .checks)) = ap (before ds) (A .checks-is) ∙ before-own (A .code) ds cs ws tabled in
+      let b : edgesBefore ds (k .checks) ≡ edgesBefore (degreeTable (A .code)) (length (A .code .checks)) = ap (edgesBefore ds) (A .checks-is) ∙ before-own (A .code) ds cs ws tabled in
       record {
         good = G;
-        for-degrees = omega (arith, A .checks-is, start-length ds (degreesOf (A .code)) (tabled .degrees), length-map (A .code .checks) (λ es. length es));
-        for-columns = rw (b, ← length-table (λ e. e .column) (A .code .checks)) (start-length cs (columnsOf (A .code)) (tabled .columns));
-        for-weights = rw (b, ← length-table (λ e. e .weight) (A .code .checks)) (start-length ws (weightsOf (A .code)) (tabled .weights));
+        for-degrees = omega (arith, A .checks-is, start-length ds (degreeTable (A .code)) (tabled .degrees), length-map (A .code .checks) (λ es. length es));
+        for-columns = rw (b, ← length-table (λ e. e .column) (A .code .checks)) (start-length cs (columnTable (A .code)) (tabled .columns));
+        for-weights = rw (b, ← length-table (λ e. e .weight) (A .code .checks)) (start-length ws (weightTable (A .code)) (tabled .weights));
       }

@@ -29,11 +29,11 @@ pub record Told : Type 0 where
   pub limit : ℕ
   pub store : ℕ
 
-abbrev pub refusedBy : ℕ → Told
-refusedBy k = record { number = k; first = 0; columns = 0; checks = 0; scale = 0; limit = 0; store = 0 }
+abbrev pub toldRefused : ℕ → Told
+toldRefused k = record { number = k; first = 0; columns = 0; checks = 0; scale = 0; limit = 0; store = 0 }
 
 abbrev pub summaryOf : Read Code → Told
-summaryOf (bad k) = refusedBy k
+summaryOf (bad k) = toldRefused k
 summaryOf (good C) =
     record {
       number = 0;
@@ -56,14 +56,14 @@ pub record Tells (t : Told) (s : Summary) : Type 0 where
   pub store-is : s .store ≡ t .store
 
 -- a code's degrees, and all its columns and weights end to end
-abbrev pub degreesOf : Code → List ℕ
-degreesOf C = tablesOf (C .checks) .degrees
+abbrev pub degreeTable : Code → List ℕ
+degreeTable C = tablesOf (C .checks) .degrees
 
-abbrev pub columnsOf : Code → List ℕ
-columnsOf C = tablesOf (C .checks) .edges .columns
+abbrev pub columnTable : Code → List ℕ
+columnTable C = tablesOf (C .checks) .edges .columns
 
-abbrev pub weightsOf : Code → List ℕ
-weightsOf C = tablesOf (C .checks) .edges .weights
+abbrev pub weightTable : Code → List ℕ
+weightTable C = tablesOf (C .checks) .edges .weights
 
 -- what stands in a lent table afterwards: an accepted line's entries first, the rest as it was; a refusal changes nothing
 abbrev pub leftIn : (Code → List ℕ) → Read Code → List ℕ → List ℕ

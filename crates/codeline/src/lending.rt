@@ -4,10 +4,10 @@ ghost use mathlib.Core.Path.{_≡_};
 ghost use Prim.Native.Nat.{_+_, _-_, _*_, _/_, _≤_};
 ghost use Rattle.trellis.specs.Record.{groupLength};
 ghost use Rattle.trellis.specs.Rules.{sizeOf, ruleFor};
-ghost use Rattle.codeline.specs.Answers.{refusedBy, Tells};
+ghost use Rattle.codeline.specs.Answers.{toldRefused, Tells};
 
 pub fn refused(k: u8) -> Summary
-    ensures { λ r. ⌜ Tells (refusedBy k) r ⌝ }
+    ensures { λ r. ⌜ Tells (toldRefused k) r ⌝ }
 {
     Summary {
         number: k,

@@ -11,7 +11,7 @@ use crate::answers::Header;
 use crate::answers::Summary;
 ghost use mathlib.Core.Path.{_≡_};
 ghost use Rattle.machine.specs.CodeLine.{parse, numbersOf};
-ghost use Rattle.codeline.specs.Answers.{headerNumbers, summaryOf, Tells, degreesOf, columnsOf, weightsOf, leftIn};
+ghost use Rattle.codeline.specs.Answers.{headerNumbers, summaryOf, Tells, degreeTable, columnTable, weightTable, leftIn};
 
 // The numbers of a code line, whose checks are read too.
 pub fn code_line(code: &[u8]) -> Header
@@ -52,9 +52,9 @@ pub fn code_tables(
     weights: &mut [u8; 1024],
 ) -> Header
     ensures { λ r. ⌜ headerNumbers r ≡ numbersOf (parse (now (code .entry))) ⌝ }
-    ensures { λ _. ⌜ now (degrees .exit) ≡ leftIn degreesOf (parse (now (code .entry))) (now (degrees .entry)) ⌝ }
-    ensures { λ _. ⌜ now (columns .exit) ≡ leftIn columnsOf (parse (now (code .entry))) (now (columns .entry)) ⌝ }
-    ensures { λ _. ⌜ now (weights .exit) ≡ leftIn weightsOf (parse (now (code .entry))) (now (weights .entry)) ⌝ }
+    ensures { λ _. ⌜ now (degrees .exit) ≡ leftIn degreeTable (parse (now (code .entry))) (now (degrees .entry)) ⌝ }
+    ensures { λ _. ⌜ now (columns .exit) ≡ leftIn columnTable (parse (now (code .entry))) (now (columns .entry)) ⌝ }
+    ensures { λ _. ⌜ now (weights .exit) ≡ leftIn weightTable (parse (now (code .entry))) (now (weights .entry)) ⌝ }
 {
     let mut ds = [0u8; 128];
     let mut cs = [0u16; 1024];

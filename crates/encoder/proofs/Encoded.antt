@@ -13,7 +13,7 @@ use Rattle.trellis.specs.Rules.{powerOf, sizeOf}
 use Rattle.trellis.specs.Reply.{Reply, accepted, refusal}
 use Rattle.machine.specs.CodeLine.{good, Code, power, size, check, edgeAt, numbersOf, parse}
 use Rattle.machine.specs.Machine.{paritySum}
-use Rattle.machine.specs.inner.Tables.{before, tablesOf, sumFrom, Tabled}
+use Rattle.machine.specs.inner.Tables.{edgesBefore, tablesOf, sumFrom, Tabled}
 use Rattle.machine.specs.Encoding.{encodable, lastWeight, ownSymbol, encodeTo, encoded, encodeFault, Wrote, wrote, encodingUnder, encoding}
 use Rattle.machine.specs.inner.Accepted.{GoodCode}
 use Rattle.machine.proofs.Lines.{parse-good}
@@ -24,8 +24,8 @@ use Rattle.codeline.specs.declared.answers.Header.{Header}
 use Rattle.codeline.specs.declared.answers.Header.the-variants.{Read as HeaderRead, Refused as HeaderRefused}
 use Rattle.codeline.specs.Answers.{headerNumbers}
 use Rattle.codeline.proofs.Answered.{Accepted, header-refused, header-read}
-use Rattle.encoder.specs.inner.Words.{lastPlace, ownAt, encodeOn, ownTo, formedOn, encodeFaultOf, Leaves}
-use Rattle.encoder.specs.inner.Rooms.{FillRoom, FormRoom, Lined, LineRoom, LeavesLined}
+use Rattle.encoder.specs.inner.Words.{lastPlace, ownAt, encodeOn, ownTo, formedOn, encodeFaultOf, Writes}
+use Rattle.encoder.specs.inner.Rooms.{FillRoom, EncodableRoom, Lined, LineRoom, LeavesLined}
 
 -- a front that comes back as long as it was lent
 pub front-kept : (l s : List ℕ) (n : ℕ) → n ≤ length l → length s ≡ length (take n l) → length (s ++ drop n l) ≡ length l
@@ -53,7 +53,7 @@ module _ (C : Code) (G : GoodCode C) (cs ws : List ℕ) (hc : take (length (tabl
       let w : encodeOn (power C) ds cs ws u m ≡ encodeTo C u m = words-are u m (omega arith) in
       let d : getD ds m 0 - 1 < getD ds m 0 = omega (arith, some-edge m h) in
       let e : getD ws (lastPlace ds m) 0 ≡ lastWeight (check C m) = weight-flat C cs ws hc hw m h (getD ds m 0 - 1) d ∙ ap (λ k. edgeAt (check C m) (k - 1) .weight) (degree m) in
-      let s : sumFrom (power C) cs ws (encodeTo C u m) (before ds m) (getD ds m 0 - 1) ≡ paritySum (power C) (check C m) (encodeTo C u m) (length (check C m) - 1) =
+      let s : sumFrom (power C) cs ws (encodeTo C u m) (edgesBefore ds m) (getD ds m 0 - 1) ≡ paritySum (power C) (check C m) (encodeTo C u m) (length (check C m) - 1) =
       sum-flat C cs ws hc hw m h (encodeTo C u m) (getD ds m 0 - 1) (omega arith) ∙ ap (λ k. paritySum (power C) (check C m) (encodeTo C u m) (k - 1)) (degree m) in
       rw w (ap (λ x. encodeTo C u m ++ (x ∷ [])) (ap₂ (quotient (power C)) e s))
 
@@ -71,7 +71,7 @@ module _ (C : Code) (G : GoodCode C) (cs ws : List ℕ) (hc : take (length (tabl
   unfolding encodeFaultOf encodeFault
   fault-is u room = rw (form-is, counted)
 
-  pub form-room : FormRoom ds cs
+  pub form-room : EncodableRoom ds cs
   form-room = record { in-columns = all-columns C cs ws hc hw; one = λ m h. some-edge m (omega (arith, counted)); few = omega (arith, counted, G .checks-high) }
 
   -- no refusal: room for the loop, whatever stands after the message
@@ -108,14 +108,14 @@ module _ (C : Code) (first n m : ℕ) (dt cs ws : List ℕ) (H : Lined C first n
   pub degree-count : m ≡ length (take m dt)
   degree-count = H .checks-is ∙ sym (ap length degrees-are ∙ length-map (C .checks) (λ es. length es))
 
-  pub call-form-room : FormRoom (take m dt) cs
+  pub call-form-room : EncodableRoom (take m dt) cs
   call-form-room = rw degrees-are (form-room C (H .good) cs ws hc′ hw′)
 
   module _ (u out : List ℕ) (q k : ℕ) (e : q ≡ sizeOf first) (o : k ≡ encodeFaultOf q n (take m dt) cs u (length out)) where
     pub call-fault : k ≡ encodeFault C u (length out)
     call-fault = o ∙ rw (e, degrees-are, H .first-is, H .columns-is) (fault-is C (H .good) cs ws hc′ hw′ u (length out))
 
-    pub call-refused : (k ≡ 0 → ⊥) → Leaves (encodingUnder (good C) u out) (refusal k) out
+    pub call-refused : (k ≡ 0 → ⊥) → Writes (encodingUnder (good C) u out) (refusal k) out
     call-refused h =
         let x : encodingUnder (good C) u out ≡ wrote (refusal k) out = rw (← call-fault, ne-eqb k 0 h) in
         record { replies = sym (ap (λ (w : Wrote). w .reply) x); out-then = sym (ap (λ (w : Wrote). w .out) x) }
@@ -145,7 +145,7 @@ module _ (C : Code) (first n m : ℕ) (dt cs ws : List ℕ) (H : Lined C first n
         call-fill-room = rw (b, front, degrees-are, H .first-is) (filling-room C (H .good) cs ws hc′ hw′ u rest (length out) no-fault length-rest)
 
         pub call-leaves : (x : List ℕ) → x ≡ encodeOn p (take m dt) cs ws (take (length u) (take n (v ++ drop (length u) out))) (length (take m dt))
-            → Leaves (encodingUnder (good C) u out) (accepted n) (x ++ drop n (v ++ drop (length u) out))
+            → Writes (encodingUnder (good C) u out) (accepted n) (x ++ drop n (v ++ drop (length u) out))
         call-leaves x j =
             let a : take (length u) (take n (v ++ drop (length u) out)) ≡ u = ap (take (length u)) front ∙ take-at u rest (length u) refl in
             let w : encodeOn p (take m dt) cs ws u (length (take m dt)) ≡ encoded C u =
@@ -161,7 +161,7 @@ module _ (C : Code) (first n m : ℕ) (dt cs ws : List ℕ) (H : Lined C first n
 
 -- what the reader's answer says of the line
 module _ (s : List ℕ) (h : Header) (e : headerNumbers h ≡ numbersOf (parse s)) where
-  pub line-refused : (k : ℕ) → h ≡ HeaderRefused k → (u out : List ℕ) → Leaves (encoding s u out) (refusal k) out
+  pub line-refused : (k : ℕ) → h ≡ HeaderRefused k → (u out : List ℕ) → Writes (encoding s u out) (refusal k) out
   unfolding encoding
   line-refused k i u out = rw (header-refused s h e k i) (record { replies = refl; out-then = refl })
 
@@ -184,6 +184,6 @@ module _ (s : List ℕ) (h : Header) (e : headerNumbers h ≡ numbersOf (parse s
       pub line-room : LineRoom (f .first) N M ds cs ws
       line-room = record { code = read .code; lined = lined }
 
-      pub line-encodes : (u out : List ℕ) (r : Reply) (after : List ℕ) → LeavesLined (f .first) N M ds cs ws u out r after → Leaves (encoding s u out) r after
+      pub line-encodes : (u out : List ℕ) (r : Reply) (after : List ℕ) → LeavesLined (f .first) N M ds cs ws u out r after → Writes (encoding s u out) r after
       unfolding encoding
       line-encodes u out r after L = rw (read .parsed) (L (read .code) lined)

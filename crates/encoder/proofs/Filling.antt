@@ -13,7 +13,7 @@ use Rattle.trellis.specs.Field.{xor, product, quotient}
 use Rattle.trellis.proofs.Xor.{xor-lt}
 use Rattle.trellis.proofs.FieldLaws.{fields-at}
 use Rattle.trellis.proofs.Quotients.{quotient-small, times-small}
-use Rattle.machine.specs.inner.Tables.{before, term, sumFrom}
+use Rattle.machine.specs.inner.Tables.{edgesBefore, term, sumFrom}
 use Rattle.machine.proofs.Places.{edge-within, end-within}
 use Rattle.encoder.specs.inner.Words.{lastPlace, ownAt, encodeOn}
 use Rattle.division.specs.Numbers.{QuotientRoom}
@@ -61,15 +61,15 @@ module _ (p : ℕ) (ds cs ws : List ℕ) (from : ℕ) (z : List ℕ) (R : FillRo
   pub length-buffer : (m : ℕ) → m ≤ length ds → length (buffer m) ≡ length z
   length-buffer m h = length-append (word m) (drop (from + m) z) ∙ omega (arith, length-word m, length-drop (from + m) z, R .full)
 
-  front-room : (m : ℕ) → m < length ds → ((i : ℕ) → i < from + m → getD (word m) i 0 < 2 ^ p) → SumRoom p cs ws (buffer m) (before ds m) (getD ds m 0 - 1)
+  front-room : (m : ℕ) → m < length ds → ((i : ℕ) → i < from + m → getD (word m) i 0 < 2 ^ p) → SumRoom p cs ws (buffer m) (edgesBefore ds m) (getD ds m 0 - 1)
   front-room m h S =
       record {
         low = R .low;
         high = R .high;
         each-edge = λ k i.
-            let c : getD cs (before ds m + k) 0 < from + m = R .lower m k h i in
-            let j : before ds m + k < before ds (length ds) = edge-within ds m k (before ds m) (getD ds m 0) h refl refl (omega arith) in
-            let e : getD (buffer m) (getD cs (before ds m + k) 0) 0 ≡ getD (word m) (getD cs (before ds m + k) 0) 0 = List·getD-append (word m) (drop (from + m) z) 0 (getD cs (before ds m + k) 0) (omega (arith, length-word m)) in
+            let c : getD cs (edgesBefore ds m + k) 0 < from + m = R .lower m k h i in
+            let j : edgesBefore ds m + k < edgesBefore ds (length ds) = edge-within ds m k (edgesBefore ds m) (getD ds m 0) h refl refl (omega arith) in
+            let e : getD (buffer m) (getD cs (edgesBefore ds m + k) 0) 0 ≡ getD (word m) (getD cs (edgesBefore ds m + k) 0) 0 = List·getD-append (word m) (drop (from + m) z) 0 (getD cs (edgesBefore ds m + k) 0) (omega (arith, length-word m)) in
             record {
               low = R .low;
               high = R .high;
@@ -77,7 +77,7 @@ module _ (p : ℕ) (ds cs ws : List ℕ) (from : ℕ) (z : List ℕ) (R : FillRo
               in-weights = omega (arith, R .in-weights);
               column = omega (arith, length-buffer m (omega arith), R .full);
               weight = R .small m k h (omega arith);
-              symbol = rw e (S (getD cs (before ds m + k) 0) c);
+              symbol = rw e (S (getD cs (edgesBefore ds m + k) 0) c);
             };
         some = λ k i. R .some m k h (omega arith);
       }
@@ -86,10 +86,10 @@ module _ (p : ℕ) (ds cs ws : List ℕ) (from : ℕ) (z : List ℕ) (R : FillRo
   ownOf m = ownAt p ds cs ws m (word m)
 
   -- the code's symbol, from the whole buffer, is that of the word so far
-  pub own-is : (m : ℕ) → m < length ds → (at d x : ℕ) → at ≡ before ds m → d ≡ getD ds m 0 → x ≡ quotient p (getD ws (at + (d - 1)) 0) (sumFrom p cs ws (buffer m) at (d - 1)) → x ≡ ownOf m
+  pub own-is : (m : ℕ) → m < length ds → (at d x : ℕ) → at ≡ edgesBefore ds m → d ≡ getD ds m 0 → x ≡ quotient p (getD ws (at + (d - 1)) 0) (sumFrom p cs ws (buffer m) at (d - 1)) → x ≡ ownOf m
   unfolding ownAt
   own-is m h at d x e i o =
-      o ∙ rw (e, i) (ap (quotient p (getD ws (lastPlace ds m) 0)) (sum-front p cs ws (word m) (drop (from + m) z) (before ds m) (getD ds m 0 - 1) (λ k j. omega (arith, R .lower m k h j, length-word m))))
+      o ∙ rw (e, i) (ap (quotient p (getD ws (lastPlace ds m) 0)) (sum-front p cs ws (word m) (drop (from + m) z) (edgesBefore ds m) (getD ds m 0 - 1) (λ k j. omega (arith, R .lower m k h j, length-word m))))
 
   word-small : (m : ℕ) → m ≤ length ds → (i : ℕ) → i < from + m → getD (word m) i 0 < 2 ^ p
   unfolding encodeOn
@@ -97,7 +97,7 @@ module _ (p : ℕ) (ds cs ws : List ℕ) (from : ℕ) (z : List ℕ) (R : FillRo
   word-small (suc m) h i l =
       elim (ℕ-discrete i (from + m)) [
         | yes e ↦
-            let s : SumRoom p cs ws (buffer m) (before ds m) (getD ds m 0 - 1) = front-room m h (word-small m (omega arith)) in
+            let s : SumRoom p cs ws (buffer m) (edgesBefore ds m) (getD ds m 0 - 1) = front-room m h (word-small m (omega arith)) in
             let j : i ≡ length (word m) = omega (arith, length-word m) in
             rw (j, getD-append-seam (word m) (ownOf m) [] 0) (small m h s)
         | no e ↦
@@ -105,22 +105,22 @@ module _ (p : ℕ) (ds cs ws : List ℕ) (from : ℕ) (z : List ℕ) (R : FillRo
             rw (List·getD-append (word m) (ownOf m ∷ []) 0 i j) (word-small m (omega arith) i (omega arith))
       ]
     where
-      small : (m : ℕ) → m < length ds → SumRoom p cs ws (buffer m) (before ds m) (getD ds m 0 - 1) → ownOf m < 2 ^ p
+      small : (m : ℕ) → m < length ds → SumRoom p cs ws (buffer m) (edgesBefore ds m) (getD ds m 0 - 1) → ownOf m < 2 ^ p
       small m h s =
           let k : getD ds m 0 - 1 < getD ds m 0 = omega (arith, R .one m h) in
-          let q : QuotientRoom p (getD ws (lastPlace ds m) 0) (sumFrom p cs ws (buffer m) (before ds m) (getD ds m 0 - 1)) =
-          record { divisor = record { low = R .low; high = R .high; some = R .some m _ h k; small = R .small m _ h k }; dividend = sum-small p cs ws (buffer m) (before ds m) (getD ds m 0 - 1) s } in
-          rw (← own-is m h (before ds m) (getD ds m 0) _ refl refl refl) (quotient-small p (fields-at p (R .low) (R .high)) _ (q .divisor .small) (q .divisor .some) _ (q .dividend))
+          let q : QuotientRoom p (getD ws (lastPlace ds m) 0) (sumFrom p cs ws (buffer m) (edgesBefore ds m) (getD ds m 0 - 1)) =
+          record { divisor = record { low = R .low; high = R .high; some = R .some m _ h k; small = R .small m _ h k }; dividend = sum-small p cs ws (buffer m) (edgesBefore ds m) (getD ds m 0 - 1) s } in
+          rw (← own-is m h (edgesBefore ds m) (getD ds m 0) _ refl refl refl) (quotient-small p (fields-at p (R .low) (R .high)) _ (q .divisor .small) (q .divisor .some) _ (q .dividend))
 
   -- the room of a turn
-  pub turn-room : (m : ℕ) → m < length ds → (at d : ℕ) (now : List ℕ) → at ≡ before ds m → d ≡ getD ds m 0 → now ≡ buffer m → OwnRoom p cs ws now at d
+  pub turn-room : (m : ℕ) → m < length ds → (at d : ℕ) (now : List ℕ) → at ≡ edgesBefore ds m → d ≡ getD ds m 0 → now ≡ buffer m → OwnRoom p cs ws now at d
   turn-room m h at d now e i o =
       let k : getD ds m 0 - 1 < getD ds m 0 = omega (arith, R .one m h) in
       rw (e, i, o)
       record {
         one = R .one m h;
         front = front-room m h (word-small m (omega arith));
-        in-weights = omega (arith, R .in-weights, end-within ds m (before ds m) (getD ds m 0) h refl refl);
+        in-weights = omega (arith, R .in-weights, end-within ds m (edgesBefore ds m) (getD ds m 0) h refl refl);
         some = R .some m _ h k;
         small = R .small m _ h k;
       }

@@ -11,7 +11,7 @@ use lib.Dec.{eqb, ltb}
 use lib.ListN.{length, getD}
 use borrow.Author.Tests.{eq-eqb, ne-eqb, lt-ltb, le-ltb, ltb-true}
 use Rattle.trellis.specs.Lists.{allTo}
-use Rattle.machine.specs.inner.Tables.{before}
+use Rattle.machine.specs.inner.Tables.{edgesBefore}
 use Rattle.machine.specs.Encoding.{symbolsOk}
 use Rattle.machine.proofs.Lists.{and-false, all-not}
 use Rattle.encoder.specs.inner.Words.{lastPlace, ownTo, formedOn, encodeFaultOf}
@@ -25,7 +25,7 @@ module _ (n : ℕ) (ds cs : List ℕ) where
   unfolding ownTo
   formed-start = refl
 
-  module _ (from m at d c : ℕ) (f : from ≡ n - length ds) (h : m < length ds) (e : at ≡ before ds m) (i : d ≡ getD ds m 0) (o : c ≡ getD cs (at + (d - 1)) 0) where
+  module _ (from m at d c : ℕ) (f : from ≡ n - length ds) (h : m < length ds) (e : at ≡ edgesBefore ds m) (i : d ≡ getD ds m 0) (o : c ≡ getD cs (at + (d - 1)) 0) where
     at-last : c ≡ getD cs (lastPlace ds m) 0
     at-last = o ∙ ap₂ (λ a d. getD cs (a + (d - 1)) 0) e i
 

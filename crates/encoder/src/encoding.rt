@@ -8,12 +8,12 @@ ghost use mathlib.Core.Path.{_≡_};
 ghost use Rattle.field.specs.Answers.{writtenReply};
 ghost use Rattle.machine.specs.Encoding.{encoding};
 ghost use Rattle.encoder.specs.inner.Words.{encodeFaultOf};
-ghost use Rattle.encoder.specs.inner.Rooms.{FormRoom, LineRoom, LeavesLined};
+ghost use Rattle.encoder.specs.inner.Rooms.{EncodableRoom, LineRoom, LeavesLined};
 
 // "17, the code line lacks this form, after all code refusals; 18, message length is not N - M or a symbol is not below q, after 17;
 // then 2"; 0 for none.
 fn fault(q: usize, n: usize, degrees: &[u8], columns: &[u16], message: &[u8], room: usize) -> u8
-    requires { ⌜ FormRoom (now degrees) (now columns) ⌝ }
+    requires { ⌜ EncodableRoom (now degrees) (now columns) ⌝ }
     ensures { λ r. ⌜ r ≡ encodeFaultOf q n (now (degrees .entry)) (now (columns .entry)) (now (message .entry)) room ⌝ }
 {
     if !form::formed(n, degrees, columns) {

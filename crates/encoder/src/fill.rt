@@ -3,7 +3,8 @@ ghost use mathlib.Core.Path.{_≡_};
 ghost use lib.ListN.{length, take};
 ghost use Rattle.machine.specs.inner.Tables.{term, sumFrom};
 ghost use Rattle.encoder.specs.inner.Words.{ownFrom, encodeOn};
-ghost use Rattle.encoder.specs.inner.Rooms.{EdgeRoom, SumRoom, OwnRoom, FillRoom};
+ghost use Rattle.machine.specs.inner.Tables.{EdgeRoom};
+ghost use Rattle.encoder.specs.inner.Rooms.{SumRoom, OwnRoom, FillRoom};
 
 // What edge k adds to its check's sum.
 fn term_at(p: u8, columns: &[u16], weights: &[u8], symbols: &[u8], k: usize) -> u8

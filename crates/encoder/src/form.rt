@@ -1,11 +1,11 @@
 // The form of a code line that encoding needs, refusal 17.
 ghost use mathlib.Core.Path.{_≡_};
 ghost use Rattle.encoder.specs.inner.Words.{formedOn};
-ghost use Rattle.encoder.specs.inner.Rooms.{FormRoom};
+ghost use Rattle.encoder.specs.inner.Rooms.{EncodableRoom};
 
 // "N exceeds M and check m, counted from 0, contains column N - M + m and no higher one": columns rise, so it is the last.
 pub fn formed(n: usize, degrees: &[u8], columns: &[u16]) -> bool
-    requires { ⌜ FormRoom (now degrees) (now columns) ⌝ }
+    requires { ⌜ EncodableRoom (now degrees) (now columns) ⌝ }
     ensures { λ r. ⌜ r ≡ formedOn n (now (degrees .entry)) (now (columns .entry)) ⌝ }
 {
     if n <= degrees.len() {

@@ -17,7 +17,7 @@ use Rattle.machine.specs.CodeLine.{Code, size, check, edgeAt, columnOf}
 use Rattle.machine.specs.Machine.{found, notFound, symbols, settled}
 use Rattle.machine.specs.Lent.{Lent, lent, updateLent}
 use Rattle.machine.specs.inner.LentEarly.{halted, nextLent, stopLent}
-use Rattle.machine.specs.inner.Tables.{before, bytesBefore, tableAt}
+use Rattle.machine.specs.inner.Tables.{edgesBefore, bytesBefore, tableAt}
 use Rattle.machine.specs.inner.InRange.{Advancing}
 use Rattle.trellis.proofs.Loops.{length-tab}
 use Rattle.machine.proofs.Changed.{redone, redecided-lent}
@@ -53,14 +53,14 @@ module _ (first : ℕ) (ds : List ℕ) (n : ℕ) (p r : Place) (A : Around n p r
           let c : r .check ≡ 0 = A .check-is ∙ ap (λ b. pick b 0 (p .check)) e in
           record {
             check-is = refl;
-            edge-is = A .edge-is ∙ ap (λ b. pick b 0 (p .edge)) e ∙ sym (ap (before ds) c);
+            edge-is = A .edge-is ∙ ap (λ b. pick b 0 (p .edge)) e ∙ sym (ap (edgesBefore ds) c);
             byte-is = A .byte-is ∙ ap (λ b. pick b 0 (p .byte)) e ∙ sym (ap (bytesBefore first ds) c);
           }
       by false e =
           let c : r .check ≡ p .check = A .check-is ∙ ap (λ b. pick b 0 (p .check)) e in
           record {
             check-is = refl;
-            edge-is = A .edge-is ∙ ap (λ b. pick b 0 (p .edge)) e ∙ S .edge-is ∙ sym (ap (before ds) c);
+            edge-is = A .edge-is ∙ ap (λ b. pick b 0 (p .edge)) e ∙ S .edge-is ∙ sym (ap (edgesBefore ds) c);
             byte-is = A .byte-is ∙ ap (λ b. pick b 0 (p .byte)) e ∙ S .byte-is ∙ sym (ap (bytesBefore first ds) c);
           }
 
@@ -149,7 +149,7 @@ module _ (k : Numbers) (ds cs ws P s z : List ℕ) (u : ℕ) (U : Unsettled k ds
           ∙ rw p (redecided-lent C (U .coded .good) (λ (l : List ℕ). decide l .symbol) b (lent P s) (U .advancing .ranged) (U .advancing .room) m in-checks)
           ∙ symbols-are k ds cs ws P′
 
-      pub next-retest : (p : Place) → p .check ≡ m → p .edge ≡ before ds (p .check) → (from : CheckAt) → EdgeOf ds from → from .check < k .checks
+      pub next-retest : (p : Place) → p .check ≡ m → p .edge ≡ edgesBefore ds (p .check) → (from : CheckAt) → EdgeOf ds from → from .check < k .checks
           → (full : length z ≡ k .columns) → RetestRoom k ds cs ws p from P′ z
       next-retest p x y from v w full =
           record {

@@ -37,7 +37,7 @@ use Rattle.layered.specs.declared.answers.Answer.the-variants.{Decoded}
 use Rattle.layered.specs.Answers.{answerReply}
 use Rattle.machine.specs.inner.InRange.{Below}
 use Rattle.layered.specs.inner.Iterations.{endedIn, RunRoom}
-use Rattle.layered.specs.inner.Frames.{frameFaultOf, roomFault, faultOf, decodingOf}
+use Rattle.layered.specs.inner.Frames.{frameFaultOf, roomFaultOf, faultOf, decodingOf}
 use Rattle.layered.proofs.Columns.{length-part}
 use Rattle.machine.proofs.Lists.{all-not}
 use Rattle.layered.proofs.Runs.{checks-count}
@@ -88,7 +88,7 @@ module _ (first n : ℕ) (ds f : List ℕ) (y c s v k : ℕ) (e : k ≡ frameFau
   unfolding faultOf
   fault-frame h = e ∙ rw (ne-eqb (frameFaultOf first n f) 0 (λ z. h (e ∙ z)))
 
-  pub fault-room : k ≡ 0 → (w u r : ℕ) → w ≡ length f → u ≡ bytesBefore first ds (length ds) → r ≡ roomFault n w u y c s v → r ≡ faultOf first n ds f y c s v
+  pub fault-room : k ≡ 0 → (w u r : ℕ) → w ≡ length f → u ≡ bytesBefore first ds (length ds) → r ≡ roomFaultOf n w u y c s v → r ≡ faultOf first n ds f y c s v
   unfolding faultOf
   fault-room h w u r i j o = o ∙ rw (i, j, frame-counted first n f (sym e ∙ h), eq-eqb (frameFaultOf first n f) 0 (sym e ∙ h))
 
@@ -155,7 +155,7 @@ module _ (k : Numbers) (ds cs ws : List ℕ) (T : Coded k ds cs ws) (n m : ℕ) 
     b = lending y c s v
 
     pub fault-is : r ≡ faultIn C f b
-    unfolding faultOf frameFaultOf frameFault roomFault faultOfRoom
+    unfolding faultOf frameFaultOf frameFault roomFaultOf faultOfRoom
     fault-is = e ∙ rw (used-is, N)
 
     -- a refusal, of decoding or of a call that refuses as decoding does

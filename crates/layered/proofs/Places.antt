@@ -14,7 +14,7 @@ use Rattle.trellis.specs.Rules.{sizeOf, ruleFor}
 use Rattle.trellis.proofs.Recurrence.{size-64}
 use Rattle.machine.specs.CodeLine.{Code, power, size, rule, check, edgeAt}
 use Rattle.machine.specs.Machine.{place}
-use Rattle.machine.specs.inner.Tables.{edgesOf, before, bytesBefore, tableAt}
+use Rattle.machine.specs.inner.Tables.{edgesOf, edgesBefore, bytesBefore, tableAt}
 use Rattle.machine.specs.Lent.{lent, recordAt, costsLent, recordLent, updateLent}
 use Rattle.machine.specs.inner.Accepted.{GoodCheck}
 use Rattle.machine.proofs.Ranges.{column-room}
@@ -34,7 +34,7 @@ pub stands-own : (first : ℕ) (ds : List ℕ) (m : ℕ) (p : Place) → Stands 
 stands-own first ds m p S =
     record {
       check-is = refl;
-      edge-is = S .edge-is ∙ ap (before ds) (sym (S .check-is));
+      edge-is = S .edge-is ∙ ap (edgesBefore ds) (sym (S .check-is));
       byte-is = S .byte-is ∙ ap (bytesBefore first ds) (sym (S .check-is));
     }
 
@@ -42,10 +42,10 @@ module _ (k : Numbers) (ds cs ws : List ℕ) (start : Bool) (m : ℕ) (P s : Lis
   abbrev C : Code
   C = codeOf k ds cs ws
 
-  abbrev hc : before ds (k .checks) ≤ length cs
+  abbrev hc : edgesBefore ds (k .checks) ≤ length cs
   hc = U .coded .for-columns
 
-  abbrev hw : before ds (k .checks) ≤ length ws
+  abbrev hw : edgesBefore ds (k .checks) ≤ length ws
   hw = U .coded .for-weights
 
   pub check-there : m < length ds
@@ -100,8 +100,8 @@ module _ (k : Numbers) (ds cs ws : List ℕ) (start : Bool) (m : ℕ) (P s : Lis
         for-costs = i ∙ ap (λ x. x * size C) (sym d);
       }
 
-  fits : (before ds m + getD ds m 0 ≤ length cs)
-      × (before ds m + getD ds m 0 ≤ length ws)
+  fits : (edgesBefore ds m + getD ds m 0 ≤ length cs)
+      × (edgesBefore ds m + getD ds m 0 ≤ length ws)
       × (bytesBefore (k .first) ds m + long ≤ length s)
       × (getD ds m 0 * sizeOf (k .first) ≤ 2048)
   fits = (
@@ -116,7 +116,7 @@ module _ (k : Numbers) (ds cs ws : List ℕ) (start : Bool) (m : ℕ) (P s : Lis
   byte-high = rw (byte, ← degree) (omega (arith, place-suc C m, place-mono C (suc m) (length (C .checks)) in-checks, used-high C (U .coded .good)))
 
   -- at the places that the code has
-  module _ (at place d q groups : ℕ) (a : at ≡ before ds m) (b : place ≡ bytesBefore (k .first) ds m) (i : d ≡ getD ds m 0) (e : q ≡ sizeOf (k .first)) (j : groups ≡ groupLength (ruleFor (k .first)) * (sizeOf (k .first) - 1)) where
+  module _ (at place d q groups : ℕ) (a : at ≡ edgesBefore ds m) (b : place ≡ bytesBefore (k .first) ds m) (i : d ≡ getD ds m 0) (e : q ≡ sizeOf (k .first)) (j : groups ≡ groupLength (ruleFor (k .first)) * (sizeOf (k .first) - 1)) where
     record-end : d + groups ≡ long
     record-end = rw (j, i)
 

@@ -18,10 +18,10 @@ use Rattle.trellis.proofs.Rules.{first-power, most-few}
 use Rattle.trellis.specs.Reply.{Reply, accepted, refusal}
 use Rattle.expansion.specs.Answers.{expandReply}
 use Rattle.machine.specs.CodeLine.{zeroIn}
-use Rattle.machine.specs.inner.Tables.{before, bytesBefore, tableAt}
+use Rattle.machine.specs.inner.Tables.{edgesBefore, bytesBefore, tableAt}
 use Rattle.machine.proofs.Lists.{all-not}
 use Rattle.layered.specs.inner.Updates.{Weighed}
-use Rattle.layered.specs.inner.Stages.{lengthAt, lowAt, costsIn, formedAt, recordsIn, resumeFault, FormRoom, StoreRoom}
+use Rattle.layered.specs.inner.Stages.{lengthAt, lowCost, costsIn, formedAt, recordsIn, resumeFault, FormRoom, StoreRoom}
 use Rattle.layered.proofs.Updates.{weights-pass}
 
 -- a record has at most 441 bytes behind its shifts
@@ -37,14 +37,14 @@ unfolding bytesBefore
 place-more first ds m at d groups e i j = rw (add-one m, e, i, j)
 
 -- a turn of the loop over the costs
-pub low-more : (l : List ℕ) (i : ℕ) → getD l i 0 ≤ 510 → allTo (lowAt l) i ≡ true → allTo (lowAt l) (i + 1) ≡ true
+pub low-more : (l : List ℕ) (i : ℕ) → getD l i 0 ≤ 510 → allTo (lowCost l) i ≡ true → allTo (lowCost l) (i + 1) ≡ true
 low-more l i h e = rw (add-one i, e, le-leb (getD l i 0) 510 h)
 
-pub low-not : (l : List ℕ) (i n : ℕ) → i < n → 510 < getD l i 0 → allTo (lowAt l) n ≡ false
-low-not l i n k h = all-not (lowAt l) i n k (lt-leb (getD l i 0) 510 h)
+pub low-not : (l : List ℕ) (i n : ℕ) → i < n → 510 < getD l i 0 → allTo (lowCost l) n ≡ false
+low-not l i n k h = all-not (lowCost l) i n k (lt-leb (getD l i 0) 510 h)
 
 -- the two tests of the costs
-module _ (q n : ℕ) (c : List ℕ) (low : Bool) (e : low ≡ allTo (lowAt c) (n * q)) where
+module _ (q n : ℕ) (c : List ℕ) (low : Bool) (e : low ≡ allTo (lowCost c) (n * q)) where
   pub costs-high : low ≡ false → false ≡ costsIn q n c
   unfolding costsIn
   costs-high h = rw (← e, h)
@@ -94,7 +94,7 @@ module _ (first : ℕ) (ws r out : List ℕ) (W : Weighed first ws) (short : len
       go false h = ap (λ (a : Reply). eqb (a .number) 2) h
 
 -- a turn of the loop over the checks, at the places that it carries
-module _ (first : ℕ) (ds ws s : List ℕ) (R : StoreRoom first ds ws s) (m at place d groups : ℕ) (h : m < length ds) (a : at ≡ before ds m) (b : place ≡ bytesBefore first ds m) (i : d ≡ getD ds m 0) (j : groups ≡ groupLength (ruleFor first) * (sizeOf first - 1)) where
+module _ (first : ℕ) (ds ws s : List ℕ) (R : StoreRoom first ds ws s) (m at place d groups : ℕ) (h : m < length ds) (a : at ≡ edgesBefore ds m) (b : place ≡ bytesBefore first ds m) (i : d ≡ getD ds m 0) (j : groups ≡ groupLength (ruleFor first) * (sizeOf first - 1)) where
   F : FormRoom first ds ws s m
   F = R .each m h
 

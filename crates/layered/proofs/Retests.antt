@@ -18,7 +18,7 @@ use Rattle.trellis.specs.Rules.{powerOf, sizeOf}
 use Rattle.trellis.proofs.Recurrence.{size-64}
 use Rattle.machine.specs.CodeLine.{Code, check, edgeAt, columnOf}
 use Rattle.machine.specs.Machine.{symbols, settled}
-use Rattle.machine.specs.inner.Tables.{before, tableAt}
+use Rattle.machine.specs.inner.Tables.{edgesBefore, tableAt}
 use Rattle.machine.proofs.Ranges.{column-room}
 use Rattle.machine.proofs.InTables.{in-columns, column-in, degree-is}
 use Rattle.codeline.specs.declared.answers.Numbers.{Numbers}
@@ -100,10 +100,10 @@ module _ (k : Numbers) (ds cs ws : List ℕ) (p : Place) (from : CheckAt) (P z :
   abbrev C : Code
   C = codeOf k ds cs ws
 
-  abbrev hc : before ds (k .checks) ≤ length cs
+  abbrev hc : edgesBefore ds (k .checks) ≤ length cs
   hc = R .settled-room .coded .for-columns
 
-  abbrev hw : before ds (k .checks) ≤ length ws
+  abbrev hw : edgesBefore ds (k .checks) ≤ length ws
   hw = R .settled-room .coded .for-weights
 
   checks-are : length (C .checks) ≡ k .checks
@@ -128,9 +128,9 @@ module _ (k : Numbers) (ds cs ws : List ℕ) (p : Place) (from : CheckAt) (P z :
 
     own-at : (n : ℕ) → n < d → getD own n 0 < length z
     own-at n h =
-        let e : getD own n 0 ≡ getD cs (before ds m + n) 0 =
+        let e : getD own n 0 ≡ getD cs (edgesBefore ds m + n) 0 =
         ap (λ w. getD (part cs (p .edge) w) n 0) (add-sub-cancel-left (p .edge) d) ∙ getD-take d (drop (p .edge) cs) n 0 h ∙ getD-drop (p .edge) cs n 0 ∙ ap (λ w. getD cs (w + n) 0) (R .edge-is) in
-        let c : getD cs (before ds m + n) 0 ≡ edgeAt (check C m) n .column = column-in (numbersIn k) ds cs ws hc hw m (R .inside) n (omega arith) in
+        let c : getD cs (edgesBefore ds m + n) 0 ≡ edgeAt (check C m) n .column = column-in (numbersIn k) ds cs ws hc hw m (R .inside) n (omega arith) in
         let E = R .settled-room .coded .good .each-check m (omega (arith, R .inside, checks-are)) .each-edge n (omega (arith, degree-here)) in
         omega (arith, e, c, E .column-small, R .settled-room .symbols)
       where

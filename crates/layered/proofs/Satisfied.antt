@@ -20,7 +20,7 @@ use Rattle.trellis.proofs.Loops.{tab-more, tab-whole, length-tab, getD-tab}
 use Rattle.trellis.proofs.Instances.{first-zero}
 use Rattle.machine.specs.CodeLine.{Code, power, check, edgeAt, columnOf}
 use Rattle.machine.specs.Machine.{symbols, margins, settled, paritySum}
-use Rattle.machine.specs.inner.Tables.{before, term}
+use Rattle.machine.specs.inner.Tables.{edgesBefore, term}
 use Rattle.machine.proofs.Lists.{all-not}
 use Rattle.machine.proofs.Ranges.{column-room}
 use Rattle.machine.proofs.InTables.{count, degree-is, in-columns, in-weights, column-in, weight-in, term-in}
@@ -28,7 +28,8 @@ use Rattle.codeline.specs.declared.answers.Numbers.{Numbers}
 use Rattle.codeline.specs.Answers.{numbersIn}
 use Rattle.codeline.specs.inner.Coding.{codeOf}
 use Rattle.layered.specs.declared.parity.CheckAt.{CheckAt}
-use Rattle.layered.specs.inner.Parity.{holdsAt, allHold, EdgeRoom, ParityRoom, FirstNot, SettledRoom}
+use Rattle.machine.specs.inner.Tables.{EdgeRoom}
+use Rattle.layered.specs.inner.Parity.{holdsAt, allHold, ParityRoom, FirstNot, SettledRoom}
 use Rattle.layered.proofs.Columns.{upTo-tab, length-part}
 
 -- a loop over the columns of q costs, which leaves g of each: its turn and its end
@@ -105,14 +106,14 @@ module _ (k : Numbers) (ds cs ws : List ℕ) where
       }
 
   -- at the place that the loops carry
-  module _ (z : List ℕ) (R : ParityRoom k ds cs ws z) (m n at d : ℕ) (h : m < k .checks) (e : at ≡ before ds m) (i : d ≡ getD ds m 0) where
+  module _ (z : List ℕ) (R : ParityRoom k ds cs ws z) (m n at d : ℕ) (h : m < k .checks) (e : at ≡ edgesBefore ds m) (i : d ≡ getD ds m 0) where
     abbrev C : Code
     C = codeOf k ds cs ws
 
-    abbrev hc : before ds (k .checks) ≤ length cs
+    abbrev hc : edgesBefore ds (k .checks) ≤ length cs
     hc = R .coded .for-columns
 
-    abbrev hw : before ds (k .checks) ≤ length ws
+    abbrev hw : edgesBefore ds (k .checks) ≤ length ws
     hw = R .coded .for-weights
 
     pub degree : d ≡ length (check C m)
@@ -125,8 +126,8 @@ module _ (k : Numbers) (ds cs ws : List ℕ) where
     edge-room j =
         let G = R .coded .good in
         let E = G .each-check m in-checks .each-edge n (omega (arith, degree)) in
-        let c : getD cs (before ds m + n) 0 ≡ edgeAt (check C m) n .column = column-in (numbersIn k) ds cs ws hc hw m h n (omega arith) in
-        let w : getD ws (before ds m + n) 0 ≡ edgeAt (check C m) n .weight = weight-in (numbersIn k) ds cs ws hc hw m h n (omega arith) in
+        let c : getD cs (edgesBefore ds m + n) 0 ≡ edgeAt (check C m) n .column = column-in (numbersIn k) ds cs ws hc hw m h n (omega arith) in
+        let w : getD ws (edgesBefore ds m + n) 0 ≡ edgeAt (check C m) n .weight = weight-in (numbersIn k) ds cs ws hc hw m h n (omega arith) in
         rw e
         record {
           low = G .p-low;

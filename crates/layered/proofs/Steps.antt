@@ -16,7 +16,7 @@ use Rattle.machine.specs.Machine.{symbols, margins, settled, place, used}
 use Rattle.machine.specs.Lent.{lent, iterationLent}
 use Rattle.machine.specs.Decoding.{Buffers, lending, holding, admittedUnder, admitted, Room}
 use Rattle.machine.specs.Moments.{Stage as Ends, moment, Moves, loadingUnder, loading, costsOk, storeOk, resumableUnder, resumable, iteratingUnder, iterating, further}
-use Rattle.machine.specs.inner.Tables.{before, bytesBefore, tableAt}
+use Rattle.machine.specs.inner.Tables.{edgesBefore, bytesBefore, tableAt}
 use Rattle.machine.specs.inner.InRange.{Below}
 use Rattle.machine.proofs.Ranges.{frame-ranged}
 use Rattle.machine.proofs.Lent.{place-suc, place-mono}
@@ -65,10 +65,10 @@ module _ (k : Numbers) (ds cs ws : List ℕ) (T : Coded k ds cs ws) (n m : ℕ) 
   abbrev C : Code
   C = codeOf k ds cs ws
 
-  abbrev hc : before ds (k .checks) ≤ length cs
+  abbrev hc : edgesBefore ds (k .checks) ≤ length cs
   hc = T .for-columns
 
-  abbrev hw : before ds (k .checks) ≤ length ws
+  abbrev hw : edgesBefore ds (k .checks) ≤ length ws
   hw = T .for-weights
 
   abbrev own : List ℕ

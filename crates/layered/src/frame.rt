@@ -7,7 +7,7 @@ ghost use Rattle.trellis.specs.Lists.{allTo};
 ghost use Rattle.trellis.specs.Rules.{firstOk};
 ghost use Rattle.machine.specs.CodeLine.{zeroIn};
 ghost use Rattle.machine.specs.inner.Tables.{bytesBefore};
-ghost use Rattle.layered.specs.inner.Frames.{frameFaultOf, roomFault, faultOf};
+ghost use Rattle.layered.specs.inner.Frames.{frameFaultOf, roomFaultOf, faultOf};
 
 // Whether each of n columns of q costs has a cost of 0.
 fn zeros_in(frame: &[u8], q: usize, n: usize) -> bool
@@ -67,7 +67,7 @@ pub fn room_fault(
     store: usize,
     margins: usize,
 ) -> u8
-    ensures { λ r. ⌜ r ≡ roomFault n w u symbols costs store margins ⌝ }
+    ensures { λ r. ⌜ r ≡ roomFaultOf n w u symbols costs store margins ⌝ }
 {
     if symbols < n {
         return 2;

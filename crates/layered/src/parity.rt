@@ -15,7 +15,8 @@ ghost use Rattle.machine.specs.inner.Tables.{term};
 ghost use Rattle.machine.specs.CodeLine.{columnOf};
 ghost use Rattle.machine.specs.Machine.{settled as settledOf, symbols as symbolsOf};
 ghost use Rattle.codeline.specs.inner.Coding.{codeOf};
-ghost use Rattle.layered.specs.inner.Parity.{allHold, EdgeRoom, ParityRoom, FromTo, FirstNot, SettledRoom};
+ghost use Rattle.machine.specs.inner.Tables.{EdgeRoom};
+ghost use Rattle.layered.specs.inner.Parity.{allHold, ParityRoom, FromTo, FirstNot, SettledRoom};
 
 // The cost of symbol x; where x is z, no cost is greater.
 fn but(cost: u16, x: usize, z: usize) -> u16

@@ -9,12 +9,12 @@ ghost use Rattle.trellis.specs.Record.{recordOk};
 ghost use Rattle.trellis.specs.Rules.{ruleFor};
 ghost use Rattle.machine.specs.CodeLine.{zeroIn};
 ghost use Rattle.layered.specs.inner.Updates.{Weighed};
-ghost use Rattle.layered.specs.inner.Stages.{lowAt, costsIn, formedAt, recordsIn, resumeFault, StoreRoom, ResumeRoom};
+ghost use Rattle.layered.specs.inner.Stages.{lowCost, costsIn, formedAt, recordsIn, resumeFault, StoreRoom, ResumeRoom};
 
 // Whether none of the first w costs is above 510.
 fn low_costs(costs: &[u16], w: usize) -> bool
     requires { ⌜ w ≤ length (now costs) ⌝ }
-    ensures { λ r. ⌜ r ≡ allTo (lowAt (now (costs .entry))) w ⌝ }
+    ensures { λ r. ⌜ r ≡ allTo (lowCost (now (costs .entry))) w ⌝ }
 {
     let mut i = 0;
     while i < w {

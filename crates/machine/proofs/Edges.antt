@@ -8,7 +8,7 @@ use lib.Seq.{ext-getD}
 use Rattle.trellis.specs.Lists.{upTo, each}
 use Rattle.trellis.proofs.Places.{length-count}
 use Rattle.machine.specs.CodeLine.{Edge, edgeAt}
-use Rattle.machine.specs.inner.Tables.{edgesOf, tablesOf, before}
+use Rattle.machine.specs.inner.Tables.{edgesOf, tablesOf, edgesBefore}
 use Rattle.machine.specs.Lent.{weightsOf}
 use Rattle.machine.proofs.Lists.{at-upTo}
 use Rattle.machine.proofs.Tables.{before-cons}
@@ -39,7 +39,7 @@ weights-edges cs ws e =
     at-upTo (λ n. edgeAt (edgesOf cs ws) n .weight) (length (edgesOf cs ws)) n 0 (omega arith) ∙ weight-edge cs ws e n)
 
 -- a table is as long as the degrees add up to
-pub length-table : (f : Edge → ℕ) (l : List (List Edge)) → length (each (map f) l) ≡ before (tablesOf l .degrees) (length l)
+pub length-table : (f : Edge → ℕ) (l : List (List Edge)) → length (each (map f) l) ≡ edgesBefore (tablesOf l .degrees) (length l)
 length-table f [] = refl
 length-table f (es ∷ l) =
     length-append (map f es) (each (map f) l) ∙ ap₂ (λ a b. a + b) (length-map es f) (length-table f l) ∙ sym (before-cons (length es) (map (λ es. length es) l) (length l))

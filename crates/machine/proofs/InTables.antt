@@ -15,12 +15,12 @@ use Rattle.trellis.proofs.Places.{length-count}
 use Rattle.machine.specs.CodeLine.{Edge, Code, Numbers, rule, check, edgeAt}
 use Rattle.machine.specs.Machine.{paritySum, place}
 use Rattle.machine.specs.Lent.{weightsOf}
-use Rattle.machine.specs.inner.Tables.{tablesOf, edgesOf, before, bytesBefore, tableAt, checksFrom, codeIn, term, Tabled}
+use Rattle.machine.specs.inner.Tables.{tablesOf, edgesOf, edgesBefore, bytesBefore, tableAt, checksFrom, codeIn, term, Tabled}
 use Rattle.machine.proofs.Lists.{at-upTo}
 use Rattle.machine.proofs.Edges.{length-edges, column-edge, weight-edge, weights-edges}
 use Rattle.machine.proofs.Places.{before-mono, length-part, edges-at}
 
-module _ (k : Numbers) (ds cs ws : List ℕ) (hc : before ds (k .checks) ≤ length cs) (hw : before ds (k .checks) ≤ length ws) where
+module _ (k : Numbers) (ds cs ws : List ℕ) (hc : edgesBefore ds (k .checks) ≤ length cs) (hw : edgesBefore ds (k .checks) ≤ length ws) where
   abbrev C : Code
   C = codeIn k ds cs ws
 
@@ -29,13 +29,13 @@ module _ (k : Numbers) (ds cs ws : List ℕ) (hc : before ds (k .checks) ≤ len
   count = length-map (upTo (k .checks)) _ ∙ length-count 0 (k .checks)
 
   module _ (m : ℕ) (h : m < k .checks) where
-    pub edges-within : before ds m + getD ds m 0 ≤ before ds (k .checks)
+    pub edges-within : edgesBefore ds m + getD ds m 0 ≤ edgesBefore ds (k .checks)
     edges-within = before-mono ds (suc m) (k .checks) h
 
-    pub in-columns : before ds m + getD ds m 0 ≤ length cs
+    pub in-columns : edgesBefore ds m + getD ds m 0 ≤ length cs
     in-columns = omega (arith, edges-within)
 
-    pub in-weights : before ds m + getD ds m 0 ≤ length ws
+    pub in-weights : edgesBefore ds m + getD ds m 0 ≤ length ws
     in-weights = omega (arith, edges-within)
 
     pub check-is : check C m ≡ edgesOf (tableAt ds cs m) (tableAt ds ws m)
@@ -43,10 +43,10 @@ module _ (k : Numbers) (ds cs ws : List ℕ) (hc : before ds (k .checks) ≤ len
     check-is = at-upTo (λ k. edgesOf (tableAt ds cs k) (tableAt ds ws k)) (k .checks) m [] h
 
     pub columns-length : length (tableAt ds cs m) ≡ getD ds m 0
-    columns-length = length-part cs (before ds m) (getD ds m 0) in-columns
+    columns-length = length-part cs (edgesBefore ds m) (getD ds m 0) in-columns
 
     pub weights-length : length (tableAt ds ws m) ≡ getD ds m 0
-    weights-length = length-part ws (before ds m) (getD ds m 0) in-weights
+    weights-length = length-part ws (edgesBefore ds m) (getD ds m 0) in-weights
 
     pub same-length : length (tableAt ds cs m) ≡ length (tableAt ds ws m)
     same-length = columns-length ∙ sym weights-length
@@ -64,14 +64,14 @@ module _ (k : Numbers) (ds cs ws : List ℕ) (hc : before ds (k .checks) ≤ len
     weight-part n = sym (ap (λ es. edgeAt es n .weight) check-is ∙ weight-edge (tableAt ds cs m) (tableAt ds ws m) same-length n)
 
     -- in the whole table
-    pub column-in : (n : ℕ) → n < getD ds m 0 → getD cs (before ds m + n) 0 ≡ edgeAt (check C m) n .column
+    pub column-in : (n : ℕ) → n < getD ds m 0 → getD cs (edgesBefore ds m + n) 0 ≡ edgeAt (check C m) n .column
     column-in n i = sym (rw (getD-take, getD-drop)) ∙ column-part n
 
-    pub weight-in : (n : ℕ) → n < getD ds m 0 → getD ws (before ds m + n) 0 ≡ edgeAt (check C m) n .weight
+    pub weight-in : (n : ℕ) → n < getD ds m 0 → getD ws (edgesBefore ds m + n) 0 ≡ edgeAt (check C m) n .weight
     weight-in n i = sym (rw (getD-take, getD-drop)) ∙ weight-part n
 
     pub term-in : (p : ℕ) (z : List ℕ) (n : ℕ) → n < getD ds m 0
-        → term p cs ws z (before ds m + n) ≡ product p (edgeAt (check C m) n .weight) (getD z (edgeAt (check C m) n .column) 0)
+        → term p cs ws z (edgesBefore ds m + n) ≡ product p (edgeAt (check C m) n .weight) (getD z (edgeAt (check C m) n .column) 0)
     term-in p z n i = ap₂ (λ u v. product p u (getD z v 0)) (weight-in n i) (column-in n i)
 
   -- records stand where the degrees say
@@ -81,7 +81,7 @@ module _ (k : Numbers) (ds cs ws : List ℕ) (hc : before ds (k .checks) ≤ len
   place-is (suc m) h = ap₂ (λ a d. a + recordLength (rule C) d) (place-is m (omega arith)) (sym (degree-is m h))
 
 -- the same edges before a check, by the degrees that a list starts with
-pub before-take : (ds : List ℕ) (n m : ℕ) → m ≤ n → before (take n ds) m ≡ before ds m
+pub before-take : (ds : List ℕ) (n m : ℕ) → m ≤ n → edgesBefore (take n ds) m ≡ edgesBefore ds m
 before-take ds n zero h = refl
 before-take ds n (suc m) h = ap₂ (λ a b. a + b) (before-take ds n m (omega arith)) (rw getD-take)
 
@@ -101,13 +101,13 @@ module _ (C : Code) (ds cs ws : List ℕ) (H : Tabled C ds cs ws) where
 
   table-own : (l : List ℕ) (m : ℕ) → m < length (C .checks) → tableAt ds l m ≡ tableAt own l m
   table-own l m h =
-      let a : before own m ≡ before ds m = ap (λ d. before d m) (sym (H .degrees)) ∙ before-take ds (length own) m (omega (arith, own-length)) in
+      let a : edgesBefore own m ≡ edgesBefore ds m = ap (λ d. edgesBefore d m) (sym (H .degrees)) ∙ before-take ds (length own) m (omega (arith, own-length)) in
       let i : m < length own = omega (arith, own-length) in
       let b : getD own m 0 ≡ getD ds m 0 = ap (λ d. getD d m 0) (sym (H .degrees)) ∙ getD-take (length own) ds m 0 i in
       ap₂ (part l) (sym a) (sym b)
 
-  pub before-own : before ds (length (C .checks)) ≡ before own (length (C .checks))
-  before-own = sym (ap (λ d. before d (length (C .checks))) (sym (H .degrees)) ∙ before-take ds (length own) (length (C .checks)) (omega (arith, own-length)))
+  pub before-own : edgesBefore ds (length (C .checks)) ≡ edgesBefore own (length (C .checks))
+  before-own = sym (ap (λ d. edgesBefore d (length (C .checks))) (sym (H .degrees)) ∙ before-take ds (length own) (length (C .checks)) (omega (arith, own-length)))
 
   pub checks-say : checksFrom (length (C .checks)) ds cs ws ≡ C .checks
   unfolding checksFrom

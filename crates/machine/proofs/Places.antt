@@ -12,16 +12,16 @@ use Rattle.trellis.specs.Lists.{each, part}
 use Rattle.trellis.specs.Field.{xor, product}
 use Rattle.machine.specs.CodeLine.{Edge, Code, check, edgeAt, power}
 use Rattle.machine.specs.Machine.{paritySum}
-use Rattle.machine.specs.inner.Tables.{tablesOf, edgesOf, before, term, sumFrom}
+use Rattle.machine.specs.inner.Tables.{tablesOf, edgesOf, edgesBefore, term, sumFrom}
 use Rattle.machine.proofs.Ranges.{part-front}
 use Rattle.machine.proofs.Tables.{check-slice}
 use Rattle.machine.proofs.Edges.{column-edge, weight-edge, length-table}
 
 -- the places of the edges
-pub before-more : (ds : List ℕ) (m at d : ℕ) → at ≡ before ds m → d ≡ getD ds m 0 → at + d ≡ before ds (m + 1)
+pub before-more : (ds : List ℕ) (m at d : ℕ) → at ≡ edgesBefore ds m → d ≡ getD ds m 0 → at + d ≡ edgesBefore ds (m + 1)
 before-more ds m at d e i = rw (add-one m, e, i)
 
-pub before-mono : (ds : List ℕ) (m n : ℕ) → m ≤ n → before ds m ≤ before ds n
+pub before-mono : (ds : List ℕ) (m n : ℕ) → m ≤ n → edgesBefore ds m ≤ edgesBefore ds n
 before-mono ds m zero h = let e : m ≡ 0 = omega arith in rw e (omega arith)
 before-mono ds m (suc n) h =
     elim (ℕ-discrete m (suc n)) [
@@ -29,10 +29,10 @@ before-mono ds m (suc n) h =
       | no e ↦ omega (arith, before-mono ds m n (omega arith))
     ]
 
-pub edge-within : (ds : List ℕ) (m n at d : ℕ) → m < length ds → at ≡ before ds m → d ≡ getD ds m 0 → n < d → at + n < before ds (length ds)
+pub edge-within : (ds : List ℕ) (m n at d : ℕ) → m < length ds → at ≡ edgesBefore ds m → d ≡ getD ds m 0 → n < d → at + n < edgesBefore ds (length ds)
 edge-within ds m n at d h e i k = omega (arith, before-mono ds (suc m) (length ds) h)
 
-pub end-within : (ds : List ℕ) (m at d : ℕ) → m < length ds → at ≡ before ds m → d ≡ getD ds m 0 → at + d ≤ before ds (length ds)
+pub end-within : (ds : List ℕ) (m at d : ℕ) → m < length ds → at ≡ edgesBefore ds m → d ≡ getD ds m 0 → at + d ≤ edgesBefore ds (length ds)
 end-within ds m at d h e i = omega (arith, before-mono ds (suc m) (length ds) h)
 
 -- a turn of the loop over a check's edges
@@ -67,16 +67,16 @@ module _ (C : Code) (cs ws : List ℕ) (hc : take (length (tablesOf (C .checks) 
   degree-at m = List·getD-map (λ es. length es) (C .checks) m []
 
   abbrev own : List ℕ → ℕ → List ℕ
-  own l m = part l (before ds m) (getD ds m 0)
+  own l m = part l (edgesBefore ds m) (getD ds m 0)
 
   module _ (m : ℕ) (h : m < length (C .checks)) where
-    within : (f : Edge → ℕ) → before ds m + getD ds m 0 ≤ length (each (map f) (C .checks))
+    within : (f : Edge → ℕ) → edgesBefore ds m + getD ds m 0 ≤ length (each (map f) (C .checks))
     within f = rw (length-table f (C .checks)) (before-mono ds (suc m) (length (C .checks)) h)
 
-    pub in-columns : before ds m + getD ds m 0 ≤ length cs
+    pub in-columns : edgesBefore ds m + getD ds m 0 ≤ length cs
     in-columns = omega (arith, within (λ e. e .column), start-length cs (tablesOf (C .checks) .edges .columns) hc)
 
-    pub in-weights : before ds m + getD ds m 0 ≤ length ws
+    pub in-weights : edgesBefore ds m + getD ds m 0 ≤ length ws
     in-weights = omega (arith, within (λ e. e .weight), start-length ws (tablesOf (C .checks) .edges .weights) hw)
 
     pub edges-at : edgesOf (own cs m) (own ws m) ≡ check C m
@@ -97,20 +97,20 @@ module _ (C : Code) (cs ws : List ℕ) (hc : take (length (tablesOf (C .checks) 
     weight-table n = sym (weight-edge (own cs m) (own ws m) same-length n) ∙ ap (λ es. edgeAt es n .weight) edges-at
 
     -- the same in the whole table
-    pub column-flat : (n : ℕ) → n < getD ds m 0 → getD cs (before ds m + n) 0 ≡ edgeAt (check C m) n .column
+    pub column-flat : (n : ℕ) → n < getD ds m 0 → getD cs (edgesBefore ds m + n) 0 ≡ edgeAt (check C m) n .column
     column-flat n i = sym (rw (getD-take, getD-drop)) ∙ column-table n
 
-    pub weight-flat : (n : ℕ) → n < getD ds m 0 → getD ws (before ds m + n) 0 ≡ edgeAt (check C m) n .weight
+    pub weight-flat : (n : ℕ) → n < getD ds m 0 → getD ws (edgesBefore ds m + n) 0 ≡ edgeAt (check C m) n .weight
     weight-flat n i = sym (rw (getD-take, getD-drop)) ∙ weight-table n
 
-    pub sum-flat : (z : List ℕ) (n : ℕ) → n ≤ getD ds m 0 → sumFrom (power C) cs ws z (before ds m) n ≡ paritySum (power C) (check C m) z n
+    pub sum-flat : (z : List ℕ) (n : ℕ) → n ≤ getD ds m 0 → sumFrom (power C) cs ws z (edgesBefore ds m) n ≡ paritySum (power C) (check C m) z n
     unfolding sumFrom
     sum-flat z zero l = refl
     sum-flat z (suc n) l =
         ap₂ xor (sum-flat z n (omega arith)) (ap₂ (λ u v. product (power C) u (getD z v 0)) (weight-flat n (omega arith)) (column-flat n (omega arith)))
 
-  pub all-columns : before ds (length ds) ≤ length cs
+  pub all-columns : edgesBefore ds (length ds) ≤ length cs
   all-columns = rw (count, ← length-table (λ e. e .column) (C .checks)) (start-length cs (tablesOf (C .checks) .edges .columns) hc)
 
-  pub all-weights : before ds (length ds) ≤ length ws
+  pub all-weights : edgesBefore ds (length ds) ≤ length ws
   all-weights = rw (count, ← length-table (λ e. e .weight) (C .checks)) (start-length ws (tablesOf (C .checks) .edges .weights) hw)

@@ -25,7 +25,7 @@ use Rattle.machine.specs.Decoding.{outcome}
 use Rattle.machine.proofs.Lines.{parse-good}
 use Rattle.machine.proofs.Ranges.{frame-fits}
 use Rattle.machine.specs.Program.{lastLine, linesAfter, refusedLine, readCode, afterCode, linesOutput, outputOf}
-use Rattle.machine.specs.inner.Blocks.{Kept, first, later, ended, fresh, longer, kept, codeKept, codeOut, finished, finishedOut, fed, fedOut, closeOut, fedAll, fedAllOut, joined}
+use Rattle.machine.specs.inner.Blocks.{Session, first, later, ended, fresh, longer, fedByte, codeKept, codeOut, finished, finishedOut, fed, fedOut, closeOut, fedAll, fedAllOut, allBlocks}
 
 take-more : (n : ℕ) (l m : List ℕ) → take n (take n l ++ m) ≡ take n (l ++ m)
 take-more zero l m = refl
@@ -51,23 +51,23 @@ cut-line l =
     ]
 
 -- what is kept, of what came
-abbrev pub cut : Kept → Kept
+abbrev pub cut : Session → Session
 cut (first l) = first (take 32769 l)
 cut (later code l) = later code (take 32769 l)
 cut ended = ended
 
 -- all that came
-abbrev pub put : Kept → ℕ → Kept
+abbrev pub put : Session → ℕ → Session
 put (first l) b = first (l ++ (b ∷ []))
 put (later code l) b = later code (l ++ (b ∷ []))
 put ended b = ended
 
-put-cut : (k : Kept) (b : ℕ) → kept (cut k) b ≡ cut (put k b)
-put-cut (first l) b = ap {B = Kept} (λ r. first r) (take-more 32769 l (b ∷ []))
-put-cut (later code l) b = ap {B = Kept} (λ r. later code r) (take-more 32769 l (b ∷ []))
+put-cut : (k : Session) (b : ℕ) → fedByte (cut k) b ≡ cut (put k b)
+put-cut (first l) b = ap {B = Session} (λ r. first r) (take-more 32769 l (b ∷ []))
+put-cut (later code l) b = ap {B = Session} (λ r. later code r) (take-more 32769 l (b ∷ []))
 put-cut ended b = refl
 
-finished-cut : (k : Kept) → finished (cut k) ≡ finished k
+finished-cut : (k : Session) → finished (cut k) ≡ finished k
 unfolding finished
 finished-cut (first l) =
     ⊎-elim (λ (e : take 32769 l ≡ l). rw e refl)
@@ -75,7 +75,7 @@ finished-cut (first l) =
 finished-cut (later code l) = refl
 finished-cut ended = refl
 
-finishedOut-cut : (k : Kept) → finishedOut (cut k) ≡ finishedOut k
+finishedOut-cut : (k : Session) → finishedOut (cut k) ≡ finishedOut k
 unfolding finishedOut
 finishedOut-cut (first l) =
     ⊎-elim (λ (e : take 32769 l ≡ l). rw e refl)
@@ -85,7 +85,7 @@ finishedOut-cut (later code l) =
     (λ (h : Long (take 32769 l) × Long l). h .0 .frame-line code ∙ sym (h .1 .frame-line code)) (cut-line l)
 finishedOut-cut ended = refl
 
-finished-short : (k : Kept) → cut (finished k) ≡ finished k
+finished-short : (k : Session) → cut (finished k) ≡ finished k
 unfolding finished
 finished-short (first l) = go (readCode l)
   where
@@ -96,17 +96,17 @@ finished-short (later code l) = refl
 finished-short ended = refl
 
 -- the line so far, and what the lines from it on print
-abbrev lineOf : Kept → List ℕ
+abbrev lineOf : Session → List ℕ
 lineOf (first l) = l
 lineOf (later code l) = l
 lineOf ended = []
 
-abbrev printedFor : Kept → List (List ℕ) → List ℕ
+abbrev printedFor : Session → List (List ℕ) → List ℕ
 printedFor (first l) ls = linesOutput ls
 printedFor (later code l) ls = each (frameLine code) ls
 printedFor ended ls = []
 
-at-turn : (k : Kept) (s : List ℕ) → printedFor k (lineOf k ∷ linesAfter [] s) ≡ finishedOut k ++ printedFor (finished k) (linesAfter (lineOf (finished k)) s)
+at-turn : (k : Session) (s : List ℕ) → printedFor k (lineOf k ∷ linesAfter [] s) ≡ finishedOut k ++ printedFor (finished k) (linesAfter (lineOf (finished k)) s)
 unfolding finished finishedOut
 at-turn (first l) s = go (readCode l)
   where
@@ -116,7 +116,7 @@ at-turn (first l) s = go (readCode l)
 at-turn (later code l) s = refl
 at-turn ended s = refl
 
-at-put : (k : Kept) (b : ℕ) (s : List ℕ) → printedFor k (linesAfter (lineOf k ++ (b ∷ [])) s) ≡ printedFor (put k b) (linesAfter (lineOf (put k b)) s)
+at-put : (k : Session) (b : ℕ) (s : List ℕ) → printedFor k (linesAfter (lineOf k ++ (b ∷ [])) s) ≡ printedFor (put k b) (linesAfter (lineOf (put k b)) s)
 at-put (first l) b s = refl
 at-put (later code l) b s = refl
 at-put ended b s = refl
@@ -125,7 +125,7 @@ empty-code : readCode [] ≡ bad 5
 unfolding readCode lineOk lineBytes parse
 empty-code = refl
 
-at-close : (k : Kept) → closeOut (cut k) ≡ printedFor k (lastLine (lineOf k))
+at-close : (k : Session) → closeOut (cut k) ≡ printedFor k (lastLine (lineOf k))
 unfolding closeOut finishedOut
 at-close (first []) = rw empty-code refl
 at-close (first (b ∷ l)) = go (readCode (take 32769 (b ∷ l))) (readCode (b ∷ l)) (finishedOut-cut (first (b ∷ l)))
@@ -138,14 +138,14 @@ at-close (later code (b ∷ l)) = rw (finishedOut-cut (later code (b ∷ l))) re
 at-close ended = refl
 
 -- what is kept gives the same output as all that came
-all-said : (k : Kept) (s : List ℕ) → fedOut (cut k) s ++ closeOut (fed (cut k) s) ≡ printedFor k (linesAfter (lineOf k) s)
+all-said : (k : Session) (s : List ℕ) → fedOut (cut k) s ++ closeOut (fed (cut k) s) ≡ printedFor k (linesAfter (lineOf k) s)
 unfolding fed fedOut linesAfter
 all-said k [] = at-close k
 all-said k (b ∷ s) = go (eqb b 0x0A) (all-said (finished k) s) (all-said (put k b) s)
   where
     go : (t : Bool) → fedOut (cut (finished k)) s ++ closeOut (fed (cut (finished k)) s) ≡ printedFor (finished k) (linesAfter (lineOf (finished k)) s)
         → fedOut (cut (put k b)) s ++ closeOut (fed (cut (put k b)) s) ≡ printedFor (put k b) (linesAfter (lineOf (put k b)) s)
-        → pick t (finishedOut (cut k) ++ fedOut (finished (cut k)) s) (fedOut (kept (cut k) b) s) ++ closeOut (pick t (fed (finished (cut k)) s) (fed (kept (cut k) b) s))
+        → pick t (finishedOut (cut k) ++ fedOut (finished (cut k)) s) (fedOut (fedByte (cut k) b) s) ++ closeOut (pick t (fed (finished (cut k)) s) (fed (fedByte (cut k) b) s))
         ≡ printedFor k (pick t (lineOf k ∷ linesAfter [] s) (linesAfter (lineOf k ++ (b ∷ [])) s))
     go true h i =
         let e : finished (cut k) ≡ cut (finished k) = finished-cut k ∙ sym (finished-short k) in
@@ -154,28 +154,28 @@ all-said k (b ∷ s) = go (eqb b 0x0A) (all-said (finished k) s) (all-said (put 
     go false h i = rw (put-cut k b) (i ∙ sym (at-put k b s))
 
 -- blocks end to end are one block
-pub fed-more : (k : Kept) (s t : List ℕ) → (fed k (s ++ t) ≡ fed (fed k s) t) × (fedOut k (s ++ t) ≡ fedOut k s ++ fedOut (fed k s) t)
+pub fed-more : (k : Session) (s t : List ℕ) → (fed k (s ++ t) ≡ fed (fed k s) t) × (fedOut k (s ++ t) ≡ fedOut k s ++ fedOut (fed k s) t)
 unfolding fed fedOut
 fed-more k [] t = (refl, refl)
-fed-more k (b ∷ s) t = go (eqb b 0x0A) (fed-more (finished k) s t) (fed-more (kept k b) s t)
+fed-more k (b ∷ s) t = go (eqb b 0x0A) (fed-more (finished k) s t) (fed-more (fedByte k b) s t)
   where
     go : (c : Bool) → (fed (finished k) (s ++ t) ≡ fed (fed (finished k) s) t) × (fedOut (finished k) (s ++ t) ≡ fedOut (finished k) s ++ fedOut (fed (finished k) s) t)
-        → (fed (kept k b) (s ++ t) ≡ fed (fed (kept k b) s) t) × (fedOut (kept k b) (s ++ t) ≡ fedOut (kept k b) s ++ fedOut (fed (kept k b) s) t)
-        → (pick c (fed (finished k) (s ++ t)) (fed (kept k b) (s ++ t)) ≡ fed (pick c (fed (finished k) s) (fed (kept k b) s)) t)
-        × (pick c (finishedOut k ++ fedOut (finished k) (s ++ t)) (fedOut (kept k b) (s ++ t)) ≡ pick c (finishedOut k ++ fedOut (finished k) s) (fedOut (kept k b) s) ++ fedOut (pick c (fed (finished k) s) (fed (kept k b) s)) t)
+        → (fed (fedByte k b) (s ++ t) ≡ fed (fed (fedByte k b) s) t) × (fedOut (fedByte k b) (s ++ t) ≡ fedOut (fedByte k b) s ++ fedOut (fed (fedByte k b) s) t)
+        → (pick c (fed (finished k) (s ++ t)) (fed (fedByte k b) (s ++ t)) ≡ fed (pick c (fed (finished k) s) (fed (fedByte k b) s)) t)
+        × (pick c (finishedOut k ++ fedOut (finished k) (s ++ t)) (fedOut (fedByte k b) (s ++ t)) ≡ pick c (finishedOut k ++ fedOut (finished k) s) (fedOut (fedByte k b) s) ++ fedOut (pick c (fed (finished k) s) (fed (fedByte k b) s)) t)
     go true h i = (h .0, ap (λ r. finishedOut k ++ r) (h .1) ∙ sym (append-assoc (finishedOut k) (fedOut (finished k) s) (fedOut (fed (finished k) s) t)))
     go false h i = i
 
-all-fed : (k : Kept) (bs : List (List ℕ)) → (fedAll k bs ≡ fed k (joined bs)) × (fedAllOut k bs ≡ fedOut k (joined bs))
+all-fed : (k : Session) (bs : List (List ℕ)) → (fedAll k bs ≡ fed k (allBlocks bs)) × (fedAllOut k bs ≡ fedOut k (allBlocks bs))
 unfolding fedAll fedAllOut fed fedOut
 all-fed k [] = (refl, refl)
 all-fed k (s ∷ bs) =
     let h = all-fed (fed k s) bs in
-    let m = fed-more k s (joined bs) in
+    let m = fed-more k s (allBlocks bs) in
     (h .0 ∙ sym (m .0), ap (λ r. fedOut k s ++ r) (h .1) ∙ sym (m .1))
 
 -- the theorem: however what is read of an input is cut into blocks, what they print, with the closing step, is the output of the input
-pub blocks-output : (input : List ℕ) (bs : List (List ℕ)) → joined bs ≡ take 4294967295 input → fedAllOut fresh bs ++ closeOut (fedAll fresh bs) ≡ outputOf input
+pub blocks-output : (input : List ℕ) (bs : List (List ℕ)) → allBlocks bs ≡ take 4294967295 input → fedAllOut fresh bs ++ closeOut (fedAll fresh bs) ≡ outputOf input
 unfolding outputOf
 blocks-output input bs e =
     let a = all-fed fresh bs in
@@ -251,20 +251,20 @@ code-short t = go (readCode t)
     go (good C) = record { few = omega arith; fewer = omega arith }
     go (bad k) = five-short t k
 
-pub turn-short : (k : Kept) → Short (lineOf k) (finishedOut k)
+pub turn-short : (k : Session) → Short (lineOf k) (finishedOut k)
 unfolding finishedOut
 turn-short (first l) = code-short l
 turn-short (later code l) = frame-short code l
 turn-short ended = record { few = omega arith; fewer = omega arith }
 
-pub close-short : (k : Kept) → length (closeOut k) ≤ 517
+pub close-short : (k : Session) → length (closeOut k) ≤ 517
 unfolding closeOut
 close-short (first l) = code-short l .few
 close-short (later code []) = omega arith
 close-short (later code (b ∷ l)) = rw (append-nil (frameLine code (b ∷ l))) (frame-short code (b ∷ l) .few)
 close-short ended = omega arith
 
-finished-empty : (k : Kept) → lineOf (finished k) ≡ []
+finished-empty : (k : Session) → lineOf (finished k) ≡ []
 unfolding finished
 finished-empty (first l) = go (readCode l)
   where
@@ -274,33 +274,33 @@ finished-empty (first l) = go (readCode l)
 finished-empty (later code l) = refl
 finished-empty ended = refl
 
-kept-long : (k : Kept) (b : ℕ) → length (lineOf (kept k b)) ≤ length (lineOf k) + 1
+kept-long : (k : Session) (b : ℕ) → length (lineOf (fedByte k b)) ≤ length (lineOf k) + 1
 kept-long (first l) b = simp (length-take, length-append) (omega arith)
 kept-long (later code l) b = simp (length-take, length-append) (omega arith)
 kept-long ended b = omega arith
 
 -- five bytes for each byte of the line so far and of the block
-fed-fewer : (k : Kept) (s : List ℕ) → length (fedOut k s) ≤ 5 * (length (lineOf k) + length s)
+fed-fewer : (k : Session) (s : List ℕ) → length (fedOut k s) ≤ 5 * (length (lineOf k) + length s)
 unfolding fedOut
 fed-fewer k [] = omega arith
-fed-fewer k (b ∷ s) = go (eqb b 0x0A) (fed-fewer (finished k) s) (fed-fewer (kept k b) s)
+fed-fewer k (b ∷ s) = go (eqb b 0x0A) (fed-fewer (finished k) s) (fed-fewer (fedByte k b) s)
   where
     go : (c : Bool) → length (fedOut (finished k) s) ≤ 5 * (length (lineOf (finished k)) + length s)
-        → length (fedOut (kept k b) s) ≤ 5 * (length (lineOf (kept k b)) + length s)
-        → length (pick c (finishedOut k ++ fedOut (finished k) s) (fedOut (kept k b) s)) ≤ 5 * (length (lineOf k) + suc (length s))
+        → length (fedOut (fedByte k b) s) ≤ 5 * (length (lineOf (fedByte k b)) + length s)
+        → length (pick c (finishedOut k ++ fedOut (finished k) s) (fedOut (fedByte k b) s)) ≤ 5 * (length (lineOf k) + suc (length s))
     go true h i =
         let e : length (lineOf (finished k)) ≡ 0 = ap length (finished-empty k) in
         rw (length-append (finishedOut k) (fedOut (finished k) s)) (omega (arith, turn-short k .fewer))
     go false h i = omega (arith, kept-long k b)
 
 -- the bound: the first line that ends in a block prints at most 517 bytes, each other one at most five for each of its bytes and the 0A
-pub fed-few : (k : Kept) (s : List ℕ) → length (fedOut k s) ≤ 512 + 5 * length s
+pub fed-few : (k : Session) (s : List ℕ) → length (fedOut k s) ≤ 512 + 5 * length s
 unfolding fedOut
 fed-few k [] = omega arith
-fed-few k (b ∷ s) = go (eqb b 0x0A) (fed-few (kept k b) s)
+fed-few k (b ∷ s) = go (eqb b 0x0A) (fed-few (fedByte k b) s)
   where
-    go : (c : Bool) → length (fedOut (kept k b) s) ≤ 512 + 5 * length s
-        → length (pick c (finishedOut k ++ fedOut (finished k) s) (fedOut (kept k b) s)) ≤ 512 + 5 * suc (length s)
+    go : (c : Bool) → length (fedOut (fedByte k b) s) ≤ 512 + 5 * length s
+        → length (pick c (finishedOut k ++ fedOut (finished k) s) (fedOut (fedByte k b) s)) ≤ 512 + 5 * suc (length s)
     go true i =
         let e : length (lineOf (finished k)) ≡ 0 = ap length (finished-empty k) in
         rw (length-append (finishedOut k) (fedOut (finished k) s)) (omega (arith, turn-short k .few, fed-fewer (finished k) s))

@@ -10,7 +10,7 @@ use lib.ListN.{length, getD, length-map}
 use lib.Seq.{take-at, drop-append-add}
 use Rattle.trellis.specs.Lists.{each, pick, part}
 use Rattle.machine.specs.CodeLine.{Read, good, bad, then, Edge, readEdge, edges, checkAt, checks}
-use Rattle.machine.specs.inner.Tables.{Flat, flat, edgesInto, checkInto, Tables, tables, checksInto, tablesOf, edgesOf, before}
+use Rattle.machine.specs.inner.Tables.{Flat, flat, edgesInto, checkInto, Tables, tables, checksInto, tablesOf, edgesOf, edgesBefore}
 use Rattle.machine.proofs.Lines.{check-count}
 
 abbrev cols : List Edge → List ℕ
@@ -80,19 +80,19 @@ edges-of : (es : List Edge) → edgesOf (cols es) (wts es) ≡ es
 edges-of [] = refl
 edges-of (e ∷ es) = ap (λ l. e ∷ l) (edges-of es)
 
-pub before-cons : (d : ℕ) (ds : List ℕ) (m : ℕ) → before (d ∷ ds) (suc m) ≡ d + before ds m
+pub before-cons : (d : ℕ) (ds : List ℕ) (m : ℕ) → edgesBefore (d ∷ ds) (suc m) ≡ d + edgesBefore ds m
 before-cons d ds zero = omega arith
 before-cons d ds (suc m) = ap (λ a. a + getD ds m 0) (before-cons d ds m) ∙ omega arith
 
 slice : (f : Edge → ℕ) (l : List (List Edge)) (m : ℕ) → m < length l
-    → part (each (map f) l) (before (map (λ es. length es) l) m) (getD (map (λ es. length es) l) m 0) ≡ map f (getD l m [])
+    → part (each (map f) l) (edgesBefore (map (λ es. length es) l) m) (getD (map (λ es. length es) l) m 0) ≡ map f (getD l m [])
 slice f [] m h = absurd (not-suc-le-zero h)
 slice f (es ∷ l) zero h = take-at (map f es) (each (map f) l) (length es) (length-map es f)
 slice f (es ∷ l) (suc m) h =
-    rw (before-cons (length es) (map (λ es. length es) l) m, ← length-map es f, drop-append-add (map f es) (each (map f) l) (before (map (λ es. length es) l) m))
+    rw (before-cons (length es) (map (λ es. length es) l) m, ← length-map es f, drop-append-add (map f es) (each (map f) l) (edgesBefore (map (λ es. length es) l) m))
     (slice f l m (omega arith))
 
 pub check-slice : (l : List (List Edge)) (m : ℕ) → m < length l
-    → edgesOf (part (tablesOf l .edges .columns) (before (tablesOf l .degrees) m) (getD (tablesOf l .degrees) m 0))
-    (part (tablesOf l .edges .weights) (before (tablesOf l .degrees) m) (getD (tablesOf l .degrees) m 0)) ≡ getD l m []
+    → edgesOf (part (tablesOf l .edges .columns) (edgesBefore (tablesOf l .degrees) m) (getD (tablesOf l .degrees) m 0))
+    (part (tablesOf l .edges .weights) (edgesBefore (tablesOf l .degrees) m) (getD (tablesOf l .degrees) m 0)) ≡ getD l m []
 check-slice l m h = ap₂ edgesOf (slice (λ e. e .column) l m h) (slice (λ e. e .weight) l m h) ∙ edges-of (getD l m [])

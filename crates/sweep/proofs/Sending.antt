@@ -24,7 +24,7 @@ use Rattle.trellis.proofs.Sweep.{swept-sent, before-keeps, after-keeps}
 use Rattle.checknode.specs.inner.Asks.{shiftsOf}
 use Rattle.field.proofs.Blocks.{block-at, in-block, part-room}
 use Rattle.checknode.proofs.Resting.{column-bytes, shift-at, shifts-length, parts}
-use Rattle.sweep.specs.Kept.{cellCount, cellAt, Kept}
+use Rattle.sweep.specs.Kept.{cellCount, cellAt, KeptCells}
 use Rattle.sweep.specs.inner.Cells.{turnsOf, cellsAfter, tableOf, Swept}
 use Rattle.sweep.specs.inner.Joins.{joinAt, cellsBefore, cellsBehind, sentRow, Joinable}
 use Rattle.sweep.specs.inner.Groups.{lowestTo, sentOf, groupBy, Fits}
@@ -87,7 +87,7 @@ module _ (f : ℕ) (ws cs : List ℕ) (D : Ready f ws cs) where
     cost-byte n l y = column-bytes f ws cs D bytes n y l
 
     -- "Each kept cost is proved to be that least, with a mark where no choice exists"
-    pub kept-tables : {before after : List ℕ} → Swept f ws cs before after → Kept f ws cs before after
+    pub kept-tables : {before after : List ℕ} → Swept f ws cs before after → KeptCells f ws cs before after
     kept-tables {before} {after} T =
         record {
           over-before = λ n j t h u v.

@@ -16,7 +16,7 @@ abbrev pub cellAt : ℕ → List ℕ → ℕ → ℕ → ℕ → ℕ
 cellAt f table i j t = getD table (i * cellCount f + (j * sizeOf f + t)) 0
 
 -- part n of the first table is over the columns before n, part d - 1 - n of the second over the columns after n
-pub record Kept (f : ℕ) (ws cs before after : List ℕ) : Type 0 where
+pub record KeptCells (f : ℕ) (ws cs before after : List ℕ) : Type 0 where
   pub over-before : (n j t : ℕ) → n < length ws → j ≤ mostOf f → t < sizeOf f
       → Keeps (ruleFor f) (take n (columnsOf (sizeOf f) ws cs)) j t (cellAt f before n j t)
   pub over-after : (n j t : ℕ) → n < length ws → j ≤ mostOf f → t < sizeOf f

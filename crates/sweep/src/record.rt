@@ -13,7 +13,7 @@ ghost use Rattle.trellis.specs.Rules.{powerOf, sizeOf, ruleFor, columnsOf};
 ghost use Rattle.trellis.specs.Ready.{Ready};
 ghost use Rattle.engine.specs.inner.Terms.{termOf, sumTo};
 ghost use Rattle.checknode.specs.inner.Asks.{shiftsOf};
-ghost use Rattle.sweep.specs.Kept.{cellCount, Kept};
+ghost use Rattle.sweep.specs.Kept.{cellCount, KeptCells};
 ghost use Rattle.sweep.specs.inner.Cells.{termsOf, Swept};
 
 // h times z of column n.
@@ -81,7 +81,7 @@ fn sweeps(
     requires { ⌜ length (now before) ≡ length (now weights) * cellCount first ⌝ }
     requires { ⌜ length (now after) ≡ length (now weights) * cellCount first ⌝ }
     ensures { λ _. ⌜ Swept first (now (weights .entry)) (now (costs .entry)) (now (before .exit)) (now (after .exit)) ⌝ }
-    ensures { λ _. ⌜ Kept first (now (weights .entry)) (now (costs .entry)) (now (before .exit)) (now (after .exit)) ⌝ }
+    ensures { λ _. ⌜ KeptCells first (now (weights .entry)) (now (costs .entry)) (now (before .exit)) (now (after .exit)) ⌝ }
 {
     columns::fill(first, weights, costs, false, cells, before);
     columns::fill(first, weights, costs, true, cells, after);

@@ -18,7 +18,7 @@ use Rattle.machine.specs.Line.{byteAt, lineBytes, lineOk, lineReply, lineLeaves
 use Rattle.machine.specs.CodeLine.{Read, good, bad, Code, parse, Numbers, numbersOf}
 use Rattle.machine.specs.Printing.{frameSaid, frameLine}
 use Rattle.machine.specs.Program.{readCode, refusedLine}
-use Rattle.machine.specs.inner.Blocks.{Kept, first, later, ended, longer, kept, codeKept, codeOut, finished, finishedOut, fed, fedOut, closeOut}
+use Rattle.machine.specs.inner.Blocks.{Session, first, later, ended, longer, fedByte, codeKept, codeOut, finished, finishedOut, fed, fedOut, closeOut}
 use Rattle.machine.proofs.Program.{fed-more, turn-short}
 use Rattle.text.specs.inner.Held.{Held, keptOf, putAt, byteHeld, codeBytes, isGood, accepts, codeHeld, finishedHeld, stepHeld, fedHeld, quiet, closeHeld}
 
@@ -34,16 +34,16 @@ line-full l n b h k =
     let e : take n l ≡ l = take-all n l (omega arith) in
     rw e (take-at l (b ∷ []) 32769 h)
 
-kept-cases : (o c : Bool) (x y z : List ℕ) (b : ℕ) → longer x b ≡ y → pick o ended (pick c (first y) (later z y)) ≡ kept (pick o ended (pick c (first x) (later z x))) b
+kept-cases : (o c : Bool) (x y z : List ℕ) (b : ℕ) → longer x b ≡ y → pick o ended (pick c (first y) (later z y)) ≡ fedByte (pick o ended (pick c (first x) (later z x))) b
 kept-cases true c x y z b e = refl
-kept-cases false true x y z b e = ap {B = Kept} (λ r. first r) (sym e)
-kept-cases false false x y z b e = ap {B = Kept} (λ r. later z r) (sym e)
+kept-cases false true x y z b e = ap {B = Session} (λ r. first r) (sym e)
+kept-cases false false x y z b e = ap {B = Session} (λ r. later z r) (sym e)
 
-byte-stands : (h : Held) (b : ℕ) → length (h .line) ≡ 32769 → keptOf (byteHeld h b) ≡ kept (keptOf h) b
+byte-stands : (h : Held) (b : ℕ) → length (h .line) ≡ 32769 → keptOf (byteHeld h b) ≡ fedByte (keptOf h) b
 byte-stands h b e = go (ltb (h .len) 32769) refl
   where
     go : (t : Bool) → ltb (h .len) 32769 ≡ t
-        → keptOf (pick t (record { len = h .len + 1; code = h .code; over = h .over; line = set (h .line) (h .len) b; bytes = h .bytes }) h) ≡ kept (keptOf h) b
+        → keptOf (pick t (record { len = h .len + 1; code = h .code; over = h .over; line = set (h .line) (h .len) b; bytes = h .bytes }) h) ≡ fedByte (keptOf h) b
     go true i = kept-cases (h .over) (eqb (h .code) 0) (take (h .len) (h .line)) _ (take (h .code) (h .bytes)) b (line-longer (h .line) (h .len) b e (ltb-true _ _ i))
     go false i = kept-cases (h .over) (eqb (h .code) 0) (take (h .len) (h .line)) _ (take (h .code) (h .bytes)) b (line-full (h .line) (h .len) b e (ltb-false _ _ i))
 
@@ -93,7 +93,7 @@ refused-out t e = ⊎-elim (λ (a : Accepted t). absurd (true≢false (sym (a .a
 code-stands : (h : Held) (t : List ℕ) → keptOf (codeHeld h t) ≡ codeKept (readCode t) (lineBytes t)
 code-stands h t =
     ⊎-elim
-    (λ (a : Accepted t). rw (a .accepted, a .read, a .some) (ap {B = Kept} (λ r. later r []) (take-at (codeBytes t) (drop (length (codeBytes t)) (h .bytes)) (length (codeBytes t)) refl ∙ a .same)))
+    (λ (a : Accepted t). rw (a .accepted, a .read, a .some) (ap {B = Session} (λ r. later r []) (take-at (codeBytes t) (drop (length (codeBytes t)) (h .bytes)) (length (codeBytes t)) refl ∙ a .same)))
     (λ (r : Refused t). rw (r .refused, r .read) refl)
     (code-told t)
 
@@ -111,7 +111,7 @@ pub step-stands : (h : Held) (b : ℕ) → length (h .line) ≡ 32769 → keptOf
 unfolding stepHeld fed finished
 step-stands h b e = go (h .over) refl (eqb b 0x0A)
   where
-    go : (o : Bool) → h .over ≡ o → (t : Bool) → keptOf (pick o h (pick t (finishedHeld h) (byteHeld h b))) ≡ pick t (finished (keptOf h)) (kept (keptOf h) b)
+    go : (o : Bool) → h .over ≡ o → (t : Bool) → keptOf (pick o h (pick t (finishedHeld h) (byteHeld h b))) ≡ pick t (finished (keptOf h)) (fedByte (keptOf h) b)
     go true i true = rw i refl
     go true i false = rw i refl
     go false i true = turn-stands h i
@@ -349,5 +349,5 @@ module _ (n k : ℕ) (en : Bool) (l c : List ℕ) (long : length l ≡ 32769) wh
       go false false false a i d j = (refl, some n l d (omega arith), refl)
 
 -- turn, from an empty output
-pub turn-few : (k : Kept) → 0 + length (finishedOut k) ≤ 517
+pub turn-few : (k : Session) → 0 + length (finishedOut k) ≤ 517
 turn-few k = omega (arith, turn-short k .few)

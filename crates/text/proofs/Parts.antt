@@ -11,7 +11,7 @@ use lib.ListN.{length, take, drop, set, getD, length-append, length-take, length
 use lib.Seq.{drop-cons, drop-length, drop-drop, drop-set-lt, take-add, take-suc, take-suc-set, append-snoc, take-all, take-length, getD-drop}
 use borrow.Author.Tests.{eqb-true, eq-eqb, ne-eqb, lt-ltb, le-ltb}
 use Rattle.trellis.specs.Lists.{pick}
-use Rattle.machine.specs.inner.Blocks.{Kept, kept, finished, finishedOut, fed, fedOut}
+use Rattle.machine.specs.inner.Blocks.{Session, fedByte, finished, finishedOut, fed, fedOut}
 use Rattle.machine.proofs.Program.{fed-more, fed-few, ended-silent}
 use Rattle.text.specs.inner.Held.{Held, keptOf, putAt, byteHeld, stepHeld, fedHeld, finishedHeld, toNewline, roomFor, partHeld}
 use Rattle.text.proofs.Laws.{put-none, put-mid, put-more, fedHeld-more, fed-stands, add-none, put-nothing, part-same}
@@ -52,13 +52,13 @@ at-newline (b ∷ s) h = go (eqb b 0x0A) refl h (λ i. at-newline s i)
     go false e k f = f (omega arith)
 
 -- nothing is printed for a part
-pub plain-out : (s : List ℕ) (k : Kept) → toNewline s ≡ length s → fedOut k s ≡ []
+pub plain-out : (s : List ℕ) (k : Session) → toNewline s ≡ length s → fedOut k s ≡ []
 unfolding toNewline fedOut
 plain-out [] k e = refl
-plain-out (b ∷ s) k e = go (eqb b 0x0A) e (λ j. plain-out s (kept k b) j)
+plain-out (b ∷ s) k e = go (eqb b 0x0A) e (λ j. plain-out s (fedByte k b) j)
   where
-    go : (t : Bool) → pick t 0 (suc (toNewline s)) ≡ suc (length s) → (toNewline s ≡ length s → fedOut (kept k b) s ≡ [])
-        → pick t (finishedOut k ++ fedOut (finished k) s) (fedOut (kept k b) s) ≡ []
+    go : (t : Bool) → pick t 0 (suc (toNewline s)) ≡ suc (length s) → (toNewline s ≡ length s → fedOut (fedByte k b) s ≡ [])
+        → pick t (finishedOut k ++ fedOut (finished k) s) (fedOut (fedByte k b) s) ≡ []
     go true i h = absurd (omega arith)
     go false i h = h (omega arith)
 
@@ -119,7 +119,7 @@ fed-part (b ∷ s) n k l c h e = go (eqb b 0x0A) e (λ m x i j. fed-part s m k x
               (rw z (set-put l n b (take (roomFor (n + 1) s) s) (omega arith))))
         ]
 
-newline-out : (k : Kept) → fedOut k (0x0A ∷ []) ≡ finishedOut k
+newline-out : (k : Session) → fedOut k (0x0A ∷ []) ≡ finishedOut k
 unfolding fedOut
 newline-out k = append-nil (finishedOut k)
 

@@ -6,7 +6,7 @@ use native.Mathlib.Omega.{arith}
 use lib.ListN.{length, take, drop}
 use lib.Seq.{take-at}
 use Rattle.machine.specs.Program.{outputOf}
-use Rattle.machine.specs.inner.Blocks.{fedOut, closeOut, fedAll, fedAllOut, joined}
+use Rattle.machine.specs.inner.Blocks.{fedOut, closeOut, fedAll, fedAllOut, allBlocks}
 use Rattle.machine.proofs.Program.{blocks-output, fed-few}
 use Rattle.text.specs.inner.Held.{Held, held, keptOf, putAt, fedHeld}
 use Rattle.text.specs.Calls.{Call, Closes, Calls, after, blocksOf, printedBy, begin}
@@ -29,7 +29,7 @@ all-stand h (s ∷ bs) e =
     let k = fed-stands h s e in
     (r .0 ∙ ap (λ x. fedAll x bs) k, ap (λ x. fedOut (keptOf h) s ++ x) (r .1 ∙ ap (λ x. fedAllOut x bs) k))
 
-pub session : (input : List ℕ) (bs : List (List ℕ)) (line code : List ℕ) → length line ≡ 32769 → joined bs ≡ take 4294967295 input
+pub session : (input : List ℕ) (bs : List (List ℕ)) (line code : List ℕ) → length line ≡ 32769 → allBlocks bs ≡ take 4294967295 input
     → heldOut (begin line code) bs ++ closeOut (keptOf (heldAll (begin line code) bs)) ≡ outputOf input
 session input bs line code h e =
     let a = all-stand (begin line code) bs h in
@@ -52,7 +52,7 @@ calls-held h (c ∷ cs) k =
     (r .0 ∙ ap (λ x. heldAll x (blocksOf cs)) (f .keeps), ap₂ (λ x y. x ++ y) a (r .1 ∙ ap (λ x. heldOut x (blocksOf cs)) (f .keeps)))
 
 -- the theorem of the calls: whatever the buffers held, and however the input was cut
-pub calls-output : (input : List ℕ) (cs : List Call) (line code : List ℕ) → length line ≡ 32769 → Calls (begin line code) cs → joined (blocksOf cs) ≡ take 4294967295 input
+pub calls-output : (input : List ℕ) (cs : List Call) (line code : List ℕ) → length line ≡ 32769 → Calls (begin line code) cs → allBlocks (blocksOf cs) ≡ take 4294967295 input
     → (before : List ℕ) (n : ℕ) (code′ out : List ℕ) → Closes (after (begin line code) cs) before n code′ out
     → printedBy cs ++ take n out ≡ outputOf input
 calls-output input cs line code h k e before n code′ out q =

@@ -17,7 +17,7 @@ use Rattle.machine.specs.Moments.{Moment}
 use Rattle.machine.specs.inner.Tables.{bytesBefore}
 use Rattle.machine.specs.inner.Accepted.{GoodCode}
 use Rattle.machine.specs.inner.InRange.{Passable}
-use Rattle.layered.specs.inner.Frames.{roomFault}
+use Rattle.layered.specs.inner.Frames.{roomFaultOf}
 use Rattle.codeline.specs.declared.answers.Numbers.{Numbers}
 use Rattle.codeline.specs.inner.Coding.{codeOf, Coded}
 use Rattle.channels.specs.declared.service.Layout.{Layout}
@@ -45,7 +45,7 @@ pub record LaidOut (k : Numbers) (ds : List ℕ) (z : Layout) : Type 0 where
 -- 12, 2, 3, 4, 19 by the lengths; 0 for none
 unfoldable pub faultFor : ℕ → Layout → ℕ → ℕ → ℕ → ℕ → ℕ → ℕ
 faultFor n z f y c s v =
-    refusedBy (unless (eqb f (n * z .costs)) 12 ∷ []) (λ k. k) (roomFault (n * z .columns) (n * z .costs) (n * z .store) y c s v)
+    refusedBy (unless (eqb f (n * z .costs)) 12 ∷ []) (λ k. k) (roomFaultOf (n * z .columns) (n * z .costs) (n * z .store) y c s v)
 
 -- lengths whose multiples fit
 pub record FaultRoom (n : ℕ) (z : Layout) : Type 0 where
@@ -55,7 +55,7 @@ pub record FaultRoom (n : ℕ) (z : Layout) : Type 0 where
   pub store : z .store ≤ 65535
 
 -- the layout and the tables of an accepted code
-pub record Shaped (C : Code) (z : Layout) (ds cs ws : List ℕ) : Type 0 where
+pub record Fitted (C : Code) (z : Layout) (ds cs ws : List ℕ) : Type 0 where
   pub coded : Coded (z .numbers) ds cs ws
   pub code-is : codeOf (z .numbers) ds cs ws ≡ C
   pub good : GoodCode C
@@ -78,7 +78,7 @@ AllParts C n s = n * used C ≤ length s
 -- a channel's load: it is one of n
 pub record LoadsRoom (n : ℕ) (z : Layout) (ds cs ws fs y p v st : List ℕ) : Type 0 where
   pub code : Code
-  pub shaped : Shaped code z ds cs ws
+  pub shaped : Fitted code z ds cs ws
   pub frames : length fs ≡ n * (code .columns * size code)
   pub symbols : n * code .columns ≤ length y
   pub costs : n * (code .columns * size code) ≤ length p
@@ -87,7 +87,7 @@ pub record LoadsRoom (n : ℕ) (z : Layout) (ds cs ws fs y p v st : List ℕ) : 
 
 pub record LoadRoom (c : ℕ) (z : Layout) (ds cs ws fs y p v : List ℕ) : Type 0 where
   pub code : Code
-  pub shaped : Shaped code z ds cs ws
+  pub shaped : Fitted code z ds cs ws
   pub frames : c * (code .columns * size code) + code .columns * size code ≤ length fs
   pub symbols : c * code .columns + code .columns ≤ length y
   pub costs : c * (code .columns * size code) + code .columns * size code ≤ length p
@@ -101,9 +101,9 @@ pub record PartRoom (C : Code) (c : ℕ) (b : Buffers) : Type 0 where
   pub for-margins : c * C .columns + C .columns ≤ length (b .margins)
 
 -- its next iteration, after t: its costs are in range and its records of accepted form
-pub record StepRoom (c t : ℕ) (z : Layout) (ds cs ws : List ℕ) (b : Buffers) (A S : List ℕ) : Type 0 where
+pub record NextRoom (c t : ℕ) (z : Layout) (ds cs ws : List ℕ) (b : Buffers) (A S : List ℕ) : Type 0 where
   pub code : Code
-  pub shaped : Shaped code z ds cs ws
+  pub shaped : Fitted code z ds cs ws
   pub room : PartRoom code c b
   pub passable : Passable code (shaped .good) (eqb t 0) (lentIn (ownOf code b c))
   pub arrived : 2048 ≤ length A
@@ -112,7 +112,7 @@ pub record StepRoom (c t : ℕ) (z : Layout) (ds cs ws : List ℕ) (b : Buffers)
 -- a round of n channels, and one of its servings
 pub record ServeRoom (n : ℕ) (z : Layout) (ds cs ws : List ℕ) (l : Standing) (A S : List ℕ) : Type 0 where
   pub code : Code
-  pub shaped : Shaped code z ds cs ws
+  pub shaped : Fitted code z ds cs ws
   pub serves : Serves code (shaped .good) n l
   pub arrived : 2048 ≤ length A
   pub sent : 2048 ≤ length S
@@ -127,7 +127,7 @@ pub record UnderRoom (n A : ℕ) (z : Layout) (ds cs ws Q S : List ℕ) : Type 0
   pub code : Code
   pub line : List ℕ
   pub parsed : parse line ≡ good code
-  pub shaped : Shaped code z ds cs ws
+  pub shaped : Fitted code z ds cs ws
   pub low : 1 ≤ n
   pub high : n ≤ 8
   pub some : 0 < A

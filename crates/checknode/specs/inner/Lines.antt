@@ -10,7 +10,7 @@ use Rattle.trellis.specs.Rules.{powerOf, sizeOf, ruleFor, columnsOf, costsAt}
 use Rattle.engine.specs.inner.Lines.{placed}
 
 -- each symbol's row is below 2 ^ p, and the line has these rows
-pub record PlaceRoom (costs row : List ℕ) (s : ℕ) (line : List ℕ) : Type 0 where
+pub record PutRoom (costs row : List ℕ) (s : ℕ) (line : List ℕ) : Type 0 where
   pub p : ℕ
   pub wide : 2 ^ p ≤ length line
   pub full : length costs ≤ length row
@@ -47,17 +47,17 @@ pub record LinesRoom (p l d : ℕ) (lines out : List ℕ) : Type 0 where
   pub of-out : length out ≡ d
 
 -- what symbol x is sent: what stands in its row, its product moved by the shift s
-abbrev pub sentFrom : List ℕ → ℕ → List ℕ → ℕ → ℕ
-sentFrom row s rests x = 255 - getD rests (xor (getD row x 0) s) 0
+abbrev pub sentIn : List ℕ → ℕ → List ℕ → ℕ → ℕ
+sentIn row s rests x = 255 - getD rests (xor (getD row x 0) s) 0
 
 -- each symbol's row is there
-pub record SendRoom (row : List ℕ) (s : ℕ) (rests out : List ℕ) : Type 0 where
+pub record SentRoom (row : List ℕ) (s : ℕ) (rests out : List ℕ) : Type 0 where
   pub same : length row ≡ length out
   pub below : (x : ℕ) → x < length out → xor (getD row x 0) s < length rests
 
 -- column n of them, with w products and l rests a column
 abbrev pub sentColumn : ℕ → ℕ → List ℕ → List ℕ → List ℕ → ℕ → List ℕ
-sentColumn w l rows shifts rests n = tab (sentFrom (part rows (n * w) w) (getD shifts n 0) (part rests (n * l) l)) w
+sentColumn w l rows shifts rests n = tab (sentIn (part rows (n * w) w) (getD shifts n 0) (part rests (n * l) l)) w
 
 pub record SendsRoom (w l : ℕ) (rows shifts rests out : List ℕ) : Type 0 where
   pub few : length shifts ≤ 32

@@ -3,7 +3,7 @@ use mathlib.Core.List.{List}
 use Prim.Native.Nat.{ℕ, _≤_}
 use lib.ListN.{length}
 use Rattle.machine.specs.CodeLine.{Code}
-use Rattle.machine.specs.inner.Tables.{before, codeIn}
+use Rattle.machine.specs.inner.Tables.{edgesBefore, codeIn}
 use Rattle.machine.specs.inner.Accepted.{GoodCode}
 use Rattle.codeline.specs.Answers.{numbersIn}
 use Rattle.codeline.specs.declared.answers.Numbers.{Numbers}
@@ -15,5 +15,5 @@ codeOf k ds cs ws = codeIn (numbersIn k) ds cs ws
 pub record Coded (k : Numbers) (ds cs ws : List ℕ) : Type 0 where
   pub good : GoodCode (codeOf k ds cs ws)
   pub for-degrees : k .checks ≤ length ds
-  pub for-columns : before ds (k .checks) ≤ length cs
-  pub for-weights : before ds (k .checks) ≤ length ws
+  pub for-columns : edgesBefore ds (k .checks) ≤ length cs
+  pub for-weights : edgesBefore ds (k .checks) ≤ length ws

@@ -8,7 +8,7 @@ use lib.ListN.{length, take, drop, getD}
 use Rattle.trellis.specs.Refusals.{refusedBy}
 use Rattle.machine.specs.CodeLine.{Read, good, bad, Code, Edge as Pair, edge, wordAt, headTests, Numbers}
 use Rattle.machine.specs.inner.Tables.{Flat, flat, Tables, tables}
-use Rattle.codeline.specs.Answers.{degreesOf, columnsOf, weightsOf}
+use Rattle.codeline.specs.Answers.{degreeTable, columnTable, weightTable}
 use Rattle.codeline.specs.declared.answers.Header.{Header}
 use Rattle.codeline.specs.declared.answers.Header.the-variants.{Read as HeaderRead, Refused as HeaderRefused}
 use Rattle.codeline.specs.declared.reader.Field.{Field}
@@ -69,9 +69,9 @@ ChecksFit (ChecksRefused k) = Unit {0}
 
 -- tables into which a code's checks were read: so many entries, and behind them anything
 pub record Filled (C : Code) (ds cs ws : List ℕ) (edges : ℕ) : Type 0 where
-  pub degrees : take (length (C .checks)) ds ≡ degreesOf C
-  pub columns : take edges cs ≡ columnsOf C
-  pub weights : take edges ws ≡ weightsOf C
+  pub degrees : take (length (C .checks)) ds ≡ degreeTable C
+  pub columns : take edges cs ≡ columnTable C
+  pub weights : take edges ws ≡ weightTable C
 
 -- there is room for as many
 abbrev pub CountFits : Header → ℕ → Type 0

@@ -6,20 +6,10 @@ use Prim.Native.Nat.{ℕ, _+_, _-_, _^_, _≤_, _<_}
 use lib.ListN.{length, getD}
 use Rattle.trellis.specs.Reply.{Reply}
 use Rattle.machine.specs.CodeLine.{Code, good}
-use Rattle.machine.specs.inner.Tables.{before, Tabled}
+use Rattle.machine.specs.inner.Tables.{edgesBefore, Tabled, EdgeRoom}
 use Rattle.machine.specs.Encoding.{encodingUnder}
 use Rattle.machine.specs.inner.Accepted.{GoodCode}
-use Rattle.encoder.specs.inner.Words.{Leaves}
-
--- edge k has a column with a symbol, and two elements to multiply
-pub record EdgeRoom (p : ℕ) (cs ws z : List ℕ) (k : ℕ) : Type 0 where
-  pub low : 2 ≤ p
-  pub high : p ≤ 6
-  pub in-columns : k < length cs
-  pub in-weights : k < length ws
-  pub column : getD cs k 0 < length z
-  pub weight : getD ws k 0 < 2 ^ p
-  pub symbol : getD z (getD cs k 0) 0 < 2 ^ p
+use Rattle.encoder.specs.inner.Words.{Writes}
 
 -- n edges from place at on, with weights that are not 0
 pub record SumRoom (p : ℕ) (cs ws z : List ℕ) (at n : ℕ) : Type 0 where
@@ -42,16 +32,16 @@ pub record FillRoom (p : ℕ) (ds cs ws : List ℕ) (from : ℕ) (z : List ℕ) 
   pub high : p ≤ 6
   pub full : length z ≡ from + length ds
   pub message : (i : ℕ) → i < from → getD z i 0 < 2 ^ p
-  pub in-columns : before ds (length ds) ≤ length cs
-  pub in-weights : before ds (length ds) ≤ length ws
+  pub in-columns : edgesBefore ds (length ds) ≤ length cs
+  pub in-weights : edgesBefore ds (length ds) ≤ length ws
   pub one : (m : ℕ) → m < length ds → 1 ≤ getD ds m 0
-  pub lower : (m k : ℕ) → m < length ds → k < getD ds m 0 - 1 → getD cs (before ds m + k) 0 < from + m
-  pub some : (m k : ℕ) → m < length ds → k < getD ds m 0 → getD ws (before ds m + k) 0 ≢ 0
-  pub small : (m k : ℕ) → m < length ds → k < getD ds m 0 → getD ws (before ds m + k) 0 < 2 ^ p
+  pub lower : (m k : ℕ) → m < length ds → k < getD ds m 0 - 1 → getD cs (edgesBefore ds m + k) 0 < from + m
+  pub some : (m k : ℕ) → m < length ds → k < getD ds m 0 → getD ws (edgesBefore ds m + k) 0 ≢ 0
+  pub small : (m k : ℕ) → m < length ds → k < getD ds m 0 → getD ws (edgesBefore ds m + k) 0 < 2 ^ p
 
 -- degrees of 1 or more, whose edges stand in the table
-pub record FormRoom (ds cs : List ℕ) : Type 0 where
-  pub in-columns : before ds (length ds) ≤ length cs
+pub record EncodableRoom (ds cs : List ℕ) : Type 0 where
+  pub in-columns : edgesBefore ds (length ds) ≤ length cs
   pub one : (m : ℕ) → m < length ds → 1 ≤ getD ds m 0
   pub few : length ds ≤ 128
 
@@ -69,4 +59,4 @@ pub record LineRoom (first n m : ℕ) (ds cs ws : List ℕ) : Type 0 where
 
 -- what a call under such a line leaves: the encoding under its code
 abbrev pub LeavesLined : ℕ → ℕ → ℕ → List ℕ → List ℕ → List ℕ → List ℕ → List ℕ → Reply → List ℕ → Type 0
-LeavesLined f n m ds cs ws u out reply after = (C : Code) → Lined C f n m ds cs ws → Leaves (encodingUnder (good C) u out) reply after
+LeavesLined f n m ds cs ws u out reply after = (C : Code) → Lined C f n m ds cs ws → Writes (encodingUnder (good C) u out) reply after

@@ -8,12 +8,12 @@ use lib.ListN.{length, getD}
 use Rattle.trellis.specs.Lists.{pick, allTo}
 use Rattle.trellis.specs.Field.{quotient}
 use Rattle.trellis.specs.Reply.{Reply}
-use Rattle.machine.specs.inner.Tables.{before, sumFrom}
+use Rattle.machine.specs.inner.Tables.{edgesBefore, sumFrom}
 use Rattle.machine.specs.Encoding.{symbolsOk, Wrote}
 
 -- where check m's last edge stands
 abbrev pub lastPlace : List ℕ → ℕ → ℕ
-lastPlace ds m = before ds m + (getD ds m 0 - 1)
+lastPlace ds m = edgesBefore ds m + (getD ds m 0 - 1)
 
 -- the symbol that satisfies the check of d edges from place at on, the last of which is its own
 abbrev pub ownFrom : ℕ → List ℕ → List ℕ → List ℕ → ℕ → ℕ → ℕ
@@ -21,7 +21,7 @@ ownFrom p cs ws z at d = quotient p (getD ws (at + (d - 1)) 0) (sumFrom p cs ws 
 
 -- the symbol of check m, where w is the word before it
 unfoldable pub ownAt : ℕ → List ℕ → List ℕ → List ℕ → ℕ → List ℕ → ℕ
-ownAt p ds cs ws m w = ownFrom p cs ws w (before ds m) (getD ds m 0)
+ownAt p ds cs ws m w = ownFrom p cs ws w (edgesBefore ds m) (getD ds m 0)
 
 -- the message u, and the symbols of the first m checks after it
 unfoldable pub encodeOn : ℕ → List ℕ → List ℕ → List ℕ → List ℕ → ℕ → List ℕ
@@ -46,6 +46,6 @@ encodeFaultOf q n ds cs u room =
     17
 
 -- the reply and the buffer are those of an encoding
-pub record Leaves (w : Wrote) (reply : Reply) (out : List ℕ) : Type 0 where
+pub record Writes (w : Wrote) (reply : Reply) (out : List ℕ) : Type 0 where
   pub replies : reply ≡ w .reply
   pub out-then : out ≡ w .out

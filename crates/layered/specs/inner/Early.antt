@@ -13,7 +13,7 @@ use Rattle.machine.specs.CodeLine.{Code, columnOf}
 use Rattle.machine.specs.Machine.{found, notFound, symbols, settled}
 use Rattle.machine.specs.Lent.{Lent, lent}
 use Rattle.machine.specs.inner.LentEarly.{Halted, halted, stopLent}
-use Rattle.machine.specs.inner.Tables.{before, tableAt}
+use Rattle.machine.specs.inner.Tables.{edgesBefore, tableAt}
 use Rattle.machine.specs.inner.InRange.{Advancing}
 use Rattle.codeline.specs.declared.answers.Numbers.{Numbers}
 use Rattle.codeline.specs.inner.Coding.{codeOf, Coded}
@@ -38,7 +38,7 @@ pub record AgainRoom (q : ℕ) (P cs z : List ℕ) : Type 0 where
 pub record RetestRoom (k : Numbers) (ds cs ws : List ℕ) (p : Place) (from : CheckAt) (P z : List ℕ) : Type 0 where
   pub settled-room : SettledRoom k ds cs ws P z
   pub inside : p .check < k .checks
-  pub edge-is : p .edge ≡ before ds (p .check)
+  pub edge-is : p .edge ≡ edgesBefore ds (p .check)
   pub from-edge : EdgeOf ds from
   pub from-inside : from .check < k .checks
   pub old : List ℕ

@@ -19,13 +19,13 @@ unfoldable pub frameFaultOf : ℕ → ℕ → List ℕ → ℕ
 frameFaultOf first n f = faultBy (frameTests (sizeOf first) n f)
 
 -- that of the buffers by their lengths
-unfoldable pub roomFault : ℕ → ℕ → ℕ → ℕ → ℕ → ℕ → ℕ → ℕ
-roomFault n w u y c s v = faultBy (roomTests n w u y c s v)
+unfoldable pub roomFaultOf : ℕ → ℕ → ℕ → ℕ → ℕ → ℕ → ℕ → ℕ
+roomFaultOf n w u y c s v = faultBy (roomTests n w u y c s v)
 
 -- "12, 13, 2, 3, 4", 19
 unfoldable pub faultOf : ℕ → ℕ → List ℕ → List ℕ → ℕ → ℕ → ℕ → ℕ → ℕ
 faultOf first n ds f y c s v =
-    pick (eqb (frameFaultOf first n f) 0) (roomFault n (n * sizeOf first) (bytesBefore first ds (length ds)) y c s v)
+    pick (eqb (frameFaultOf first n f) 0) (roomFaultOf n (n * sizeOf first) (bytesBefore first ds (length ds)) y c s v)
     (frameFaultOf first n f)
 
 -- decoding under a code that is read

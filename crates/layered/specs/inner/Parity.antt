@@ -9,7 +9,7 @@ use Rattle.trellis.specs.Lists.{allTo}
 use Rattle.trellis.specs.Rules.{sizeOf}
 use Rattle.machine.specs.CodeLine.{Code, power, check}
 use Rattle.machine.specs.Machine.{satisfied}
-use Rattle.machine.specs.inner.Tables.{before}
+use Rattle.machine.specs.inner.Tables.{edgesBefore}
 use Rattle.machine.specs.inner.InRange.{Ranged}
 use Rattle.codeline.specs.declared.answers.Numbers.{Numbers}
 use Rattle.codeline.specs.inner.Coding.{codeOf, Coded}
@@ -22,16 +22,6 @@ holdsAt C z m = satisfied (power C) (check C m) z
 unfoldable pub allHold : Code → List ℕ → Bool
 allHold C z = allTo (holdsAt C z) (length (C .checks))
 
--- edge k has a column with a symbol, and two elements to multiply
-pub record EdgeRoom (p : ℕ) (cs ws z : List ℕ) (k : ℕ) : Type 0 where
-  pub low : 2 ≤ p
-  pub high : p ≤ 6
-  pub in-columns : k < length cs
-  pub in-weights : k < length ws
-  pub column : getD cs k 0 < length z
-  pub weight : getD ws k 0 < 2 ^ p
-  pub symbol : getD z (getD cs k 0) 0 < 2 ^ p
-
 -- a symbol of the field for each column of the code
 pub record ParityRoom (k : Numbers) (ds cs ws z : List ℕ) : Type 0 where
   pub coded : Coded k ds cs ws
@@ -40,7 +30,7 @@ pub record ParityRoom (k : Numbers) (ds cs ws z : List ℕ) : Type 0 where
 
 -- the first edge of a check
 abbrev pub EdgeOf : List ℕ → CheckAt → Type 0
-EdgeOf ds c = c .edge ≡ before ds (c .check)
+EdgeOf ds c = c .edge ≡ edgesBefore ds (c .check)
 
 -- some of the checks
 pub record FromTo (k : Numbers) (ds : List ℕ) (from : CheckAt) (to : ℕ) : Type 0 where

@@ -8,7 +8,7 @@ use lib.ListN.{length}
 use Rattle.trellis.specs.Lists.{pick}
 use Rattle.machine.specs.Machine.{used}
 use Rattle.machine.specs.Lent.{lent}
-use Rattle.machine.specs.inner.Tables.{before, bytesBefore}
+use Rattle.machine.specs.inner.Tables.{edgesBefore, bytesBefore}
 use Rattle.machine.specs.inner.InRange.{Ranged, Formed}
 use Rattle.codeline.specs.declared.answers.Numbers.{Numbers}
 use Rattle.codeline.specs.inner.Coding.{codeOf, Coded}
@@ -17,7 +17,7 @@ use Rattle.layered.specs.declared.place.Place.{Place}
 -- where check m stands
 pub record Stands (first : ℕ) (ds : List ℕ) (m : ℕ) (p : Place) : Type 0 where
   pub check-is : p .check ≡ m
-  pub edge-is : p .edge ≡ before ds m
+  pub edge-is : p .edge ≡ edgesBefore ds m
   pub byte-is : p .byte ≡ bytesBefore first ds m
 
 -- of n checks the first comes behind the last

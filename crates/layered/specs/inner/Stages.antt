@@ -13,7 +13,7 @@ use Rattle.trellis.specs.Rules.{firstOk, sizeOf, ruleFor}
 use Rattle.machine.specs.CodeLine.{good, Code, zeroIn}
 use Rattle.machine.specs.Decoding.{Buffers, admittedUnder}
 use Rattle.machine.specs.Moments.{Stage as Ends, Moment, loadingUnder, resumableUnder, iteratingUnder}
-use Rattle.machine.specs.inner.Tables.{before, bytesBefore, tableAt}
+use Rattle.machine.specs.inner.Tables.{edgesBefore, bytesBefore, tableAt}
 use Rattle.codeline.specs.declared.answers.Numbers.{Numbers}
 use Rattle.layered.specs.Answers.{ends}
 use Rattle.layered.specs.inner.Parity.{SettledRoom}
@@ -32,11 +32,11 @@ abbrev pub iteratingOf : Code → List ℕ → ℕ → Buffers → Moment
 iteratingOf C f t b = iteratingUnder (resumableUnder (admittedUnder (good C) f b) t b) t b
 
 -- neither "a cost above 510" nor "a column without a 0"
-abbrev pub lowAt : List ℕ → ℕ → Bool
-lowAt l i = leb (getD l i 0) 510
+abbrev pub lowCost : List ℕ → ℕ → Bool
+lowCost l i = leb (getD l i 0) 510
 
 unfoldable pub costsIn : ℕ → ℕ → List ℕ → Bool
-costsIn q n c = allTo (lowAt c) (n * q) && allTo (zeroIn q c) n
+costsIn q n c = allTo (lowCost c) (n * q) && allTo (zeroIn q c) n
 
 -- the length of check m's record
 abbrev pub lengthAt : ℕ → List ℕ → ℕ → ℕ
@@ -56,7 +56,7 @@ resumeFault first n ds t c s = faultBy (unless (costsIn (sizeOf first) n c) 13 �
 
 -- check m's weights are those of an accepted check, and its record is inside the store
 pub record FormRoom (first : ℕ) (ds ws s : List ℕ) (m : ℕ) : Type 0 where
-  pub weights : before ds m + getD ds m 0 ≤ length ws
+  pub weights : edgesBefore ds m + getD ds m 0 ≤ length ws
   pub store : bytesBefore first ds m + lengthAt first ds m ≤ length s
   pub weighed : Weighed first (tableAt ds ws m)
   pub degree : length (tableAt ds ws m) ≡ getD ds m 0

@@ -11,26 +11,26 @@ use Rattle.machine.specs.Printing.{frameLine}
 use Rattle.machine.specs.Program.{lastLine, refusedLine, readCode}
 
 -- the code line so far; or the code line's bytes and the frame's line so far; or the program has ended
-pub data Kept : Type 0 where
-  first : List ℕ → Kept
-  later : List ℕ → List ℕ → Kept
-  ended : Kept
+pub data Session : Type 0 where
+  first : List ℕ → Session
+  later : List ℕ → List ℕ → Session
+  ended : Session
 
 -- at the start
-abbrev pub fresh : Kept
+abbrev pub fresh : Session
 fresh = first []
 
 -- a byte of a line: 32,769 are enough to refuse it by 15
 abbrev pub longer : List ℕ → ℕ → List ℕ
 longer l b = take 32769 (l ++ (b ∷ []))
 
-abbrev pub kept : Kept → ℕ → Kept
-kept (first l) b = first (longer l b)
-kept (later code l) b = later code (longer l b)
-kept ended b = ended
+abbrev pub fedByte : Session → ℕ → Session
+fedByte (first l) b = first (longer l b)
+fedByte (later code l) b = later code (longer l b)
+fedByte ended b = ended
 
 -- the code line read to its end
-abbrev pub codeKept : Read Code → List ℕ → Kept
+abbrev pub codeKept : Read Code → List ℕ → Session
 codeKept (bad k) code = ended
 codeKept (good C) code = later code []
 
@@ -39,40 +39,40 @@ codeOut (bad k) = refusedLine k
 codeOut (good C) = []
 
 -- the end of a line: what is kept, and what is printed
-unfoldable pub finished : Kept → Kept
+unfoldable pub finished : Session → Session
 finished (first l) = codeKept (readCode l) (lineBytes l)
 finished (later code l) = later code []
 finished ended = ended
 
-unfoldable pub finishedOut : Kept → List ℕ
+unfoldable pub finishedOut : Session → List ℕ
 finishedOut (first l) = codeOut (readCode l)
 finishedOut (later code l) = frameLine code l
 finishedOut ended = []
 
 -- one block: what is kept after it, and what is printed for it
-unfoldable pub fed : Kept → List ℕ → Kept
+unfoldable pub fed : Session → List ℕ → Session
 fed k [] = k
-fed k (b ∷ s) = pick (eqb b 0x0A) (fed (finished k) s) (fed (kept k b) s)
+fed k (b ∷ s) = pick (eqb b 0x0A) (fed (finished k) s) (fed (fedByte k b) s)
 
-unfoldable pub fedOut : Kept → List ℕ → List ℕ
+unfoldable pub fedOut : Session → List ℕ → List ℕ
 fedOut k [] = []
-fedOut k (b ∷ s) = pick (eqb b 0x0A) (finishedOut k ++ fedOut (finished k) s) (fedOut (kept k b) s)
+fedOut k (b ∷ s) = pick (eqb b 0x0A) (finishedOut k ++ fedOut (finished k) s) (fedOut (fedByte k b) s)
 
 -- the end of the input
-unfoldable pub closeOut : Kept → List ℕ
+unfoldable pub closeOut : Session → List ℕ
 closeOut (first l) = codeOut (readCode l)
 closeOut (later code l) = each (frameLine code) (lastLine l)
 closeOut ended = []
 
 -- block after block
-unfoldable pub fedAll : Kept → List (List ℕ) → Kept
+unfoldable pub fedAll : Session → List (List ℕ) → Session
 fedAll k [] = k
 fedAll k (s ∷ bs) = fedAll (fed k s) bs
 
-unfoldable pub fedAllOut : Kept → List (List ℕ) → List ℕ
+unfoldable pub fedAllOut : Session → List (List ℕ) → List ℕ
 fedAllOut k [] = []
 fedAllOut k (s ∷ bs) = fedOut k s ++ fedAllOut (fed k s) bs
 
 -- blocks end to end
-abbrev pub joined : List (List ℕ) → List ℕ
-joined bs = each (λ s. s) bs
+abbrev pub allBlocks : List (List ℕ) → List ℕ
+allBlocks bs = each (λ s. s) bs

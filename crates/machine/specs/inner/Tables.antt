@@ -2,7 +2,7 @@
 -- proofs/Tables.antt shows that it is parse.
 use mathlib.Core.Path.{_≡_}
 use mathlib.Core.List.{List, [], _∷_, _++_, map}
-use Prim.Native.Nat.{ℕ, zero, suc, _+_, _*_}
+use Prim.Native.Nat.{ℕ, zero, suc, _+_, _*_, _^_, _≤_, _<_}
 use lib.Dec.{eqb}
 use lib.ListN.{length, getD, take}
 use Rattle.trellis.specs.Lists.{upTo, each, pick, upto, part}
@@ -54,8 +54,8 @@ edgesOf (c ∷ cs) [] = []
 edgesOf (c ∷ cs) (w ∷ ws) = edge c w ∷ edgesOf cs ws
 
 -- where check m's edges start
-abbrev pub before : List ℕ → ℕ → ℕ
-before ds m = upto (λ k a. a + getD ds k 0) m 0
+abbrev pub edgesBefore : List ℕ → ℕ → ℕ
+edgesBefore ds m = upto (λ k a. a + getD ds k 0) m 0
 
 -- where its record starts in the store, by the degrees
 unfoldable pub bytesBefore : ℕ → List ℕ → ℕ → ℕ
@@ -63,7 +63,7 @@ bytesBefore first ds m = upto (λ k a. a + recordLength (ruleFor first) (getD ds
 
 -- check m's part of a table of edges
 abbrev pub tableAt : List ℕ → List ℕ → ℕ → List ℕ
-tableAt ds l m = part l (before ds m) (getD ds m 0)
+tableAt ds l m = part l (edgesBefore ds m) (getD ds m 0)
 
 -- the first m checks that the tables say, and with the numbers of a line its code
 unfoldable pub checksFrom : ℕ → List ℕ → List ℕ → List ℕ → List (List Edge)
@@ -80,6 +80,16 @@ term p cs ws z k = product p (getD ws k 0) (getD z (getD cs k 0) 0)
 -- the sum of n of them from place at on
 unfoldable pub sumFrom : ℕ → List ℕ → List ℕ → List ℕ → ℕ → ℕ → ℕ
 sumFrom p cs ws z at n = upto (λ k a. xor a (term p cs ws z (at + k))) n 0
+
+-- edge k has a column with a symbol, and two elements to multiply
+pub record EdgeRoom (p : ℕ) (cs ws z : List ℕ) (k : ℕ) : Type 0 where
+  pub low : 2 ≤ p
+  pub high : p ≤ 6
+  pub in-columns : k < length cs
+  pub in-weights : k < length ws
+  pub column : getD cs k 0 < length z
+  pub weight : getD ws k 0 < 2 ^ p
+  pub symbol : getD z (getD cs k 0) 0 < 2 ^ p
 
 -- tables that start with those of a code's checks
 pub record Tabled (C : Code) (ds cs ws : List ℕ) : Type 0 where

@@ -8,7 +8,7 @@ use lib.ListN.{length, take, drop, set}
 use Rattle.trellis.specs.Lists.{pick}
 use Rattle.machine.specs.Line.{lineBytes, lineCases}
 use Rattle.machine.specs.CodeLine.{Read, good, bad, Code, parse}
-use Rattle.machine.specs.inner.Blocks.{Kept, first, later, ended}
+use Rattle.machine.specs.inner.Blocks.{Session, first, later, ended}
 use Rattle.text.specs.declared.state.State.{State}
 
 -- how many bytes of the line so far, how many of the code line (0 before it is read), whether the program has ended; and the two buffers
@@ -23,7 +23,7 @@ abbrev pub held : State → List ℕ → List ℕ → Held
 held s l c = record { len = s .len; code = s .code; over = s .ended; line = l; bytes = c }
 
 -- what that stands for, whatever the numbers
-abbrev pub keptOf : Held → Kept
+abbrev pub keptOf : Held → Session
 keptOf h =
     pick (h .over) ended
     (pick (eqb (h .code) 0) (first (take (h .len) (h .line))) (later (take (h .code) (h .bytes)) (take (h .len) (h .line))))

@@ -10,7 +10,7 @@ use Rattle.machine.specs.CodeLine.{Code, size}
 use Rattle.machine.specs.Decoding.{lending}
 use Rattle.machine.proofs.Ranges.{column-room}
 use Rattle.channels.specs.inner.Rounds.{standing, loadedAt}
-use Rattle.channels.specs.inner.Layouts.{Shaped, AllParts}
+use Rattle.channels.specs.inner.Layouts.{Fitted, AllParts}
 use Rattle.channels.proofs.Moves.{one-part, load-moves, loads-more, loads-done}
 use Rattle.channels.proofs.service.load_all.Statement.{statement}
 use Rattle.channels.proofs.service.load_all.Tie as tie
@@ -18,7 +18,7 @@ use Rattle.channels.proofs.service.load_all.Tie as tie
 abbrev Inv-loop : tie.InvT-loop
 Inv-loop count z degrees columns weights frames symbols₀ costs₀ margins₀ status₀ c₀ symbols costs margins status c =
     (c ≤ count)
-    × ((C : Code) → Shaped C z degrees columns weights → (store counts : List ℕ) (left : ℕ) → AllParts C count store
+    × ((C : Code) → Fitted C z degrees columns weights → (store counts : List ℕ) (left : ℕ) → AllParts C count store
     → standing status counts left (lending symbols costs store margins)
     ≡ upto (loadedAt C frames) c (standing status₀ counts left (lending symbols₀ costs₀ store margins₀)))
     × ((length symbols ≡ length symbols₀) × (length costs ≡ length costs₀) × (length margins ≡ length margins₀) × (length status ≡ length status₀))

@@ -8,7 +8,7 @@ use Rattle.trellis.specs.Lists.{upto}
 use Rattle.machine.specs.CodeLine.{Code}
 use Rattle.machine.specs.Decoding.{lending}
 use Rattle.channels.specs.inner.Rounds.{standing, servingAt}
-use Rattle.channels.specs.inner.Layouts.{Shaped, ServeRoom}
+use Rattle.channels.specs.inner.Layouts.{Fitted, ServeRoom}
 use Rattle.channels.proofs.Moves.{serve-next, round-more, round-done}
 use Rattle.channels.proofs.service.round.Statement.{statement}
 use Rattle.channels.proofs.service.round.Tie as tie
@@ -17,7 +17,7 @@ abbrev Inv-loop : tie.InvT-loop
 Inv-loop count left z degrees columns weights symbols₀ costs₀ store₀ margins₀ status₀ counts₀ arrived₀ sent₀ a₀ c₀ symbols costs store margins status counts arrived sent a c =
     (c ≤ count)
     × ServeRoom count z degrees columns weights (standing status counts a (lending symbols costs store margins)) arrived sent
-    × ((C : Code) → Shaped C z degrees columns weights
+    × ((C : Code) → Fitted C z degrees columns weights
     → standing status counts a (lending symbols costs store margins)
     ≡ upto (servingAt C) c (standing status₀ counts₀ left (lending symbols₀ costs₀ store₀ margins₀)))
     × ((length symbols ≡ length symbols₀) × (length costs ≡ length costs₀) × (length store ≡ length store₀) × (length margins ≡ length margins₀) × (length status ≡ length status₀) × (length counts ≡ length counts₀) × (length arrived ≡ length arrived₀) × (length sent ≡ length sent₀))

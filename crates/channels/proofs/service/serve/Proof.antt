@@ -5,7 +5,7 @@ use lib.ListN.{length}
 use Rattle.machine.specs.CodeLine.{Code}
 use Rattle.machine.specs.Decoding.{lending}
 use Rattle.channels.specs.inner.Rounds.{standing, roundsAt}
-use Rattle.channels.specs.inner.Layouts.{Shaped, ServeRoom}
+use Rattle.channels.specs.inner.Layouts.{Fitted, ServeRoom}
 use Rattle.channels.proofs.Quiet.{end-law, more-law}
 use Rattle.channels.proofs.Moves.{round-next, round-less}
 use Rattle.channels.proofs.service.serve.Statement.{statement}
@@ -14,7 +14,7 @@ use Rattle.channels.proofs.service.serve.Tie as tie
 abbrev Inv-loop : tie.InvT-loop
 Inv-loop count allowance z degrees columns weights symbols₀ costs₀ store₀ margins₀ status₀ counts₀ arrived₀ sent₀ a₀ symbols costs store margins status counts arrived sent a =
     ServeRoom count z degrees columns weights (standing status counts a (lending symbols costs store margins)) arrived sent
-    × ((C : Code) → Shaped C z degrees columns weights
+    × ((C : Code) → Fitted C z degrees columns weights
     → roundsAt C count a (standing status counts a (lending symbols costs store margins))
     ≡ roundsAt C count allowance (standing status₀ counts₀ allowance (lending symbols₀ costs₀ store₀ margins₀)))
     × ((length symbols ≡ length symbols₀) × (length costs ≡ length costs₀) × (length store ≡ length store₀) × (length margins ≡ length margins₀) × (length status ≡ length status₀) × (length counts ≡ length counts₀) × (length arrived ≡ length arrived₀) × (length sent ≡ length sent₀))

@@ -7,14 +7,14 @@ use borrow.Author.Needs.{needs}
 use lib.ListN.{length, drop, length-set}
 use Rattle.trellis.specs.Lists.{tab}
 use Rattle.trellis.specs.Field.{xor}
-use Rattle.checknode.specs.inner.Lines.{sentFrom}
+use Rattle.checknode.specs.inner.Lines.{sentIn}
 use Rattle.trellis.proofs.Loops.{tab-whole}
 use Rattle.checknode.proofs.Lining.{send-turn}
 use Rattle.checknode.proofs.send.column.Statement.{statement}
 use Rattle.checknode.proofs.send.column.Tie as tie
 
 abbrev Inv-loop : tie.InvT-loop
-Inv-loop row s rests out₀ x₀ out x = (x ≤ length out₀) × ((length out ≡ length out₀) × (out ≡ tab (sentFrom row s rests) x ++ drop x out₀))
+Inv-loop row s rests out₀ x₀ out x = (x ≤ length out₀) × ((length out ≡ length out₀) × (out ≡ tab (sentIn row s rests) x ++ drop x out₀))
 
 abbrev μ-loop : tie.MeasureT-loop
 μ-loop row s rests out₀ x₀ out x = length out₀ - x
@@ -59,7 +59,7 @@ same-length c = search needs
 returns : tie.Need-returns Inv-loop μ-loop
 returns c =
     let start = c .before .before .before .before .before in
-    let e : c .before .loop .x ≡ length (start .args .out .now) = omega arith in cc (tab-whole (sentFrom (start .args .row .now) (start .args .s) (start .args .rests .now)) (start .args .out .now))
+    let e : c .before .loop .x ≡ length (start .args .out .now) = omega arith in cc (tab-whole (sentIn (start .args .row .now) (start .args .s) (start .args .rests .now)) (start .args .out .now))
 
 pub column-spec : {M : Type 1} → statement M
 column-spec =

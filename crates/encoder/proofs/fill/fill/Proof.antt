@@ -5,7 +5,7 @@ use Prim.Native.Nat.{_+_, _-_, _≤_}
 use native.Mathlib.Omega.{arith}
 use borrow.Author.Needs.{needs}
 use lib.ListN.{length, take, drop, length-set}
-use Rattle.machine.specs.inner.Tables.{before}
+use Rattle.machine.specs.inner.Tables.{edgesBefore}
 use Rattle.encoder.specs.inner.Words.{encodeOn}
 use Rattle.machine.proofs.Places.{before-more, end-within}
 use Rattle.encoder.proofs.Filling.{turn-room, own-is, fill-turn, fill-start, fill-done}
@@ -13,7 +13,7 @@ use Rattle.encoder.proofs.fill.fill.Statement.{statement}
 use Rattle.encoder.proofs.fill.fill.Tie as tie
 
 abbrev Inv-loop : tie.InvT-loop
-Inv-loop p degrees columns weights from symbols₀ m₀ at₀ symbols m at = (m ≤ length degrees) × ((at ≡ before degrees m) × ((length symbols ≡ length symbols₀) × (symbols ≡ encodeOn p degrees columns weights (take from symbols₀) m ++ drop (from + m) symbols₀)))
+Inv-loop p degrees columns weights from symbols₀ m₀ at₀ symbols m at = (m ≤ length degrees) × ((at ≡ edgesBefore degrees m) × ((length symbols ≡ length symbols₀) × (symbols ≡ encodeOn p degrees columns weights (take from symbols₀) m ++ drop (from + m) symbols₀)))
 
 abbrev μ-loop : tie.MeasureT-loop
 μ-loop p degrees columns weights from symbols₀ m₀ at₀ symbols m at = length degrees - m

@@ -5,7 +5,7 @@ use native.Mathlib.Omega.{arith}
 use borrow.Author.Needs.{needs}
 use lib.ListN.{length}
 use mathlib.Core.Bool.{true}
-use Rattle.machine.specs.inner.Tables.{before}
+use Rattle.machine.specs.inner.Tables.{edgesBefore}
 use Rattle.encoder.specs.inner.Words.{ownTo}
 use Rattle.machine.proofs.Places.{before-more, end-within}
 use Rattle.encoder.proofs.Refusals.{formed-short, formed-start, formed-not, formed-more, formed-done}
@@ -13,7 +13,7 @@ use Rattle.encoder.proofs.form.formed.Statement.{statement}
 use Rattle.encoder.proofs.form.formed.Tie as tie
 
 abbrev Inv-loop : tie.InvT-loop
-Inv-loop n degrees columns from m₀ at₀ m at = (m ≤ length degrees) × ((at ≡ before degrees m) × (ownTo n degrees columns m ≡ true))
+Inv-loop n degrees columns from m₀ at₀ m at = (m ≤ length degrees) × ((at ≡ edgesBefore degrees m) × (ownTo n degrees columns m ≡ true))
 
 abbrev μ-loop : tie.MeasureT-loop
 μ-loop n degrees columns from m₀ at₀ m at = length degrees - m

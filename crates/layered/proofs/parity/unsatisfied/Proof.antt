@@ -7,7 +7,7 @@ use borrow.Author.Needs.{needs}
 use lib.ListN.{length}
 use Rattle.machine.specs.CodeLine.{power, check}
 use Rattle.machine.specs.Machine.{paritySum}
-use Rattle.machine.specs.inner.Tables.{before}
+use Rattle.machine.specs.inner.Tables.{edgesBefore}
 use Rattle.codeline.specs.inner.Coding.{codeOf}
 use Rattle.layered.specs.inner.Parity.{holdsAt}
 use Rattle.machine.proofs.Places.{before-more}
@@ -24,7 +24,7 @@ abbrev μ-loop : tie.MeasureT-loop
 
 abbrev Inv-checks : tie.InvT-checks
 Inv-checks numbers to degrees columns weights symbols m₀ at₀ m at =
-    (m₀ ≤ m) × ((m ≤ to) × ((at ≡ before degrees m) × ((j : ℕ) → m₀ ≤ j → j < m → holdsAt (codeOf numbers degrees columns weights) symbols j ≡ true)))
+    (m₀ ≤ m) × ((m ≤ to) × ((at ≡ edgesBefore degrees m) × ((j : ℕ) → m₀ ≤ j → j < m → holdsAt (codeOf numbers degrees columns weights) symbols j ≡ true)))
 
 abbrev μ-checks : tie.MeasureT-checks
 μ-checks numbers to degrees columns weights symbols m₀ at₀ m at = to - m

@@ -5,13 +5,13 @@ use native.Mathlib.Omega.{arith}
 use borrow.Author.Needs.{needs}
 use mathlib.Core.Bool.{true}
 use Rattle.trellis.specs.Lists.{allTo}
-use Rattle.layered.specs.inner.Stages.{lowAt}
+use Rattle.layered.specs.inner.Stages.{lowCost}
 use Rattle.layered.proofs.Resuming.{low-more, low-not}
 use Rattle.layered.proofs.resume.low_costs.Statement.{statement}
 use Rattle.layered.proofs.resume.low_costs.Tie as tie
 
 abbrev Inv-loop : tie.InvT-loop
-Inv-loop costs w i₀ i = (i ≤ w) × (allTo (lowAt costs) i ≡ true)
+Inv-loop costs w i₀ i = (i ≤ w) × (allTo (lowCost costs) i ≡ true)
 
 abbrev μ-loop : tie.MeasureT-loop
 μ-loop costs w i₀ i = w - i
@@ -48,7 +48,7 @@ returns-2 c =
     let l = c .before in
     let a = l .before .args in
     let e : l .loop .i ≡ a .w = omega arith in
-    sym (ap (allTo (lowAt (a .costs .now))) (sym e) ∙ l .loop .inv .1)
+    sym (ap (allTo (lowCost (a .costs .now))) (sym e) ∙ l .loop .inv .1)
 
 pub low-costs-spec : {M : Type 1} → statement M
 low-costs-spec =

@@ -7,7 +7,7 @@ use borrow.Author.Tests.{not-true, not-false}
 use lib.ListN.{length}
 use mathlib.Core.Bool.{true}
 use Rattle.trellis.specs.Lists.{allTo}
-use Rattle.machine.specs.inner.Tables.{before}
+use Rattle.machine.specs.inner.Tables.{edgesBefore}
 use Rattle.machine.specs.inner.Tables.{bytesBefore}
 use Rattle.layered.specs.inner.Stages.{formedAt}
 use Rattle.machine.proofs.Places.{before-more}
@@ -17,7 +17,7 @@ use Rattle.layered.proofs.resume.store_ok.Statement.{statement}
 use Rattle.layered.proofs.resume.store_ok.Tie as tie
 
 abbrev Inv-loop : tie.InvT-loop
-Inv-loop first degrees weights store groups m₀ at₀ place₀ m at place = (m ≤ length degrees) × ((at ≡ before degrees m) × ((place ≡ bytesBefore first degrees m) × (allTo (formedAt first degrees store) m ≡ true)))
+Inv-loop first degrees weights store groups m₀ at₀ place₀ m at place = (m ≤ length degrees) × ((at ≡ edgesBefore degrees m) × ((place ≡ bytesBefore first degrees m) × (allTo (formedAt first degrees store) m ≡ true)))
 
 abbrev μ-loop : tie.MeasureT-loop
 μ-loop first degrees weights store groups m₀ at₀ place₀ m at place = length degrees - m
