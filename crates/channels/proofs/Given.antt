@@ -22,13 +22,12 @@ use Rattle.codeline.specs.inner.Coding.{codeOf, Coded}
 use Rattle.codeline.specs.Answers.{headerNumbers}
 use Rattle.codeline.proofs.Answered.{header-refused}
 use Rattle.layered.specs.inner.Frames.{roomFaultOf}
-use Rattle.layered.proofs.Runs.{checks-count}
 use Rattle.layered.proofs.Decoded.{used-is}
 use Rattle.channels.specs.declared.service.Layout.{Layout}
 use Rattle.channels.specs.Channels.{results, refusing, roomFaultFor, under, channels}
 use Rattle.channels.specs.inner.Rounds.{Standing, standing, roundsAt, loadedTo, RoomFor, Asked, Ends, replyBy, statusAt, countAt, Serves}
 use Rattle.channels.specs.Answers.{Gives}
-use Rattle.channels.specs.inner.Layouts.{LayoutRoom, LaidOut, Fitted, countFault, faultFor, FaultRoom, UnderRoom}
+use Rattle.channels.specs.inner.Layouts.{LaidOut, Fitted, countFault, faultFor, FaultRoom, UnderRoom}
 use Rattle.channels.proofs.Parts.{room-for}
 use Rattle.channels.proofs.Ends.{eight-end}
 use Rattle.channels.proofs.Quiet.{round-left}
@@ -171,16 +170,7 @@ shaped-of k ds cs ws T z L =
       good = T .good;
       columns-is = L .columns-is;
       costs-is = L .costs-is;
-      store-is = L .store-is ∙ used-is k ds cs ws T (k .columns) (k .checks) refl refl;
-    }
-
-pub layout-asks : (k : Numbers) (ds cs ws : List ℕ) → Coded k ds cs ws → LayoutRoom k ds
-layout-asks k ds cs ws T =
-    record {
-      accepted = T .good .first;
-      columns = T .good .columns-high;
-      checks = omega (arith, checks-count k ds cs ws T, T .good .checks-high);
-      degrees = T .for-degrees;
+      store-is = L .store-is ∙ used-is k ds cs ws T (k .columns) refl;
     }
 
 -- a line that is refused

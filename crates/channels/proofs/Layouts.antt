@@ -196,11 +196,14 @@ module _ (C : Code) (z : Layout) (ds cs ws : List ℕ) (H : Fitted C z ds cs ws)
       frame-own : frameAt ≡ frameOf C fs c
       frame-own = between fs (z .costs) (C .columns * size C) (H .costs-is) c
 
-      fault-there : (f : List ℕ) → frameFaultOf (z .numbers .first) (z .columns) f ≡ frameFault C f
+      fault-there : (f : List ℕ) → frameFaultOf (z .numbers .first) (z .numbers .columns) f ≡ frameFault C f
       unfolding frameFaultOf frameFault
-      fault-there f = let i : z .numbers .first ≡ C .first = ap (λ (D : Code). D .first) (H .code-is) in rw (i, H .columns-is)
+      fault-there f =
+          let i : z .numbers .first ≡ C .first = ap (λ (D : Code). D .first) (H .code-is) in
+          let j : z .numbers .columns ≡ C .columns = ap (λ (D : Code). D .columns) (H .code-is) in
+          rw (i, j)
 
-      module _ (k : ℕ) (e : k ≡ frameFaultOf (z .numbers .first) (z .columns) frameAt) where
+      module _ (k : ℕ) (e : k ≡ frameFaultOf (z .numbers .first) (z .numbers .columns) frameAt) where
         fault-own : k ≡ frameFault C (frameOf C fs c)
         fault-own = e ∙ fault-there frameAt ∙ ap (frameFault C) frame-own
 

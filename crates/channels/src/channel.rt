@@ -47,7 +47,7 @@ pub fn load_at(
     let b = a + z.columns;
     let d = c * z.costs;
     let e = d + z.costs;
-    let k = frame::frame_fault(z.numbers.first, z.columns, &frames[d..e]);
+    let k = frame::frame_fault(z.numbers, &frames[d..e]);
     if k != 0 {
         return k;
     }

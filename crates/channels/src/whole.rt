@@ -12,7 +12,7 @@ ghost use Rattle.machine.specs.CodeLine.{good, Code, parse};
 ghost use Rattle.machine.specs.Decoding.{Buffers, lending};
 ghost use Rattle.channels.specs.Channels.{refusing, channels};
 ghost use Rattle.channels.specs.Answers.{Gives};
-ghost use Rattle.channels.specs.inner.Layouts.{Fitted, LayoutRoom, LaidOut, countFault, faultFor, FaultRoom, UnderRoom};
+ghost use Rattle.channels.specs.inner.Layouts.{Fitted, LaidOut, countFault, faultFor, FaultRoom, UnderRoom};
 
 // A refusal of the whole call.
 fn refused(k: u8) -> Served
@@ -44,13 +44,11 @@ fn count_fault(count: u8, allowance: u32) -> u8
 
 // The lengths of one channel's parts.
 fn layout_of(numbers: Numbers, degrees: &[u8]) -> Layout
-    requires { ⌜ LayoutRoom numbers (now degrees) ⌝ }
     ensures { λ r. ⌜ LaidOut numbers (now (degrees .entry)) r ⌝ }
 {
     let n = scalar::u16_to_usize(numbers.columns);
-    let m = scalar::u8_to_usize(numbers.checks);
     let q = rules::size(numbers.first);
-    let store = frame::used(numbers.first, &degrees[..m]);
+    let store = frame::used(numbers, degrees);
     Layout {
         numbers,
         columns: n,

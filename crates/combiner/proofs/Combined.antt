@@ -140,15 +140,12 @@ module _ (s : List ℕ) (h : Header) (e : headerNumbers h ≡ numbersOf (parse s
   unfolding combining
   line-refused k i = rw (header-refused s h e k i) (refl, refl)
 
-  module _ (k : Numbers) (i : h ≡ HeaderRead k) (N : ℕ) (j : N ≡ k .columns) where
+  module _ (k : Numbers) (i : h ≡ HeaderRead k) where
     read : Accepted s k
     read = header-read s h e k i
 
-    pub line-asks : (firstOk (k .first) ≡ true) × (N ≤ 256)
-    line-asks = let G = parse-good s (read .code) (read .parsed) in (ap firstOk (read .first-is) ∙ G .first, omega (arith, G .columns-high, read .columns-is))
-
-    pub line-is : combiningUnder (good (headed (k .first) N)) f g out ≡ combining s f g out
+    pub line-is : combiningUnder (good (headed (k .first) (k .columns))) f g out ≡ combining s f g out
     unfolding combining combineFault frameFault
     line-is =
-        ap₂ (λ a b. combiningUnder (good (headed a b)) f g out) (read .first-is) (j ∙ read .columns-is)
+        ap₂ (λ a b. combiningUnder (good (headed a b)) f g out) (read .first-is) (read .columns-is)
         ∙ ap (λ r. combiningUnder r f g out) (sym (read .parsed))

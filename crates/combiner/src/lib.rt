@@ -19,9 +19,6 @@ pub fn combine(code: &[u8], first: &[u8], second: &[u8], out: &mut [u8]) -> Writ
 {
     match codeline::code_line(code) {
         Header::Refused(k) => Written::Refused(k),
-        Header::Read(numbers) => {
-            let n = scalar::u16_to_usize(numbers.columns);
-            combining::under_code(numbers.first, n, first, second, out)
-        }
+        Header::Read(numbers) => combining::under_code(numbers, first, second, out),
     }
 }

@@ -2,17 +2,17 @@
 use mathlib.Core.Path.{_≡_, refl, sym, ap, ap₂, _∙_}
 use mathlib.Core.Bool.{Bool, true, false, true≢false}
 use mathlib.Core.List.{List, _++_}
-use Prim.Native.Nat.{ℕ, _+_, _-_, _*_, _≤_, _<_}
+use Prim.Native.Nat.{ℕ, _+_, _-_, _*_, _≤_, _<_, min}
 use native.Mathlib.Nat.{add-sub-cancel-left}
 use native.Mathlib.Numerals.{add-one}
 use native.Mathlib.Omega.{arith}
 use lib.Dec.{eqb, ltb}
 use borrow.Author.Tests.{eqb-true, eqb-false, ltb-false, eq-eqb, ne-eqb, lt-ltb, le-ltb}
 use lib.ListN.{length, getD, take, drop}
-use lib.Seq.{ext-getD, take-at, drop-at, length-take-le}
+use lib.Seq.{ext-getD, take-at, drop-at}
 use Rattle.trellis.specs.Lists.{tab, part, allTo, pick}
 use Rattle.trellis.specs.Check.{firstZero}
-use Rattle.trellis.specs.Rules.{firstOk, sizeOf}
+use Rattle.trellis.specs.Rules.{sizeOf}
 use Rattle.trellis.proofs.Margins.{first-most}
 use Rattle.trellis.proofs.Loops.{tab-whole, length-tab, getD-tab}
 use Rattle.trellis.specs.Reply.{Reply, refusal}
@@ -24,7 +24,7 @@ use Rattle.machine.specs.inner.Tables.{bytesBefore}
 use Rattle.machine.proofs.Ranges.{frame-ranged}
 use Rattle.machine.proofs.Buffers.{room-of}
 use Rattle.machine.proofs.Lent.{run-stands}
-use Rattle.machine.proofs.InTables.{place-is, bytes-take}
+use Rattle.machine.proofs.InTables.{place-is}
 use Rattle.codeline.specs.declared.answers.Header.{Header}
 use Rattle.codeline.specs.declared.answers.Header.the-variants.{Refused as HeaderRefused}
 use Rattle.codeline.specs.declared.answers.Numbers.{Numbers}
@@ -37,7 +37,7 @@ use Rattle.layered.specs.declared.answers.Answer.the-variants.{Decoded}
 use Rattle.layered.specs.Answers.{answerReply}
 use Rattle.machine.specs.inner.InRange.{Below}
 use Rattle.layered.specs.inner.Iterations.{endedIn, RunRoom}
-use Rattle.layered.specs.inner.Frames.{frameFaultOf, roomFaultOf, faultOf, decodingOf}
+use Rattle.layered.specs.inner.Frames.{frameFaultOf, roomFaultOf, faultOf, copiedTo, decodingOf}
 use Rattle.layered.proofs.Columns.{length-part}
 use Rattle.machine.proofs.Lists.{all-not}
 use Rattle.layered.proofs.Runs.{checks-count}
@@ -48,6 +48,16 @@ list-tab l = ext-getD 0 (tab (λ k. getD l k 0) (length l)) l (length-tab _ (len
 
 pub copied : (f d out : List ℕ) (i : ℕ) → length f ≡ length d → i ≡ length d → out ≡ tab (λ k. getD f k 0) i ++ drop i d → out ≡ f
 copied f d out i e k o = o ∙ rw k (tab-whole (λ k. getD f k 0) d ∙ rw (← e) (list-tab f))
+
+-- nothing copied, or the frame
+pub copied-none : (f c : List ℕ) → (length f ≡ length c → ⊥) → c ≡ copiedTo f c
+copied-none f c h = rw (ne-eqb (length f) (length c) h)
+
+pub copied-frame : (f c r : List ℕ) → length f ≡ length c → r ≡ f → r ≡ copiedTo f c
+copied-frame f c r h e = e ∙ rw (eq-eqb (length f) (length c) h)
+
+pub copied-is : (f c r : List ℕ) → length f ≡ length c → r ≡ copiedTo f c → r ≡ f
+copied-is f c r h e = e ∙ rw (eq-eqb (length f) (length c) h)
 
 -- a turn of the loop over the frame's columns
 module _ (q n c z : ℕ) (f : List ℕ) (room : c * q + q ≤ length f) (e : z ≡ firstZero (part f (c * q) (c * q + q - c * q))) where
@@ -83,14 +93,16 @@ frame-counted first n f h = go (eqb (length f) (n * sizeOf first)) refl (allTo (
     go false e b h = absurd (omega arith)
 
 -- all tests after the code
-module _ (first n : ℕ) (ds f : List ℕ) (y c s v k : ℕ) (e : k ≡ frameFaultOf first n f) where
-  pub fault-frame : (k ≡ 0 → ⊥) → k ≡ faultOf first n ds f y c s v
+module _ (k : Numbers) (ds f : List ℕ) (y c s v r : ℕ) (e : r ≡ frameFaultOf (k .first) (k .columns) f) where
+  pub fault-frame : (r ≡ 0 → ⊥) → r ≡ faultOf k ds f y c s v
   unfolding faultOf
-  fault-frame h = e ∙ rw (ne-eqb (frameFaultOf first n f) 0 (λ z. h (e ∙ z)))
+  fault-frame h = e ∙ rw (ne-eqb (frameFaultOf (k .first) (k .columns) f) 0 (λ z. h (e ∙ z)))
 
-  pub fault-room : k ≡ 0 → (w u r : ℕ) → w ≡ length f → u ≡ bytesBefore first ds (length ds) → r ≡ roomFaultOf n w u y c s v → r ≡ faultOf first n ds f y c s v
+  pub fault-room : r ≡ 0 → (n w u x : ℕ) → n ≡ k .columns → w ≡ length f → u ≡ bytesBefore (k .first) ds (min (k .checks) (length ds))
+      → x ≡ roomFaultOf n w u y c s v → x ≡ faultOf k ds f y c s v
   unfolding faultOf
-  fault-room h w u r i j o = o ∙ rw (i, j, frame-counted first n f (sym e ∙ h), eq-eqb (frameFaultOf first n f) 0 (sym e ∙ h))
+  fault-room h n w u x i j l o =
+      o ∙ rw (i, j, l, frame-counted (k .first) (k .columns) f (sym e ∙ h), eq-eqb (frameFaultOf (k .first) (k .columns) f) 0 (sym e ∙ h))
 
 -- what decoding's refusals lead to, by the number of the refusal, 0 for none
 module _ (C : Code) (f : List ℕ) (b : Buffers) where
@@ -123,25 +135,15 @@ reply-is : (o : Outcome) (l : Lent) (st : Status) (t : ℕ) (l′ : Lent) → en
 reply-is (Found u) l st t l′ e = (ap₂ outcome (ap (λ (x : Ended). x .status) e) (ap (λ (x : Ended). x .t) e), ap (λ (x : Ended). x .lent) e)
 reply-is (NotFound u) l st t l′ e = (ap₂ outcome (ap (λ (x : Ended). x .status) e) (ap (λ (x : Ended). x .t) e), ap (λ (x : Ended). x .lent) e)
 
--- a decoding over the tables of a code, of which n and m are N and M
-module _ (k : Numbers) (ds cs ws : List ℕ) (T : Coded k ds cs ws) (n m : ℕ) (N : n ≡ k .columns) (M : m ≡ k .checks) where
+-- a decoding over the tables of a code, of which n is N
+module _ (k : Numbers) (ds cs ws : List ℕ) (T : Coded k ds cs ws) (n : ℕ) (N : n ≡ k .columns) where
   abbrev C : Code
   C = codeOf k ds cs ws
 
-  pub degrees-there : m ≤ length ds
-  degrees-there = omega (arith, T .for-degrees)
-
-  slice : length (take m ds) ≡ m
-  slice = length-take-le m ds degrees-there
-
-  pub few : (firstOk (k .first) ≡ true) × ((n ≤ 256) × (length (take m ds) ≤ 128))
-  few = (T .good .first, (omega (arith, T .good .columns-high), omega (arith, slice, checks-count k ds cs ws T, T .good .checks-high)))
-
-  pub used-is : bytesBefore (k .first) (take m ds) (length (take m ds)) ≡ used C
+  pub used-is : bytesBefore (k .first) ds (min (k .checks) (length ds)) ≡ used C
   used-is =
-      ap (bytesBefore (k .first) (take m ds)) slice
-      ∙ bytes-take (k .first) ds m m (omega arith)
-      ∙ ap (bytesBefore (k .first) ds) M
+      let m : min (k .checks) (length ds) ≡ k .checks = omega (arith, T .for-degrees) in
+      ap (bytesBefore (k .first) ds) m
       ∙ place-is (numbersIn k) ds cs ws (T .for-columns) (T .for-weights) (k .checks) (omega arith)
       ∙ ap (place C) (sym (checks-count k ds cs ws T))
 
@@ -150,13 +152,13 @@ module _ (k : Numbers) (ds cs ws : List ℕ) (T : Coded k ds cs ws) (n m : ℕ) 
       → lending (x ++ drop n y) (P ++ drop w c) u (x′ ++ drop n v) ≡ holding C P u (lending y c s v)
   holds-then P u s y c v x x′ w e i j = rw (i, j, e, N)
 
-  module _ (f y c s v : List ℕ) (r : ℕ) (e : r ≡ faultOf (k .first) n (take m ds) f (length y) (length c) (length s) (length v)) where
+  module _ (f y c s v : List ℕ) (r : ℕ) (e : r ≡ faultOf k ds f (length y) (length c) (length s) (length v)) where
     abbrev b : Buffers
     b = lending y c s v
 
     pub fault-is : r ≡ faultIn C f b
     unfolding faultOf frameFaultOf frameFault roomFaultOf faultOfRoom
-    fault-is = e ∙ rw (used-is, N)
+    fault-is = e ∙ rw used-is
 
     -- a refusal, of decoding or of a call that refuses as decoding does
     pub refused-leaves : (call : Read Code → After) → call (bad r) ≡ record { reply = refusal r; buffers = b } → (r ≡ 0 → ⊥) → Leaves (call (admittedUnder (good C) f b)) (refusal r) b

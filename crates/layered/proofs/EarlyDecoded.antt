@@ -30,8 +30,8 @@ reply-is : (o : Stopped) (l : Lent) (st : Status) (u : ℕ) (l′ : Lent) → ha
 reply-is (Found v) l st u l′ e = (ap₂ outcome (ap (λ (x : Halted). x .status) e) (ap (λ (x : Halted). x .updates) e), ap (λ (x : Halted). x .lent) e)
 reply-is (NotFound v) l st u l′ e = (ap₂ outcome (ap (λ (x : Halted). x .status) e) (ap (λ (x : Halted). x .updates) e), ap (λ (x : Halted). x .lent) e)
 
-module _ (k : Numbers) (ds cs ws : List ℕ) (T : Coded k ds cs ws) (n m : ℕ) (N : n ≡ k .columns) (M : m ≡ k .checks) (f y c s v : List ℕ) (r : ℕ)
-    (e : r ≡ faultOf (k .first) n (take m ds) f (length y) (length c) (length s) (length v)) (z : r ≡ 0) where
+module _ (k : Numbers) (ds cs ws : List ℕ) (T : Coded k ds cs ws) (n : ℕ) (N : n ≡ k .columns) (f y c s v : List ℕ) (r : ℕ)
+    (e : r ≡ faultOf k ds f (length y) (length c) (length s) (length v)) (z : r ≡ 0) where
   abbrev C : Code
   C = codeOf k ds cs ws
 
@@ -45,10 +45,10 @@ module _ (k : Numbers) (ds cs ws : List ℕ) (T : Coded k ds cs ws) (n m : ℕ) 
       → Leaves (earlyOf C f b) (earlyReply (Decoded o)) (lending (x ++ drop n y) (P ++ drop (length f) (f′ ++ drop (length f) c)) u (x′ ++ drop n v))
   stop-copied f′ i o P x u x′ a j j′ =
       let q : k .checks * k .limit ≡ mostUpdates C = ap (λ a. a * k .limit) (sym (checks-count k ds cs ws T)) in
-      let E = reply-is o (lent P u) _ _ _ (a ∙ ap₂ (λ n l. stopLent C n 0 (lent l s)) q (copied-front k ds cs ws T n m N M f y c s v r e z f′ i)
-      ∙ early-stands C (T .good) s (rooms k ds cs ws T n m N M f y c s v r e z .for-store) f) in
-      rw (copied-rest k ds cs ws T n m N M f y c s v r e z f′ i)
-      (holds-leaves k ds cs ws T n m N M f y c s v r e z (λ r. earlyUnder r f b) (earlyReply (Decoded o)) P u x x′
+      let E = reply-is o (lent P u) _ _ _ (a ∙ ap₂ (λ n l. stopLent C n 0 (lent l s)) q (copied-front k ds cs ws T n N f y c s v r e z f′ i)
+      ∙ early-stands C (T .good) s (rooms k ds cs ws T n N f y c s v r e z .for-store) f) in
+      rw (copied-rest k ds cs ws T n N f y c s v r e z f′ i)
+      (holds-leaves k ds cs ws T n N f y c s v r e z (λ r. earlyUnder r f b) (earlyReply (Decoded o)) P u x x′
       (ap₂ (λ r (l : Lent). record { reply = r; buffers = holding C (l .costs) (l .store) b }) (sym (E .0)) (sym (E .1))) j j′)
 
 module _ (s₀ f : List ℕ) (b : Buffers) where

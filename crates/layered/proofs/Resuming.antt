@@ -7,10 +7,10 @@ use native.Mathlib.Nat.{mul-le-mul, add-sub-cancel-left}
 use native.Mathlib.Numerals.{add-one}
 use native.Mathlib.Omega.{arith}
 use lib.Dec.{eqb}
-use lib.Pow.{pow-pos}
+use lib.Pow.{pow-pos, pow-mono}
 use lib.ListN.{length, getD}
 use borrow.Author.Tests.{le-leb, lt-leb, le-ltb, lt-ltb, eq-eqb, ne-eqb}
-use Rattle.trellis.specs.Lists.{pick, allTo, part}
+use Rattle.trellis.specs.Lists.{pick, upto, allTo, part}
 use Rattle.trellis.specs.Record.{groupLength, recordOk}
 use Rattle.trellis.specs.Rules.{firstOk, powerOf, sizeOf, ruleFor}
 use Rattle.trellis.proofs.Recurrence.{size-64}
@@ -30,6 +30,21 @@ groups-few first h =
     let k : groupLength (ruleFor first) ≤ 7 = omega (arith, most-few first) in
     let n : sizeOf first - 1 ≤ 63 = omega (arith, size-64 (powerOf first) (first-power first h .1)) in
     mul-le-mul k n
+
+-- and under any first byte at most 229,369
+pub groups-small : (first : ℕ) → groupLength (ruleFor first) * (sizeOf first - 1) ≤ 229369
+groups-small first =
+    let k : groupLength (ruleFor first) ≤ 7 = omega (arith, most-few first) in
+    let p : powerOf first ≤ 15 = omega arith in
+    let q : sizeOf first ≤ 32768 = pow-mono p in
+    let n : sizeOf first - 1 ≤ 32767 = omega arith in
+    mul-le-mul k n
+
+-- records added up, each by its degree and what stands behind the shifts
+pub sum-bytes : (first : ℕ) (ds : List ℕ) (groups m : ℕ) → groups ≡ groupLength (ruleFor first) * (sizeOf first - 1)
+    → upto (λ k a. a + (getD ds k 0 + groups)) m 0 ≡ bytesBefore first ds m
+unfolding bytesBefore
+sum-bytes first ds groups m e = ap (λ g. upto (λ k a. a + (getD ds k 0 + g)) m 0) e
 
 -- the next record's place
 pub place-more : (first : ℕ) (ds : List ℕ) (m at d groups : ℕ) → at ≡ bytesBefore first ds m → d ≡ getD ds m 0 → groups ≡ groupLength (ruleFor first) * (sizeOf first - 1) → at + (d + groups) ≡ bytesBefore first ds (m + 1)

@@ -33,7 +33,7 @@ use Rattle.layered.specs.inner.Frames.{faultOf}
 use Rattle.layered.specs.Answers.{ends}
 use Rattle.layered.specs.inner.Stages.{stageAfter, loadingOf, iteratingOf, costsIn, formedAt, recordsIn, resumeFault, FormRoom, StoreRoom, ResumeRoom, TestRoom, StepRoom}
 use Rattle.layered.proofs.Runs.{checks-count, iteration-running, test-room}
-use Rattle.layered.proofs.Decoded.{by-fault, degrees-there, holds-then, fault-is, none, rooms, frame-length, copied-front}
+use Rattle.layered.proofs.Decoded.{by-fault, holds-then, fault-is, none, rooms, frame-length, copied-front}
 
 -- tests that agree one by one
 all-ext : (n : ℕ) (f g : ℕ → Bool) → ((k : ℕ) → k < n → f k ≡ g k) → allTo f n ≡ allTo g n
@@ -93,7 +93,7 @@ module _ (k : Numbers) (ds cs ws : List ℕ) (T : Coded k ds cs ws) (n m : ℕ) 
 
   -- every check's record may be tested
   own-length : length own ≡ m
-  own-length = length-take-le m ds (degrees-there k ds cs ws T n m N M)
+  own-length = length-take-le m ds (omega (arith, T .for-degrees, M))
 
   pub form-room : (s : List ℕ) → used C ≤ length s → StoreRoom (k .first) own ws s
   form-room s room = record { accepted = T .good .first; each = at-check }
@@ -156,12 +156,12 @@ module _ (k : Numbers) (ds cs ws : List ℕ) (T : Coded k ds cs ws) (n m : ℕ) 
       go true e false i h = absurd (omega arith)
       go false e j i h = absurd (omega arith)
 
-  module _ (f y c s v : List ℕ) (r : ℕ) (e : r ≡ faultOf (k .first) n own f (length y) (length c) (length s) (length v)) where
+  module _ (f y c s v : List ℕ) (r : ℕ) (e : r ≡ faultOf k ds f (length y) (length c) (length s) (length v)) where
     abbrev b : Buffers
     b = lending y c s v
 
     admits-by : {A : Type 0} (h : Read Code → A) → h (admittedUnder (good C) f b) ≡ pick (eqb r 0) (h (good C)) (h (bad r))
-    admits-by {A} h = by-fault C f b h ∙ rw (← fault-is k ds cs ws T n m N M f y c s v r e)
+    admits-by {A} h = by-fault C f b h ∙ rw (← fault-is k ds cs ws T n N f y c s v r e)
 
     -- refused as decoding is
     pub load-refused : (r ≡ 0 → ⊥) → Moves (loadingOf C f b) (ends 4 r) b
@@ -176,21 +176,21 @@ module _ (k : Numbers) (ds cs ws : List ℕ) (T : Coded k ds cs ws) (n m : ℕ) 
 
     module _ (z : r ≡ 0) where
       R : Room C b
-      R = rooms k ds cs ws T n m N M f y c s v r e z
+      R = rooms k ds cs ws T n N f y c s v r e z
 
       width : length f ≡ C .columns * size C
-      width = frame-length k ds cs ws T n m N M f y c s v r e z
+      width = frame-length k ds cs ws T n N f y c s v r e z
 
       -- a load: the test on the frame in the front of the cost buffer
       module _ (f′ : List ℕ) (i : f′ ≡ f) where
         front : take (length f) (f′ ++ drop (length f) c) ≡ f
-        front = copied-front k ds cs ws T n m N M f y c s v r e z f′ i
+        front = copied-front k ds cs ws T n N f y c s v r e z f′ i
 
         pub first-room : Below 255 f → (x x′ : List ℕ) → length x ≡ n → length x′ ≡ n → TestRoom k ds cs ws (take (length f) (f′ ++ drop (length f) c)) x x′
         first-room d x x′ l l′ =
             rw front
             record {
-              settled = record { coded = T; ranged = frame-ranged C f (none k ds cs ws T n m N M f y c s v r e z .0) d; symbols = l ∙ N };
+              settled = record { coded = T; ranged = frame-ranged C f (none k ds cs ws T n N f y c s v r e z .0) d; symbols = l ∙ N };
               margins = l′ ∙ N;
             }
 
@@ -204,7 +204,7 @@ module _ (k : Numbers) (ds cs ws : List ℕ) (T : Coded k ds cs ws) (n m : ℕ) 
             let t : found ≡ settled C f = o ∙ ap (settled C) front in
             let u : leb (k .limit) 0 ≡ false = lt-leb (k .limit) 0 (T .good .limit-low) in
             let h : lending (x ++ drop n y) (f′ ++ drop (length f) c) s (x′ ++ drop n v) ≡ holding C f s b =
-            rw i (holds-then k ds cs ws T n m N M f s s y c v x x′ (length f) width (p ∙ ap (symbols C) front) (p′ ∙ ap (margins C) front)) in
+            rw i (holds-then k ds cs ws T n N f s s y c v x x′ (length f) width (p ∙ ap (symbols C) front) (p′ ∙ ap (margins C) front)) in
             rw (a, h) record { staged = w ∙ rw (t, u); symbols-then = refl; costs-then = refl; store-then = refl; margins-then = refl }
 
       pub resume-room : ResumeRoom (k .first) n own ws c s
@@ -248,7 +248,7 @@ module _ (k : Numbers) (ds cs ws : List ℕ) (T : Coded k ds cs ws) (n m : ℕ) 
               admits-by (λ r. iteratingUnder (resumableUnder r t b) t b) ∙ rw (eq-eqb r 0 z) (ap (λ r. iteratingUnder r t b) (resumes t b j o) ∙ rw (eq-eqb j 0 h)) in
               let g : lent P u ≡ further C t b = p ∙ ap (λ k. iterationLent C (eqb t 0) (lent (take k c) s)) width in
               let l : lending (x ++ drop n y) (P ++ drop (length f) c) u (x′ ++ drop n v) ≡ holding C P u b =
-              holds-then k ds cs ws T n m N M P u s y c v x x′ (length f) width d d′ in
+              holds-then k ds cs ws T n N P u s y c v x x′ (length f) width d d′ in
               rw (a, ← g, l) record { staged = w ∙ rw i; symbols-then = refl; costs-then = refl; store-then = refl; margins-then = refl }
 
 -- a code line that is refused, and one that says C

@@ -1,13 +1,12 @@
 // A frame under a code: its tests, those of the buffers, and its costs in the cost buffer.
+use codeline::answers::Numbers;
 ghost use mathlib.Core.Path.{_≡_};
-ghost use mathlib.Core.Bool.{true};
-ghost use Prim.Native.Nat.{_*_, _≤_};
+ghost use Prim.Native.Nat.{_*_, _≤_, min};
 ghost use lib.ListN.{length};
 ghost use Rattle.trellis.specs.Lists.{allTo};
-ghost use Rattle.trellis.specs.Rules.{firstOk};
 ghost use Rattle.machine.specs.CodeLine.{zeroIn};
 ghost use Rattle.machine.specs.inner.Tables.{bytesBefore};
-ghost use Rattle.layered.specs.inner.Frames.{frameFaultOf, roomFaultOf, faultOf};
+ghost use Rattle.layered.specs.inner.Frames.{frameFaultOf, roomFaultOf, faultOf, copiedTo};
 
 // Whether each of n columns of q costs has a cost of 0.
 fn zeros_in(frame: &[u8], q: usize, n: usize) -> bool
@@ -27,11 +26,11 @@ fn zeros_in(frame: &[u8], q: usize, n: usize) -> bool
 }
 
 // "12, cost count wrong; 13, a column without a cost of 0"; 0 for none.
-pub fn frame_fault(first: u8, n: usize, frame: &[u8]) -> u8
-    requires { ⌜ (firstOk first ≡ true) × (n ≤ 256) ⌝ }
-    ensures { λ r. ⌜ r ≡ frameFaultOf first n (now (frame .entry)) ⌝ }
+pub fn frame_fault(numbers: Numbers, frame: &[u8]) -> u8
+    ensures { λ r. ⌜ r ≡ frameFaultOf (numbers .first) (numbers .columns) (now (frame .entry)) ⌝ }
 {
-    let q = rules::size(first);
+    let n = scalar::u16_to_usize(numbers.columns);
+    let q = rules::size(numbers.first);
     if frame.len() != n * q {
         return 12;
     }
@@ -41,15 +40,16 @@ pub fn frame_fault(first: u8, n: usize, frame: &[u8]) -> u8
     13
 }
 
-// "as many bytes as the M record lengths add up to".
-pub fn used(first: u8, degrees: &[u8]) -> usize
-    requires { ⌜ (firstOk first ≡ true) × (length (now degrees) ≤ 128) ⌝ }
-    ensures { λ r. ⌜ r ≡ bytesBefore first (now (degrees .entry)) (length (now (degrees .entry))) ⌝ }
+// "as many bytes as the M record lengths add up to": of the first M of these degrees.
+pub fn used(numbers: Numbers, degrees: &[u8]) -> usize
+    ensures { λ r. ⌜ r
+        ≡ bytesBefore (numbers .first) (now (degrees .entry)) (min (numbers .checks) (length (now (degrees .entry)))) ⌝ }
 {
-    let groups = rules::groups(first);
+    let groups = rules::groups(numbers.first);
+    let count = scalar::min_usize(scalar::u8_to_usize(numbers.checks), degrees.len());
     let mut sum = 0;
     let mut m = 0;
-    while m < degrees.len() {
+    while m < count {
         let d = scalar::u8_to_usize(degrees[m]);
         sum += d + groups;
         m += 1;
@@ -86,8 +86,7 @@ pub fn room_fault(
 
 // "Decode: code, 12, 13, 2, 3, 4.", 19: what comes after the code; 0 for none.
 pub fn fault(
-    first: u8,
-    n: usize,
+    numbers: Numbers,
     degrees: &[u8],
     frame: &[u8],
     symbols: &[u8],
@@ -95,16 +94,17 @@ pub fn fault(
     store: &[u8],
     margins: &[u16],
 ) -> u8
-    requires { ⌜ (firstOk first ≡ true) × ((n ≤ 256) × (length (now degrees) ≤ 128)) ⌝ }
-    ensures { λ r. ⌜ r ≡ faultOf first n (now (degrees .entry)) (now (frame .entry)) (length (now (symbols .entry)))
+    ensures { λ r. ⌜ r
+        ≡ faultOf numbers (now (degrees .entry)) (now (frame .entry)) (length (now (symbols .entry)))
         (length (now (costs .entry))) (length (now (store .entry))) (length (now (margins .entry))) ⌝ }
 {
-    let k = frame_fault(first, n, frame);
+    let k = frame_fault(numbers, frame);
     if k != 0 {
         return k;
     }
+    let n = scalar::u16_to_usize(numbers.columns);
     let w = frame.len();
-    let u = used(first, degrees);
+    let u = used(numbers, degrees);
     room_fault(
         n,
         w,
@@ -116,11 +116,13 @@ pub fn fault(
     )
 }
 
-// "Start: P is the frame".
+// "Start: P is the frame". Nothing changes where the two have other lengths.
 pub fn copy(frame: &[u8], costs: &mut [u16])
-    requires { ⌜ length (now frame) ≡ length (now costs) ⌝ }
-    ensures { λ _. ⌜ now (costs .exit) ≡ now (frame .entry) ⌝ }
+    ensures { λ _. ⌜ now (costs .exit) ≡ copiedTo (now (frame .entry)) (now (costs .entry)) ⌝ }
 {
+    if frame.len() != costs.len() {
+        return;
+    }
     let mut i = 0;
     while i < costs.len() {
         costs[i] = scalar::u8_to_u16(frame[i]);

@@ -117,17 +117,7 @@ fn load_under(
         (lending (now (symbols .exit)) (now (costs .exit)) (now (store .entry)) (now (margins .exit))) ⌝ }
 {
     let n = scalar::u16_to_usize(numbers.columns);
-    let m = scalar::u8_to_usize(numbers.checks);
-    let k = frame::fault(
-        numbers.first,
-        n,
-        &degrees[..m],
-        frame,
-        symbols,
-        costs,
-        store,
-        margins,
-    );
+    let k = frame::fault(numbers, degrees, frame, symbols, costs, store, margins);
     if k != 0 {
         return Stage::Refused(k);
     }
@@ -170,16 +160,7 @@ fn step_under(
 {
     let n = scalar::u16_to_usize(numbers.columns);
     let m = scalar::u8_to_usize(numbers.checks);
-    let k = frame::fault(
-        numbers.first,
-        n,
-        &degrees[..m],
-        frame,
-        symbols,
-        costs,
-        store,
-        margins,
-    );
+    let k = frame::fault(numbers, degrees, frame, symbols, costs, store, margins);
     if k != 0 {
         return Stage::Refused(k);
     }

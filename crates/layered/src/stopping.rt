@@ -33,17 +33,7 @@ fn under_code(
         (lending (now (symbols .exit)) (now (costs .exit)) (now (store .exit)) (now (margins .exit))) ⌝ }
 {
     let n = scalar::u16_to_usize(numbers.columns);
-    let m = scalar::u8_to_usize(numbers.checks);
-    let k = frame::fault(
-        numbers.first,
-        n,
-        &degrees[..m],
-        frame,
-        symbols,
-        costs,
-        store,
-        margins,
-    );
+    let k = frame::fault(numbers, degrees, frame, symbols, costs, store, margins);
     if k != 0 {
         return EarlyAnswer::Refused(k);
     }

@@ -1,14 +1,14 @@
 -- What the functions ask and leave: the struct that a call answers by, the numbers and lengths that a channel needs, and room for each
 -- loop.
 use mathlib.Core.Path.{_≡_}
-use mathlib.Core.Bool.{true, _||_}
+use mathlib.Core.Bool.{_||_}
 use mathlib.Core.List.{List, map, _++_, [], _∷_}
-use Prim.Native.Nat.{ℕ, _+_, _-_, _*_, _≤_, _<_}
+use Prim.Native.Nat.{ℕ, _+_, _-_, _*_, _≤_, _<_, min}
 use lib.Dec.{eqb, ltb}
 use lib.ListN.{length, take, replicate}
 use Rattle.trellis.specs.Lists.{pick}
 use Rattle.trellis.specs.Refusals.{unless, refusedBy, faultBy}
-use Rattle.trellis.specs.Rules.{firstOk, sizeOf}
+use Rattle.trellis.specs.Rules.{sizeOf}
 use Rattle.trellis.specs.Reply.{Reply}
 use Rattle.machine.specs.CodeLine.{good, Code, size, parse}
 use Rattle.machine.specs.Machine.{used}
@@ -28,19 +28,12 @@ use Rattle.channels.specs.inner.Rounds.{Standing, Serves, lentIn, status
 unfoldable pub countFault : ℕ → ℕ → ℕ
 countFault n A = faultBy (countTests n A)
 
--- the numbers and degrees of an accepted code
-pub record LayoutRoom (k : Numbers) (ds : List ℕ) : Type 0 where
-  pub accepted : firstOk (k .first) ≡ true
-  pub columns : k .columns ≤ 256
-  pub checks : k .checks ≤ 128
-  pub degrees : k .checks ≤ length ds
-
 -- a layout by its numbers
 pub record LaidOut (k : Numbers) (ds : List ℕ) (z : Layout) : Type 0 where
   pub numbers-is : z .numbers ≡ k
   pub columns-is : z .columns ≡ k .columns
   pub costs-is : z .costs ≡ k .columns * sizeOf (k .first)
-  pub store-is : z .store ≡ bytesBefore (k .first) (take (k .checks) ds) (length (take (k .checks) ds))
+  pub store-is : z .store ≡ bytesBefore (k .first) ds (min (k .checks) (length ds))
 
 -- 12, 2, 3, 4, 19 by the lengths; 0 for none
 unfoldable pub faultFor : ℕ → Layout → ℕ → ℕ → ℕ → ℕ → ℕ → ℕ

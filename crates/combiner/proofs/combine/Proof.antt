@@ -2,7 +2,7 @@
 use mathlib.Core.Path.{ap, _∙_}
 use borrow.Author.Needs.{needs}
 use Rattle.machine.specs.Encoding.{Wrote}
-use Rattle.combiner.proofs.Combined.{line-refused, line-asks, line-is}
+use Rattle.combiner.proofs.Combined.{line-refused, line-is}
 use Rattle.combiner.proofs.combine.Statement.{statement}
 use Rattle.combiner.proofs.combine.Tie as tie
 
@@ -15,35 +15,26 @@ enum-known-k c = search needs
 enum-known-numbers : tie.Need-enum-known-numbers
 enum-known-numbers c = search needs
 
-u16-to-usize-requires : tie.Need-u16-to-usize-requires
-u16-to-usize-requires c κs = search needs
-
 under-code-requires : tie.Need-under-code-requires
-under-code-requires c κs =
-    let w = c .before .u16-to-usize in
-    let v = c .before .before .before .numbers .given in
-    let r = c .before .before .before .before .before .code-line in
-    let a = c .before .before .before .before .before .before .before .before .before .before .args in
-    line-asks (a .code .now) (r .result) (r .ensures) (a .first .now) (a .second .now) (a .out .now) (v .0 .0) (v .1) (w .result) (w .ensures .0)
+under-code-requires c κs = search needs
 
 returns : tie.Need-returns
 returns c =
-    let r = c .before .before .before .code-line in
-    let a = c .before .before .before .before .before .before .before .before .args in
-    line-refused (a .code .now) (r .result) (r .ensures) (a .first .now) (a .second .now) (a .out .now) (c .before .k .given .0 .0) (c .before .k .given .1)
+    let at-k = c .before in
+    let at-code-line = at-k .before .before in
+    let start = at-code-line .before .before .before .before .before in
+    line-refused (start .args .code .now) (at-code-line .code-line .result) (at-code-line .code-line .ensures) (start .args .first .now) (start .args .second .now) (start .args .out .now) (at-k .k .given .0 .0) (at-k .k .given .1)
 
 same-length : tie.Need-same-length
 same-length c = search needs
 
 returns-2 : tie.Need-returns-2
 returns-2 c =
-    let o = c .before .before .under-code in
-    let w = c .before .before .before .before .u16-to-usize in
-    let v = c .before .before .before .before .before .before .numbers .given in
-    let r = c .before .before .before .before .before .before .before .before .code-line in
-    let a = c .before .before .before .before .before .before .before .before .before .before .before .before .before .args in
-    let e = line-is (a .code .now) (r .result) (r .ensures) (a .first .now) (a .second .now) (a .out .now) (v .0 .0) (v .1) (w .result) (w .ensures .0) in
-    (o .ensures .0 ∙ ap (λ (w : Wrote). w .reply) e, o .ensures .1 ∙ ap (λ (w : Wrote). w .out) e)
+    let at-under-code = c .before .before in
+    let at-numbers = at-under-code .before .before .before in
+    let at-code-line = at-numbers .before .before in
+    let start = at-code-line .before .before .before .before .before in
+    let e = line-is (start .args .code .now) (at-code-line .code-line .result) (at-code-line .code-line .ensures) (start .args .first .now) (start .args .second .now) (start .args .out .now) (at-numbers .numbers .given .0 .0) (at-numbers .numbers .given .1) in (at-under-code .under-code .ensures .0 ∙ ap (λ (w : Wrote). w .reply) e, at-under-code .under-code .ensures .1 ∙ ap (λ (w : Wrote). w .out) e)
 
 pub combine-spec : {M : Type 1} → statement M
 combine-spec =
@@ -52,7 +43,6 @@ combine-spec =
     code-line-requires
     enum-known-k
     enum-known-numbers
-    u16-to-usize-requires
     under-code-requires
     returns
     same-length

@@ -1,7 +1,7 @@
 -- The refusals of a frame and of the buffers by numbers, 0 for none, and a decoding under a code that is read. proofs/Decoded.antt shows
 -- that these are decoding's.
 use mathlib.Core.List.{List}
-use Prim.Native.Nat.{ℕ, _*_, _≤_}
+use Prim.Native.Nat.{ℕ, _*_, _≤_, min}
 use lib.Dec.{eqb}
 use lib.ListN.{length}
 use Rattle.trellis.specs.Lists.{pick}
@@ -22,11 +22,16 @@ frameFaultOf first n f = faultBy (frameTests (sizeOf first) n f)
 unfoldable pub roomFaultOf : ℕ → ℕ → ℕ → ℕ → ℕ → ℕ → ℕ → ℕ
 roomFaultOf n w u y c s v = faultBy (roomTests n w u y c s v)
 
--- "12, 13, 2, 3, 4", 19
-unfoldable pub faultOf : ℕ → ℕ → List ℕ → List ℕ → ℕ → ℕ → ℕ → ℕ → ℕ
-faultOf first n ds f y c s v =
-    pick (eqb (frameFaultOf first n f) 0) (roomFaultOf n (n * sizeOf first) (bytesBefore first ds (length ds)) y c s v)
-    (frameFaultOf first n f)
+-- "12, 13, 2, 3, 4", 19, by the numbers of a line and its degrees
+unfoldable pub faultOf : Numbers → List ℕ → List ℕ → ℕ → ℕ → ℕ → ℕ → ℕ
+faultOf k ds f y c s v =
+    pick (eqb (frameFaultOf (k .first) (k .columns) f) 0)
+    (roomFaultOf (k .columns) (k .columns * sizeOf (k .first)) (bytesBefore (k .first) ds (min (k .checks) (length ds))) y c s v)
+    (frameFaultOf (k .first) (k .columns) f)
+
+-- costs as long as the frame are the frame's then; else nothing changes
+abbrev pub copiedTo : List ℕ → List ℕ → List ℕ
+copiedTo f c = pick (eqb (length f) (length c)) f c
 
 -- decoding under a code that is read
 abbrev pub decodingOf : Code → List ℕ → Buffers → After

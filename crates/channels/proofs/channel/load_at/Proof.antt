@@ -10,6 +10,7 @@ use Rattle.machine.specs.Decoding.{lending}
 use Rattle.layered.proofs.Columns.{length-part}
 use Rattle.channels.specs.inner.Layouts.{PartRoom}
 use Rattle.channels.proofs.Layouts.{symbols-inside, costs-inside, margins-inside, frame-inside, load-refused, load-asks, load-puts, load-room, frame-room, someStore, some-room}
+use Rattle.layered.proofs.Decoded.{copied-is}
 use Rattle.channels.proofs.channel.load_at.Statement.{statement}
 use Rattle.channels.proofs.channel.load_at.Tie as tie
 
@@ -28,6 +29,14 @@ inside s =
       frame-inside (s .pre .code) (a .z) (a .degrees .now) (a .columns .now) (a .weights .now) (s .pre .shaped) (a .c) b (own-room s) (a .frames .now) (s .pre .frames),
       margins-inside (s .pre .code) (a .z) (a .degrees .now) (a .columns .now) (a .weights .now) (s .pre .shaped) (a .c) b (own-room s),
     )
+
+-- the frame's part is as long as that of the costs
+same : (s : tie.Start) → let a = s .args in
+    length (part (a .frames .now) (a .c * a .z .costs) (a .c * a .z .costs + a .z .costs - a .c * a .z .costs)) ≡ length (part (a .costs .now) (a .c * a .z .costs) (a .c * a .z .costs + a .z .costs - a .c * a .z .costs))
+same s =
+    let a = s .args in
+    let d : a .c * a .z .costs + a .z .costs - a .c * a .z .costs ≡ a .z .costs = omega arith in
+    ap length (ap (part (a .frames .now) (a .c * a .z .costs)) d) ∙ length-part (a .frames .now) (a .c * a .z .costs) (a .z .costs) (inside s .2) ∙ sym (ap length (ap (part (a .costs .now) (a .c * a .z .costs)) d) ∙ length-part (a .costs .now) (a .c * a .z .costs) (a .z .costs) (inside s .1))
 
 mul-a : tie.Need-mul-a
 mul-a c = omega (arith, inside (c .before .before .before .before .before .before .before .before), c .before .before .before .before .before .before .before .before .good)
@@ -51,10 +60,7 @@ part-frame-fault-end : tie.Need-part-frame-fault-end
 part-frame-fault-end c = omega (arith, inside (c .before .before .before .before .before .before .before .before .before .before .before), c .before .before .before .before .before .before .before .before .before .before .before .good)
 
 frame-fault-requires : tie.Need-frame-fault-requires
-frame-fault-requires c κs =
-    let s = c .before .before .before .before .before .before .before .before .before .before .before .before in
-    let H = s .pre .shaped in
-    (H .coded .good .first, rw (H .columns-is) (H .good .columns-high))
+frame-fault-requires c κs = search needs
 
 returns : tie.Need-returns
 returns c =
@@ -85,11 +91,7 @@ part-copy-end-2 : tie.Need-part-copy-end-2
 part-copy-end-2 c = omega (arith, inside (c .before .before .before .before .before .before .before .before .before .before .before .before .before .before .before), c .before .before .before .before .before .before .before .before .before .before .before .before .before .before .before .good)
 
 copy-requires : tie.Need-copy-requires
-copy-requires c κs =
-    let s = c .before .before .before .before .before .before .before .before .before .before .before .before .before .before .before .before in
-    let a = s .args in
-    let d : a .c * a .z .costs + a .z .costs - a .c * a .z .costs ≡ a .z .costs = omega arith in
-    ap length (ap (part (a .frames .now) (a .c * a .z .costs)) d) ∙ length-part (a .frames .now) (a .c * a .z .costs) (a .z .costs) (inside s .2) ∙ sym (ap length (ap (part (a .costs .now) (a .c * a .z .costs)) d) ∙ length-part (a .costs .now) (a .c * a .z .costs) (a .z .costs) (inside s .1))
+copy-requires c κs = search needs
 
 mul-tested : tie.Need-mul-tested
 mul-tested c = omega (arith, inside (c .before .before .before .before .before .before .before .before .before .before .before .before .before .before .before .before .before .before .before), c .before .before .before .before .before .before .before .before .before .before .before .before .before .before .before .before .before .before .before .good)
@@ -131,7 +133,7 @@ tested-requires c κs =
     let b = lending (a .symbols .now) (a .costs .now) (someStore (s .pre .code) (a .c)) (a .margins .now) in
     let k = c .before .before .before .before .before .before .before .before .before .before .frame-fault in
     let o = c .before .before .before .before .before .before .copy in
-    load-asks (s .pre .code) (a .z) (a .degrees .now) (a .columns .now) (a .weights .now) (s .pre .shaped) (a .c) b (own-room s) (a .frames .now) (s .pre .frames) (k .result) (k .ensures) (c .before .before .before .before .before .before .before .before .before .if1 .left) (o .last .1 .0) (o .ensures) (λ x. omega (arith, c .before .before .before .before .before .before .before .before .before .before .before .before .before .before .before .before .before .before .before .shared-slice-known4 .given x))
+    load-asks (s .pre .code) (a .z) (a .degrees .now) (a .columns .now) (a .weights .now) (s .pre .shaped) (a .c) b (own-room s) (a .frames .now) (s .pre .frames) (k .result) (k .ensures) (c .before .before .before .before .before .before .before .before .before .if1 .left) (o .last .1 .0) (copied-is (part (a .frames .now) (a .c * a .z .costs) (a .c * a .z .costs + a .z .costs - a .c * a .z .costs)) (part (a .costs .now) (a .c * a .z .costs) (a .c * a .z .costs + a .z .costs - a .c * a .z .costs)) (o .last .1 .0) (same s) (o .ensures)) (λ x. omega (arith, c .before .before .before .before .before .before .before .before .before .before .before .before .before .before .before .before .before .before .before .shared-slice-known4 .given x))
 
 stage-after-requires : tie.Need-stage-after-requires
 stage-after-requires c κs = search needs
@@ -155,7 +157,7 @@ returns-2 c =
     let k = c .before .before .before .before .before .before .before .before .before .before .before .before .before .before .before .before .before .frame-fault in
     let f = c .before .before .before .before .before .before .before .before .before .before .before .before .before .copy in
     let u = c .before .before .before .before .before .before .tested in
-    λ (C : Code) H store o. load-puts C (a .z) (a .degrees .now) (a .columns .now) (a .weights .now) H (a .c) (lending (a .symbols .now) (a .costs .now) store (a .margins .now)) (load-room C (s .pre .code) (a .z) (a .degrees .now) (a .columns .now) (a .weights .now) H (s .pre .shaped) (a .c) (a .symbols .now) (a .costs .now) store (a .margins .now) (s .pre .symbols) (s .pre .costs) (s .pre .margins) o) (a .frames .now) (frame-room C (s .pre .code) (a .z) (a .degrees .now) (a .columns .now) (a .weights .now) H (s .pre .shaped) (a .c) (a .frames .now) (s .pre .frames)) (k .result) (k .ensures) (c .before .before .before .before .before .before .before .before .before .before .before .before .before .before .before .before .if1 .left) (f .last .1 .0) (f .ensures) (u .result) _ _ (u .ensures .0) (u .ensures .1 .0) (u .ensures .1 .1) _ (c .before .stage-after .ensures) _ (c .status-of .ensures)
+    λ (C : Code) H store o. load-puts C (a .z) (a .degrees .now) (a .columns .now) (a .weights .now) H (a .c) (lending (a .symbols .now) (a .costs .now) store (a .margins .now)) (load-room C (s .pre .code) (a .z) (a .degrees .now) (a .columns .now) (a .weights .now) H (s .pre .shaped) (a .c) (a .symbols .now) (a .costs .now) store (a .margins .now) (s .pre .symbols) (s .pre .costs) (s .pre .margins) o) (a .frames .now) (frame-room C (s .pre .code) (a .z) (a .degrees .now) (a .columns .now) (a .weights .now) H (s .pre .shaped) (a .c) (a .frames .now) (s .pre .frames)) (k .result) (k .ensures) (c .before .before .before .before .before .before .before .before .before .before .before .before .before .before .before .before .if1 .left) (f .last .1 .0) (copied-is (part (a .frames .now) (a .c * a .z .costs) (a .c * a .z .costs + a .z .costs - a .c * a .z .costs)) (part (a .costs .now) (a .c * a .z .costs) (a .c * a .z .costs + a .z .costs - a .c * a .z .costs)) (f .last .1 .0) (same s) (f .ensures)) (u .result) _ _ (u .ensures .0) (u .ensures .1 .0) (u .ensures .1 .1) _ (c .before .stage-after .ensures) _ (c .status-of .ensures)
 
 pub load-at-spec : {M : Type 1} → statement M
 load-at-spec =

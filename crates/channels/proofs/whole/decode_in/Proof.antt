@@ -3,7 +3,7 @@ use native.Mathlib.Omega.{arith}
 use borrow.Author.Needs.{needs}
 use Rattle.machine.specs.Decoding.{lending}
 use Rattle.codeline.proofs.Says.{line-says, line-coded}
-use Rattle.channels.proofs.Given.{count-refused, count-passes, layout-asks, line-refused, under-room, line-gives}
+use Rattle.channels.proofs.Given.{count-refused, count-passes, line-refused, under-room, line-gives}
 use Rattle.channels.proofs.whole.decode_in.Statement.{statement}
 use Rattle.channels.proofs.whole.decode_in.Tie as tie
 
@@ -33,11 +33,7 @@ enum-known-numbers : tie.Need-enum-known-numbers
 enum-known-numbers c = search needs
 
 layout-of-requires : tie.Need-layout-of-requires
-layout-of-requires c κs =
-    let at-numbers = c .before .before .before in
-    let at-code-tables = at-numbers .before .before in
-    let start = at-code-tables .before .before .before .before .before .before .before .before .before .before .before .before in
-    layout-asks (at-numbers .numbers .given .0 .0) (at-code-tables .code-tables .last .1 .0) (at-code-tables .code-tables .last .1 .1 .0) (at-code-tables .code-tables .last .1 .1 .1 .0) (line-coded (start .args .code .now) (at-code-tables .code-tables .result) (at-code-tables .code-tables .ensures .0) (at-numbers .numbers .given .0 .0) (at-numbers .numbers .given .1) _ _ _ (at-code-tables .code-tables .last .1 .0) (at-code-tables .code-tables .last .1 .1 .0) (at-code-tables .code-tables .last .1 .1 .1 .0) (at-code-tables .code-tables .ensures .1 .0) (at-code-tables .code-tables .ensures .1 .1 .0) (at-code-tables .code-tables .ensures .1 .1 .1))
+layout-of-requires c κs = search needs
 
 u8-to-usize-requires : tie.Need-u8-to-usize-requires
 u8-to-usize-requires c κs = search needs

@@ -7,7 +7,7 @@ use borrow.Author.Needs.{needs}
 use lib.ListN.{length, drop, getD}
 use Rattle.trellis.specs.Lists.{tab}
 use Rattle.trellis.proofs.Loops.{tab-more}
-use Rattle.layered.proofs.Decoded.{copied}
+use Rattle.layered.proofs.Decoded.{copied, copied-none, copied-frame}
 use Rattle.layered.proofs.frame.copy.Statement.{statement}
 use Rattle.layered.proofs.frame.copy.Tie as tie
 
@@ -16,6 +16,11 @@ Inv-loop frame costs₀ i₀ costs i = (i ≤ length costs₀) × ((length costs
 
 abbrev μ-loop : tie.MeasureT-loop
 μ-loop frame costs₀ i₀ costs i = length costs₀ - i
+
+returns : tie.Need-returns Inv-loop μ-loop
+returns c =
+    let start = c .before .before .before in
+    copied-none (start .args .frame .now) (start .args .costs .now) (c .if1 .taken)
 
 loop-holds : tie.Need-loop-holds Inv-loop μ-loop
 loop-holds c = search needs
@@ -40,18 +45,19 @@ loop-less c = search needs
 
 loop-again : tie.Need-loop-again Inv-loop μ-loop
 loop-again c =
-    let l = c .before .before .before in
-    let a = l .before .before .before .args in
-    (search needs, (search needs, cc (tab-more (λ (k : ℕ). getD (a .frame .now) k 0) (a .costs .now) (l .loop .i) (omega arith))))
+    let at-loop = c .before .before .before in
+    let start = at-loop .before .before .before .before in
+    (search needs, (search needs, cc (tab-more (λ (k : ℕ). getD (start .args .frame .now) k 0) (start .args .costs .now) (at-loop .loop .i) (omega arith))))
 
 same-length : tie.Need-same-length Inv-loop μ-loop
 same-length c = search needs
 
-returns : tie.Need-returns Inv-loop μ-loop
-returns c =
-    let l = c .before in
-    let s = l .before .before .before in
-    copied (s .args .frame .now) (s .args .costs .now) (l .loop .costs) (l .loop .i) (s .pre) (omega arith) (l .loop .inv .1 .1)
+returns-2 : tie.Need-returns-2 Inv-loop μ-loop
+returns-2 c =
+    let at-loop = c .before in
+    let at-if1 = at-loop .before in
+    let start = at-if1 .before .before .before in
+    copied-frame (start .args .frame .now) (start .args .costs .now) _ (at-if1 .if1 .left) (copied (start .args .frame .now) (start .args .costs .now) (at-loop .loop .costs) (at-loop .loop .i) (at-if1 .if1 .left) (omega arith) (at-loop .loop .inv .1 .1))
 
 pub copy-spec : {M : Type 1} → statement M
 copy-spec =
@@ -59,6 +65,7 @@ copy-spec =
     (tie.spec
     Inv-loop
     μ-loop
+    returns
     loop-holds
     shared-slice-read-u8-to-u16
     u8-to-u16-requires
@@ -68,4 +75,4 @@ copy-spec =
     loop-less
     loop-again
     same-length
-    returns)
+    returns-2)

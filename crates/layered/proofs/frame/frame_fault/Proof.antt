@@ -1,44 +1,62 @@
 -- The two tests, in the definition's order.
-use native.Mathlib.Nat.{mul-le-mul}
-use native.Mathlib.Omega.{arith}
-use mathlib.Core.Path.{sym, _∙_}
+use mathlib.Core.Path.{ap, _∙_, sym}
 use mathlib.Core.Bool.{true, false}
-use Prim.Native.Nat.{_≤_, _*_}
-use Rattle.layered.proofs.Decoded.{fault-count, fault-zeros}
+use Prim.Native.Nat.{_*_, _≤_}
+use native.Mathlib.Omega.{arith}
 use borrow.Author.Needs.{needs}
+use native.Mathlib.Nat.{mul-le-mul}
+use Rattle.layered.specs.inner.Frames.{frameFaultOf}
+use Rattle.layered.proofs.Decoded.{fault-count, fault-zeros}
 use Rattle.layered.proofs.frame.frame_fault.Statement.{statement}
 use Rattle.layered.proofs.frame.frame_fault.Tie as tie
+
+u16-to-usize-requires : tie.Need-u16-to-usize-requires
+u16-to-usize-requires c κs = search needs
 
 size-requires : tie.Need-size-requires
 size-requires c κs = search needs
 
 mul-if1 : tie.Need-mul-if1
 mul-if1 c =
-    let start = c .before .before in
-    let h : start .args .n * c .size .result ≤ 256 * 32768 = mul-le-mul (start .pre .1) (c .size .ensures .1 .1) in
-    omega arith
+    let at-u16-to-usize = c .before in
+    let i : at-u16-to-usize .u16-to-usize .result ≤ 65535 = omega (arith, at-u16-to-usize .u16-to-usize .ensures .1) in let h : at-u16-to-usize .u16-to-usize .result * c .size .result ≤ 65535 * 32768 = mul-le-mul i (c .size .ensures .1 .1) in omega arith
 
 returns : tie.Need-returns
 returns c =
-    let z = c .before in
-    let a = z .before .before .args in
-    fault-count (a .first) (a .n) (z .size .result) (a .frame .now) (z .size .ensures .0) (c .if1 .taken)
+    let at-size = c .before in
+    let at-u16-to-usize = at-size .before in
+    let start = at-u16-to-usize .before .before in
+    fault-count (start .args .numbers .first) (at-u16-to-usize .u16-to-usize .result) (at-size .size .result) (start .args .frame .now) (at-size .size .ensures .0) (c .if1 .taken) ∙ ap (λ n. frameFaultOf (start .args .numbers .first) n (start .args .frame .now)) (at-u16-to-usize .u16-to-usize .ensures .0)
 
 zeros-in-requires : tie.Need-zeros-in-requires
 zeros-in-requires c κs = search needs
 
 returns-2 : tie.Need-returns-2
 returns-2 c =
-    let z = c .before .before .before in
-    let a = z .before .before .args in
-    fault-zeros (a .first) (a .n) (z .size .result) (a .frame .now) (z .size .ensures .0) true (c .before .before .if1 .left) (sym (c .if2 .taken) ∙ c .before .zeros-in .ensures)
+    let at-zeros-in = c .before in
+    let at-if1 = at-zeros-in .before in
+    let at-size = at-if1 .before in
+    let at-u16-to-usize = at-size .before in
+    let start = at-u16-to-usize .before .before in
+    fault-zeros (start .args .numbers .first) (at-u16-to-usize .u16-to-usize .result) (at-size .size .result) (start .args .frame .now) (at-size .size .ensures .0) true (at-if1 .if1 .left) (sym (c .if2 .taken) ∙ at-zeros-in .zeros-in .ensures) ∙ ap (λ n. frameFaultOf (start .args .numbers .first) n (start .args .frame .now)) (at-u16-to-usize .u16-to-usize .ensures .0)
 
 returns-3 : tie.Need-returns-3
 returns-3 c =
-    let z = c .before .before .before in
-    let a = z .before .before .args in
-    fault-zeros (a .first) (a .n) (z .size .result) (a .frame .now) (z .size .ensures .0) false (c .before .before .if1 .left) (sym (c .if2 .left) ∙ c .before .zeros-in .ensures)
+    let at-zeros-in = c .before in
+    let at-if1 = at-zeros-in .before in
+    let at-size = at-if1 .before in
+    let at-u16-to-usize = at-size .before in
+    let start = at-u16-to-usize .before .before in
+    fault-zeros (start .args .numbers .first) (at-u16-to-usize .u16-to-usize .result) (at-size .size .result) (start .args .frame .now) (at-size .size .ensures .0) false (at-if1 .if1 .left) (sym (c .if2 .left) ∙ at-zeros-in .zeros-in .ensures) ∙ ap (λ n. frameFaultOf (start .args .numbers .first) n (start .args .frame .now)) (at-u16-to-usize .u16-to-usize .ensures .0)
 
 pub frame-fault-spec : {M : Type 1} → statement M
 frame-fault-spec =
-    tie.close (tie.spec size-requires mul-if1 returns zeros-in-requires returns-2 returns-3)
+    tie.close
+    (tie.spec
+    u16-to-usize-requires
+    size-requires
+    mul-if1
+    returns
+    zeros-in-requires
+    returns-2
+    returns-3)

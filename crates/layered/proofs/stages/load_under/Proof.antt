@@ -1,12 +1,12 @@
 -- Each refusal by its number; after them the test on the copied frame gives all five of the promise's equations.
-use mathlib.Core.Path.{sym}
+use mathlib.Core.Path.{refl, sym}
 use native.Mathlib.Omega.{arith}
 use borrow.Author.Needs.{needs}
 use lib.ListN.{length, take, length-take}
 use lib.Seq.{length-take-le}
 use Rattle.machine.specs.Machine.{symbols, margins}
 use Rattle.layered.proofs.Columns.{front-room}
-use Rattle.layered.proofs.Decoded.{degrees-there, few, fits}
+use Rattle.layered.proofs.Decoded.{fits, copied-is}
 use Rattle.layered.proofs.Steps.{load-refused, first-room, load-leaves}
 use Rattle.layered.proofs.stages.load_under.Statement.{statement}
 use Rattle.layered.proofs.stages.load_under.Tie as tie
@@ -14,22 +14,8 @@ use Rattle.layered.proofs.stages.load_under.Tie as tie
 u16-to-usize-requires : tie.Need-u16-to-usize-requires
 u16-to-usize-requires c κs = search needs
 
-u8-to-usize-requires : tie.Need-u8-to-usize-requires
-u8-to-usize-requires c κs = search needs
-
-slice-aggregate-fault : tie.Need-slice-aggregate-fault
-slice-aggregate-fault c =
-    let at-u8-to-usize = c .before in
-    let at-u16-to-usize = at-u8-to-usize .before in
-    let start = at-u16-to-usize .before .before .before .before .before .before .before .before .before in
-    sym (length-take-le (at-u8-to-usize .u8-to-usize .result) (start .args .degrees .now) (degrees-there (start .args .numbers) (start .args .degrees .now) (start .args .columns .now) (start .args .weights .now) (start .pre) (at-u16-to-usize .u16-to-usize .result) (at-u8-to-usize .u8-to-usize .result) (at-u16-to-usize .u16-to-usize .ensures .0) (at-u8-to-usize .u8-to-usize .ensures .0)))
-
 fault-requires : tie.Need-fault-requires
-fault-requires c κs =
-    let at-u8-to-usize = c .before .before .before .before in
-    let at-u16-to-usize = at-u8-to-usize .before in
-    let start = at-u16-to-usize .before .before .before .before .before .before .before .before .before in
-    few (start .args .numbers) (start .args .degrees .now) (start .args .columns .now) (start .args .weights .now) (start .pre) (at-u16-to-usize .u16-to-usize .result) (at-u8-to-usize .u8-to-usize .result) (at-u16-to-usize .u16-to-usize .ensures .0) (at-u8-to-usize .u8-to-usize .ensures .0)
+fault-requires c κs = search needs
 
 same-length : tie.Need-same-length
 same-length c = search needs
@@ -43,103 +29,87 @@ same-length-3 c = search needs
 returns : tie.Need-returns
 returns c =
     let at-fault = c .before in
-    let at-u8-to-usize = at-fault .before .before .before .before .before in
-    let at-u16-to-usize = at-u8-to-usize .before in
+    let at-u16-to-usize = at-fault .before .before .before .before in
     let start = at-u16-to-usize .before .before .before .before .before .before .before .before .before in
-    load-refused (start .args .numbers) (start .args .degrees .now) (start .args .columns .now) (start .args .weights .now) (start .pre) (at-u16-to-usize .u16-to-usize .result) (at-u8-to-usize .u8-to-usize .result) (at-u16-to-usize .u16-to-usize .ensures .0) (at-u8-to-usize .u8-to-usize .ensures .0) (start .args .frame .now) (start .args .symbols .now) (start .args .costs .now) (start .args .store .now) (start .args .margins .now) (at-fault .fault .result) (at-fault .fault .ensures) (c .if1 .taken)
+    load-refused (start .args .numbers) (start .args .degrees .now) (start .args .columns .now) (start .args .weights .now) (start .pre) (at-u16-to-usize .u16-to-usize .result) (start .args .numbers .checks) (at-u16-to-usize .u16-to-usize .ensures .0) refl (start .args .frame .now) (start .args .symbols .now) (start .args .costs .now) (start .args .store .now) (start .args .margins .now) (at-fault .fault .result) (at-fault .fault .ensures) (c .if1 .taken)
 
 slice-relend-prefix-copy : tie.Need-slice-relend-prefix-copy
 slice-relend-prefix-copy c =
     let at-fault = c .before in
-    let at-u8-to-usize = at-fault .before .before .before .before .before in
-    let at-u16-to-usize = at-u8-to-usize .before in
+    let at-u16-to-usize = at-fault .before .before .before .before in
     let start = at-u16-to-usize .before .before .before .before .before .before .before .before .before in
-    omega (arith, (fits (start .args .numbers) (start .args .degrees .now) (start .args .columns .now) (start .args .weights .now) (start .pre) (at-u16-to-usize .u16-to-usize .result) (at-u8-to-usize .u8-to-usize .result) (at-u16-to-usize .u16-to-usize .ensures .0) (at-u8-to-usize .u8-to-usize .ensures .0) (start .args .frame .now) (start .args .symbols .now) (start .args .costs .now) (start .args .store .now) (start .args .margins .now) (at-fault .fault .result) (at-fault .fault .ensures) (c .if1 .left)))
+    omega (arith, (fits (start .args .numbers) (start .args .degrees .now) (start .args .columns .now) (start .args .weights .now) (start .pre) (at-u16-to-usize .u16-to-usize .result) (at-u16-to-usize .u16-to-usize .ensures .0) (start .args .frame .now) (start .args .symbols .now) (start .args .costs .now) (start .args .store .now) (start .args .margins .now) (at-fault .fault .result) (at-fault .fault .ensures) (c .if1 .left)))
 
 slice-aggregate-copy : tie.Need-slice-aggregate-copy
 slice-aggregate-copy c =
     let at-if1 = c .before in
     let at-fault = at-if1 .before in
-    let at-u8-to-usize = at-fault .before .before .before .before .before in
-    let at-u16-to-usize = at-u8-to-usize .before in
+    let at-u16-to-usize = at-fault .before .before .before .before in
     let start = at-u16-to-usize .before .before .before .before .before .before .before .before .before in
-    simp length-take (omega (arith, (fits (start .args .numbers) (start .args .degrees .now) (start .args .columns .now) (start .args .weights .now) (start .pre) (at-u16-to-usize .u16-to-usize .result) (at-u8-to-usize .u8-to-usize .result) (at-u16-to-usize .u16-to-usize .ensures .0) (at-u8-to-usize .u8-to-usize .ensures .0) (start .args .frame .now) (start .args .symbols .now) (start .args .costs .now) (start .args .store .now) (start .args .margins .now) (at-fault .fault .result) (at-fault .fault .ensures) (at-if1 .if1 .left))))
+    simp length-take (omega (arith, (fits (start .args .numbers) (start .args .degrees .now) (start .args .columns .now) (start .args .weights .now) (start .pre) (at-u16-to-usize .u16-to-usize .result) (at-u16-to-usize .u16-to-usize .ensures .0) (start .args .frame .now) (start .args .symbols .now) (start .args .costs .now) (start .args .store .now) (start .args .margins .now) (at-fault .fault .result) (at-fault .fault .ensures) (at-if1 .if1 .left))))
 
 copy-requires : tie.Need-copy-requires
-copy-requires c κs =
-    let at-if1 = c .before in
-    let at-fault = at-if1 .before in
-    let at-u8-to-usize = at-fault .before .before .before .before .before in
-    let at-u16-to-usize = at-u8-to-usize .before in
-    let start = at-u16-to-usize .before .before .before .before .before .before .before .before .before in
-    sym (length-take-le (length (start .args .frame .now)) (start .args .costs .now) (omega (arith, (fits (start .args .numbers) (start .args .degrees .now) (start .args .columns .now) (start .args .weights .now) (start .pre) (at-u16-to-usize .u16-to-usize .result) (at-u8-to-usize .u8-to-usize .result) (at-u16-to-usize .u16-to-usize .ensures .0) (at-u8-to-usize .u8-to-usize .ensures .0) (start .args .frame .now) (start .args .symbols .now) (start .args .costs .now) (start .args .store .now) (start .args .margins .now) (at-fault .fault .result) (at-fault .fault .ensures) (at-if1 .if1 .left)))))
+copy-requires c κs = search needs
 
 slice-reshare-prefix-tested : tie.Need-slice-reshare-prefix-tested
 slice-reshare-prefix-tested c =
     let at-copy = c .before .before in
     let at-if1 = at-copy .before .before in
     let at-fault = at-if1 .before in
-    let at-u8-to-usize = at-fault .before .before .before .before .before in
-    let at-u16-to-usize = at-u8-to-usize .before in
+    let at-u16-to-usize = at-fault .before .before .before .before in
     let start = at-u16-to-usize .before .before .before .before .before .before .before .before .before in
-    (front-room (start .args .costs .now) (at-copy .copy .last .1 .0) (length (start .args .frame .now)) (omega (arith, (fits (start .args .numbers) (start .args .degrees .now) (start .args .columns .now) (start .args .weights .now) (start .pre) (at-u16-to-usize .u16-to-usize .result) (at-u8-to-usize .u8-to-usize .result) (at-u16-to-usize .u16-to-usize .ensures .0) (at-u8-to-usize .u8-to-usize .ensures .0) (start .args .frame .now) (start .args .symbols .now) (start .args .costs .now) (start .args .store .now) (start .args .margins .now) (at-fault .fault .result) (at-fault .fault .ensures) (at-if1 .if1 .left)))) (at-copy .copy .kept .1 .0))
+    (front-room (start .args .costs .now) (at-copy .copy .last .1 .0) (length (start .args .frame .now)) (omega (arith, (fits (start .args .numbers) (start .args .degrees .now) (start .args .columns .now) (start .args .weights .now) (start .pre) (at-u16-to-usize .u16-to-usize .result) (at-u16-to-usize .u16-to-usize .ensures .0) (start .args .frame .now) (start .args .symbols .now) (start .args .costs .now) (start .args .store .now) (start .args .margins .now) (at-fault .fault .result) (at-fault .fault .ensures) (at-if1 .if1 .left)))) (at-copy .copy .kept .1 .0))
 
 slice-aggregate-tested : tie.Need-slice-aggregate-tested
 slice-aggregate-tested c =
     let at-copy = c .before .before .before in
     let at-if1 = at-copy .before .before in
     let at-fault = at-if1 .before in
-    let at-u8-to-usize = at-fault .before .before .before .before .before in
-    let at-u16-to-usize = at-u8-to-usize .before in
+    let at-u16-to-usize = at-fault .before .before .before .before in
     let start = at-u16-to-usize .before .before .before .before .before .before .before .before .before in
-    sym (length-take-le (length (start .args .frame .now)) _ (front-room (start .args .costs .now) (at-copy .copy .last .1 .0) (length (start .args .frame .now)) (omega (arith, (fits (start .args .numbers) (start .args .degrees .now) (start .args .columns .now) (start .args .weights .now) (start .pre) (at-u16-to-usize .u16-to-usize .result) (at-u8-to-usize .u8-to-usize .result) (at-u16-to-usize .u16-to-usize .ensures .0) (at-u8-to-usize .u8-to-usize .ensures .0) (start .args .frame .now) (start .args .symbols .now) (start .args .costs .now) (start .args .store .now) (start .args .margins .now) (at-fault .fault .result) (at-fault .fault .ensures) (at-if1 .if1 .left)))) (at-copy .copy .kept .1 .0)))
+    sym (length-take-le (length (start .args .frame .now)) _ (front-room (start .args .costs .now) (at-copy .copy .last .1 .0) (length (start .args .frame .now)) (omega (arith, (fits (start .args .numbers) (start .args .degrees .now) (start .args .columns .now) (start .args .weights .now) (start .pre) (at-u16-to-usize .u16-to-usize .result) (at-u16-to-usize .u16-to-usize .ensures .0) (start .args .frame .now) (start .args .symbols .now) (start .args .costs .now) (start .args .store .now) (start .args .margins .now) (at-fault .fault .result) (at-fault .fault .ensures) (at-if1 .if1 .left)))) (at-copy .copy .kept .1 .0)))
 
 slice-relend-prefix-tested : tie.Need-slice-relend-prefix-tested
 slice-relend-prefix-tested c =
     let at-if1 = c .before .before .before .before .before in
     let at-fault = at-if1 .before in
-    let at-u8-to-usize = at-fault .before .before .before .before .before in
-    let at-u16-to-usize = at-u8-to-usize .before in
+    let at-u16-to-usize = at-fault .before .before .before .before in
     let start = at-u16-to-usize .before .before .before .before .before .before .before .before .before in
-    omega (arith, (fits (start .args .numbers) (start .args .degrees .now) (start .args .columns .now) (start .args .weights .now) (start .pre) (at-u16-to-usize .u16-to-usize .result) (at-u8-to-usize .u8-to-usize .result) (at-u16-to-usize .u16-to-usize .ensures .0) (at-u8-to-usize .u8-to-usize .ensures .0) (start .args .frame .now) (start .args .symbols .now) (start .args .costs .now) (start .args .store .now) (start .args .margins .now) (at-fault .fault .result) (at-fault .fault .ensures) (at-if1 .if1 .left)))
+    omega (arith, (fits (start .args .numbers) (start .args .degrees .now) (start .args .columns .now) (start .args .weights .now) (start .pre) (at-u16-to-usize .u16-to-usize .result) (at-u16-to-usize .u16-to-usize .ensures .0) (start .args .frame .now) (start .args .symbols .now) (start .args .costs .now) (start .args .store .now) (start .args .margins .now) (at-fault .fault .result) (at-fault .fault .ensures) (at-if1 .if1 .left)))
 
 slice-aggregate-tested-2 : tie.Need-slice-aggregate-tested-2
 slice-aggregate-tested-2 c =
     let at-if1 = c .before .before .before .before .before .before in
     let at-fault = at-if1 .before in
-    let at-u8-to-usize = at-fault .before .before .before .before .before in
-    let at-u16-to-usize = at-u8-to-usize .before in
+    let at-u16-to-usize = at-fault .before .before .before .before in
     let start = at-u16-to-usize .before .before .before .before .before .before .before .before .before in
-    sym (length-take-le (at-u16-to-usize .u16-to-usize .result) (start .args .symbols .now) (omega (arith, (fits (start .args .numbers) (start .args .degrees .now) (start .args .columns .now) (start .args .weights .now) (start .pre) (at-u16-to-usize .u16-to-usize .result) (at-u8-to-usize .u8-to-usize .result) (at-u16-to-usize .u16-to-usize .ensures .0) (at-u8-to-usize .u8-to-usize .ensures .0) (start .args .frame .now) (start .args .symbols .now) (start .args .costs .now) (start .args .store .now) (start .args .margins .now) (at-fault .fault .result) (at-fault .fault .ensures) (at-if1 .if1 .left)))))
+    sym (length-take-le (at-u16-to-usize .u16-to-usize .result) (start .args .symbols .now) (omega (arith, (fits (start .args .numbers) (start .args .degrees .now) (start .args .columns .now) (start .args .weights .now) (start .pre) (at-u16-to-usize .u16-to-usize .result) (at-u16-to-usize .u16-to-usize .ensures .0) (start .args .frame .now) (start .args .symbols .now) (start .args .costs .now) (start .args .store .now) (start .args .margins .now) (at-fault .fault .result) (at-fault .fault .ensures) (at-if1 .if1 .left)))))
 
 slice-relend-prefix-tested-2 : tie.Need-slice-relend-prefix-tested-2
 slice-relend-prefix-tested-2 c =
     let at-if1 = c .before .before .before .before .before .before in
     let at-fault = at-if1 .before in
-    let at-u8-to-usize = at-fault .before .before .before .before .before in
-    let at-u16-to-usize = at-u8-to-usize .before in
+    let at-u16-to-usize = at-fault .before .before .before .before in
     let start = at-u16-to-usize .before .before .before .before .before .before .before .before .before in
-    omega (arith, (fits (start .args .numbers) (start .args .degrees .now) (start .args .columns .now) (start .args .weights .now) (start .pre) (at-u16-to-usize .u16-to-usize .result) (at-u8-to-usize .u8-to-usize .result) (at-u16-to-usize .u16-to-usize .ensures .0) (at-u8-to-usize .u8-to-usize .ensures .0) (start .args .frame .now) (start .args .symbols .now) (start .args .costs .now) (start .args .store .now) (start .args .margins .now) (at-fault .fault .result) (at-fault .fault .ensures) (at-if1 .if1 .left)))
+    omega (arith, (fits (start .args .numbers) (start .args .degrees .now) (start .args .columns .now) (start .args .weights .now) (start .pre) (at-u16-to-usize .u16-to-usize .result) (at-u16-to-usize .u16-to-usize .ensures .0) (start .args .frame .now) (start .args .symbols .now) (start .args .costs .now) (start .args .store .now) (start .args .margins .now) (at-fault .fault .result) (at-fault .fault .ensures) (at-if1 .if1 .left)))
 
 slice-aggregate-tested-3 : tie.Need-slice-aggregate-tested-3
 slice-aggregate-tested-3 c =
     let at-if1 = c .before .before .before .before .before .before .before in
     let at-fault = at-if1 .before in
-    let at-u8-to-usize = at-fault .before .before .before .before .before in
-    let at-u16-to-usize = at-u8-to-usize .before in
+    let at-u16-to-usize = at-fault .before .before .before .before in
     let start = at-u16-to-usize .before .before .before .before .before .before .before .before .before in
-    sym (length-take-le (at-u16-to-usize .u16-to-usize .result) (start .args .margins .now) (omega (arith, (fits (start .args .numbers) (start .args .degrees .now) (start .args .columns .now) (start .args .weights .now) (start .pre) (at-u16-to-usize .u16-to-usize .result) (at-u8-to-usize .u8-to-usize .result) (at-u16-to-usize .u16-to-usize .ensures .0) (at-u8-to-usize .u8-to-usize .ensures .0) (start .args .frame .now) (start .args .symbols .now) (start .args .costs .now) (start .args .store .now) (start .args .margins .now) (at-fault .fault .result) (at-fault .fault .ensures) (at-if1 .if1 .left)))))
+    sym (length-take-le (at-u16-to-usize .u16-to-usize .result) (start .args .margins .now) (omega (arith, (fits (start .args .numbers) (start .args .degrees .now) (start .args .columns .now) (start .args .weights .now) (start .pre) (at-u16-to-usize .u16-to-usize .result) (at-u16-to-usize .u16-to-usize .ensures .0) (start .args .frame .now) (start .args .symbols .now) (start .args .costs .now) (start .args .store .now) (start .args .margins .now) (at-fault .fault .result) (at-fault .fault .ensures) (at-if1 .if1 .left)))))
 
 tested-requires : tie.Need-tested-requires
 tested-requires c κs =
     let at-copy = c .before .before .before .before .before in
     let at-if1 = at-copy .before .before in
     let at-fault = at-if1 .before in
-    let at-u8-to-usize = at-fault .before .before .before .before .before in
-    let at-u16-to-usize = at-u8-to-usize .before in
+    let at-u16-to-usize = at-fault .before .before .before .before in
     let at-shared-slice-known4 = at-u16-to-usize .before .before .before .before .before in
     let start = at-shared-slice-known4 .before .before .before .before in
-    first-room (start .args .numbers) (start .args .degrees .now) (start .args .columns .now) (start .args .weights .now) (start .pre) (at-u16-to-usize .u16-to-usize .result) (at-u8-to-usize .u8-to-usize .result) (at-u16-to-usize .u16-to-usize .ensures .0) (at-u8-to-usize .u8-to-usize .ensures .0) (start .args .frame .now) (start .args .symbols .now) (start .args .costs .now) (start .args .store .now) (start .args .margins .now) (at-fault .fault .result) (at-fault .fault .ensures) (at-if1 .if1 .left) (at-copy .copy .last .1 .0) (at-copy .copy .ensures) (λ x. omega (arith, at-shared-slice-known4 .shared-slice-known4 .given x)) (take (at-u16-to-usize .u16-to-usize .result) (start .args .symbols .now)) (take (at-u16-to-usize .u16-to-usize .result) (start .args .margins .now)) (length-take-le (at-u16-to-usize .u16-to-usize .result) (start .args .symbols .now) (omega (arith, (fits (start .args .numbers) (start .args .degrees .now) (start .args .columns .now) (start .args .weights .now) (start .pre) (at-u16-to-usize .u16-to-usize .result) (at-u8-to-usize .u8-to-usize .result) (at-u16-to-usize .u16-to-usize .ensures .0) (at-u8-to-usize .u8-to-usize .ensures .0) (start .args .frame .now) (start .args .symbols .now) (start .args .costs .now) (start .args .store .now) (start .args .margins .now) (at-fault .fault .result) (at-fault .fault .ensures) (at-if1 .if1 .left))))) (length-take-le (at-u16-to-usize .u16-to-usize .result) (start .args .margins .now) (omega (arith, (fits (start .args .numbers) (start .args .degrees .now) (start .args .columns .now) (start .args .weights .now) (start .pre) (at-u16-to-usize .u16-to-usize .result) (at-u8-to-usize .u8-to-usize .result) (at-u16-to-usize .u16-to-usize .ensures .0) (at-u8-to-usize .u8-to-usize .ensures .0) (start .args .frame .now) (start .args .symbols .now) (start .args .costs .now) (start .args .store .now) (start .args .margins .now) (at-fault .fault .result) (at-fault .fault .ensures) (at-if1 .if1 .left)))))
+    first-room (start .args .numbers) (start .args .degrees .now) (start .args .columns .now) (start .args .weights .now) (start .pre) (at-u16-to-usize .u16-to-usize .result) (start .args .numbers .checks) (at-u16-to-usize .u16-to-usize .ensures .0) refl (start .args .frame .now) (start .args .symbols .now) (start .args .costs .now) (start .args .store .now) (start .args .margins .now) (at-fault .fault .result) (at-fault .fault .ensures) (at-if1 .if1 .left) (at-copy .copy .last .1 .0) (copied-is (start .args .frame .now) (take (length (start .args .frame .now)) (start .args .costs .now)) (at-copy .copy .last .1 .0) (sym (length-take-le (length (start .args .frame .now)) (start .args .costs .now) (omega (arith, (fits (start .args .numbers) (start .args .degrees .now) (start .args .columns .now) (start .args .weights .now) (start .pre) (at-u16-to-usize .u16-to-usize .result) (at-u16-to-usize .u16-to-usize .ensures .0) (start .args .frame .now) (start .args .symbols .now) (start .args .costs .now) (start .args .store .now) (start .args .margins .now) (at-fault .fault .result) (at-fault .fault .ensures) (at-if1 .if1 .left)))))) (at-copy .copy .ensures)) (λ x. omega (arith, at-shared-slice-known4 .shared-slice-known4 .given x)) (take (at-u16-to-usize .u16-to-usize .result) (start .args .symbols .now)) (take (at-u16-to-usize .u16-to-usize .result) (start .args .margins .now)) (length-take-le (at-u16-to-usize .u16-to-usize .result) (start .args .symbols .now) (omega (arith, (fits (start .args .numbers) (start .args .degrees .now) (start .args .columns .now) (start .args .weights .now) (start .pre) (at-u16-to-usize .u16-to-usize .result) (at-u16-to-usize .u16-to-usize .ensures .0) (start .args .frame .now) (start .args .symbols .now) (start .args .costs .now) (start .args .store .now) (start .args .margins .now) (at-fault .fault .result) (at-fault .fault .ensures) (at-if1 .if1 .left))))) (length-take-le (at-u16-to-usize .u16-to-usize .result) (start .args .margins .now) (omega (arith, (fits (start .args .numbers) (start .args .degrees .now) (start .args .columns .now) (start .args .weights .now) (start .pre) (at-u16-to-usize .u16-to-usize .result) (at-u16-to-usize .u16-to-usize .ensures .0) (start .args .frame .now) (start .args .symbols .now) (start .args .costs .now) (start .args .store .now) (start .args .margins .now) (at-fault .fault .result) (at-fault .fault .ensures) (at-if1 .if1 .left)))))
 
 stage-after-requires : tie.Need-stage-after-requires
 stage-after-requires c κs = search needs
@@ -159,18 +129,15 @@ returns-2 c =
     let at-copy = at-tested .before .before .before .before .before .before in
     let at-if1 = at-copy .before .before in
     let at-fault = at-if1 .before in
-    let at-u8-to-usize = at-fault .before .before .before .before .before in
-    let at-u16-to-usize = at-u8-to-usize .before in
+    let at-u16-to-usize = at-fault .before .before .before .before in
     let start = at-u16-to-usize .before .before .before .before .before .before .before .before .before in
-    load-leaves (start .args .numbers) (start .args .degrees .now) (start .args .columns .now) (start .args .weights .now) (start .pre) (at-u16-to-usize .u16-to-usize .result) (at-u8-to-usize .u8-to-usize .result) (at-u16-to-usize .u16-to-usize .ensures .0) (at-u8-to-usize .u8-to-usize .ensures .0) (start .args .frame .now) (start .args .symbols .now) (start .args .costs .now) (start .args .store .now) (start .args .margins .now) (at-fault .fault .result) (at-fault .fault .ensures) (at-if1 .if1 .left) (at-copy .copy .last .1 .0) (at-copy .copy .ensures) (at-tested .tested .result) _ _ (at-tested .tested .ensures .0) (at-tested .tested .ensures .1 .0) (at-tested .tested .ensures .1 .1) _ (c .stage-after .ensures)
+    load-leaves (start .args .numbers) (start .args .degrees .now) (start .args .columns .now) (start .args .weights .now) (start .pre) (at-u16-to-usize .u16-to-usize .result) (start .args .numbers .checks) (at-u16-to-usize .u16-to-usize .ensures .0) refl (start .args .frame .now) (start .args .symbols .now) (start .args .costs .now) (start .args .store .now) (start .args .margins .now) (at-fault .fault .result) (at-fault .fault .ensures) (at-if1 .if1 .left) (at-copy .copy .last .1 .0) (copied-is (start .args .frame .now) (take (length (start .args .frame .now)) (start .args .costs .now)) (at-copy .copy .last .1 .0) (sym (length-take-le (length (start .args .frame .now)) (start .args .costs .now) (omega (arith, (fits (start .args .numbers) (start .args .degrees .now) (start .args .columns .now) (start .args .weights .now) (start .pre) (at-u16-to-usize .u16-to-usize .result) (at-u16-to-usize .u16-to-usize .ensures .0) (start .args .frame .now) (start .args .symbols .now) (start .args .costs .now) (start .args .store .now) (start .args .margins .now) (at-fault .fault .result) (at-fault .fault .ensures) (at-if1 .if1 .left)))))) (at-copy .copy .ensures)) (at-tested .tested .result) _ _ (at-tested .tested .ensures .0) (at-tested .tested .ensures .1 .0) (at-tested .tested .ensures .1 .1) _ (c .stage-after .ensures)
 
 pub load-under-spec : {M : Type 1} → statement M
 load-under-spec =
     tie.close
     (tie.spec
     u16-to-usize-requires
-    u8-to-usize-requires
-    slice-aggregate-fault
     fault-requires
     same-length
     same-length-2

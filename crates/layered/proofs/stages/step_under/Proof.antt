@@ -5,7 +5,7 @@ use borrow.Author.Needs.{needs}
 use lib.ListN.{length, take}
 use lib.Seq.{length-take-le}
 use Rattle.machine.specs.Machine.{symbols, margins}
-use Rattle.layered.proofs.Decoded.{degrees-there, few, fits}
+use Rattle.layered.proofs.Decoded.{fits}
 use Rattle.layered.proofs.Steps.{step-refused, resume-room, resume-refused, step-room, step-leaves}
 use Rattle.layered.proofs.stages.step_under.Statement.{statement}
 use Rattle.layered.proofs.stages.step_under.Tie as tie
@@ -16,19 +16,8 @@ u16-to-usize-requires c κs = search needs
 u8-to-usize-requires : tie.Need-u8-to-usize-requires
 u8-to-usize-requires c κs = search needs
 
-slice-aggregate-fault : tie.Need-slice-aggregate-fault
-slice-aggregate-fault c =
-    let at-u8-to-usize = c .before in
-    let at-u16-to-usize = at-u8-to-usize .before in
-    let start = at-u16-to-usize .before .before .before .before .before .before .before .before .before .before .before in
-    sym (length-take-le (at-u8-to-usize .u8-to-usize .result) (start .args .degrees .now) (degrees-there (start .args .numbers) (start .args .degrees .now) (start .args .columns .now) (start .args .weights .now) (start .pre .coded) (at-u16-to-usize .u16-to-usize .result) (at-u8-to-usize .u8-to-usize .result) (at-u16-to-usize .u16-to-usize .ensures .0) (at-u8-to-usize .u8-to-usize .ensures .0)))
-
 fault-requires : tie.Need-fault-requires
-fault-requires c κs =
-    let at-u8-to-usize = c .before .before .before .before .before in
-    let at-u16-to-usize = at-u8-to-usize .before in
-    let start = at-u16-to-usize .before .before .before .before .before .before .before .before .before .before .before in
-    few (start .args .numbers) (start .args .degrees .now) (start .args .columns .now) (start .args .weights .now) (start .pre .coded) (at-u16-to-usize .u16-to-usize .result) (at-u8-to-usize .u8-to-usize .result) (at-u16-to-usize .u16-to-usize .ensures .0) (at-u8-to-usize .u8-to-usize .ensures .0)
+fault-requires c κs = search needs
 
 same-length : tie.Need-same-length
 same-length c = search needs
@@ -45,23 +34,22 @@ same-length-4 c = search needs
 returns : tie.Need-returns
 returns c =
     let at-fault = c .before in
-    let at-u8-to-usize = at-fault .before .before .before .before .before .before in
+    let at-u8-to-usize = at-fault .before .before .before .before .before in
     let at-u16-to-usize = at-u8-to-usize .before in
     let start = at-u16-to-usize .before .before .before .before .before .before .before .before .before .before .before in
     step-refused (start .args .numbers) (start .args .degrees .now) (start .args .columns .now) (start .args .weights .now) (start .pre .coded) (at-u16-to-usize .u16-to-usize .result) (at-u8-to-usize .u8-to-usize .result) (at-u16-to-usize .u16-to-usize .ensures .0) (at-u8-to-usize .u8-to-usize .ensures .0) (start .args .frame .now) (start .args .symbols .now) (start .args .costs .now) (start .args .store .now) (start .args .margins .now) (at-fault .fault .result) (at-fault .fault .ensures) (c .if1 .taken) (start .args .t)
 
-slice-aggregate-fault-2 : tie.Need-slice-aggregate-fault-2
-slice-aggregate-fault-2 c =
-    let at-u8-to-usize = c .before .before .before .before .before .before .before .before in
-    let at-u16-to-usize = at-u8-to-usize .before in
-    let start = at-u16-to-usize .before .before .before .before .before .before .before .before .before .before .before in
-    sym (length-take-le (at-u8-to-usize .u8-to-usize .result) (start .args .degrees .now) (degrees-there (start .args .numbers) (start .args .degrees .now) (start .args .columns .now) (start .args .weights .now) (start .pre .coded) (at-u16-to-usize .u16-to-usize .result) (at-u8-to-usize .u8-to-usize .result) (at-u16-to-usize .u16-to-usize .ensures .0) (at-u8-to-usize .u8-to-usize .ensures .0)))
+slice-aggregate-fault : tie.Need-slice-aggregate-fault
+slice-aggregate-fault c =
+    let at-u8-to-usize = c .before .before .before .before .before .before .before in
+    let start = at-u8-to-usize .before .before .before .before .before .before .before .before .before .before .before .before in
+    sym (length-take-le (at-u8-to-usize .u8-to-usize .result) (start .args .degrees .now) (omega (arith, start .pre .coded .for-degrees, at-u8-to-usize .u8-to-usize .ensures .0)))
 
 fault-requires-2 : tie.Need-fault-requires-2
 fault-requires-2 c κs =
     let at-if1 = c .before .before .before in
     let at-fault = at-if1 .before in
-    let at-u8-to-usize = at-fault .before .before .before .before .before .before in
+    let at-u8-to-usize = at-fault .before .before .before .before .before in
     let at-u16-to-usize = at-u8-to-usize .before in
     let start = at-u16-to-usize .before .before .before .before .before .before .before .before .before .before .before in
     resume-room (start .args .numbers) (start .args .degrees .now) (start .args .columns .now) (start .args .weights .now) (start .pre .coded) (at-u16-to-usize .u16-to-usize .result) (at-u8-to-usize .u8-to-usize .result) (at-u16-to-usize .u16-to-usize .ensures .0) (at-u8-to-usize .u8-to-usize .ensures .0) (start .args .frame .now) (start .args .symbols .now) (start .args .costs .now) (start .args .store .now) (start .args .margins .now) (at-fault .fault .result) (at-fault .fault .ensures) (at-if1 .if1 .left)
@@ -83,7 +71,7 @@ returns-2 c =
     let at-fault2 = c .before in
     let at-if1 = at-fault2 .before .before .before .before in
     let at-fault = at-if1 .before in
-    let at-u8-to-usize = at-fault .before .before .before .before .before .before in
+    let at-u8-to-usize = at-fault .before .before .before .before .before in
     let at-u16-to-usize = at-u8-to-usize .before in
     let start = at-u16-to-usize .before .before .before .before .before .before .before .before .before .before .before in
     resume-refused (start .args .numbers) (start .args .degrees .now) (start .args .columns .now) (start .args .weights .now) (start .pre .coded) (at-u16-to-usize .u16-to-usize .result) (at-u8-to-usize .u8-to-usize .result) (at-u16-to-usize .u16-to-usize .ensures .0) (at-u8-to-usize .u8-to-usize .ensures .0) (start .args .frame .now) (start .args .symbols .now) (start .args .costs .now) (start .args .store .now) (start .args .margins .now) (at-fault .fault .result) (at-fault .fault .ensures) (at-if1 .if1 .left) (start .args .t) (at-fault2 .fault2 .result) (at-fault2 .fault2 .ensures) (c .if2 .taken)
@@ -92,55 +80,49 @@ slice-relend-prefix-iterated : tie.Need-slice-relend-prefix-iterated
 slice-relend-prefix-iterated c =
     let at-if1 = c .before .before .before .before .before in
     let at-fault = at-if1 .before in
-    let at-u8-to-usize = at-fault .before .before .before .before .before .before in
-    let at-u16-to-usize = at-u8-to-usize .before in
+    let at-u16-to-usize = at-fault .before .before .before .before .before .before in
     let start = at-u16-to-usize .before .before .before .before .before .before .before .before .before .before .before in
-    omega (arith, (fits (start .args .numbers) (start .args .degrees .now) (start .args .columns .now) (start .args .weights .now) (start .pre .coded) (at-u16-to-usize .u16-to-usize .result) (at-u8-to-usize .u8-to-usize .result) (at-u16-to-usize .u16-to-usize .ensures .0) (at-u8-to-usize .u8-to-usize .ensures .0) (start .args .frame .now) (start .args .symbols .now) (start .args .costs .now) (start .args .store .now) (start .args .margins .now) (at-fault .fault .result) (at-fault .fault .ensures) (at-if1 .if1 .left)))
+    omega (arith, (fits (start .args .numbers) (start .args .degrees .now) (start .args .columns .now) (start .args .weights .now) (start .pre .coded) (at-u16-to-usize .u16-to-usize .result) (at-u16-to-usize .u16-to-usize .ensures .0) (start .args .frame .now) (start .args .symbols .now) (start .args .costs .now) (start .args .store .now) (start .args .margins .now) (at-fault .fault .result) (at-fault .fault .ensures) (at-if1 .if1 .left)))
 
 slice-aggregate-iterated : tie.Need-slice-aggregate-iterated
 slice-aggregate-iterated c =
     let at-if1 = c .before .before .before .before .before .before in
     let at-fault = at-if1 .before in
-    let at-u8-to-usize = at-fault .before .before .before .before .before .before in
-    let at-u16-to-usize = at-u8-to-usize .before in
+    let at-u16-to-usize = at-fault .before .before .before .before .before .before in
     let start = at-u16-to-usize .before .before .before .before .before .before .before .before .before .before .before in
-    sym (length-take-le (at-u16-to-usize .u16-to-usize .result) (start .args .symbols .now) (omega (arith, (fits (start .args .numbers) (start .args .degrees .now) (start .args .columns .now) (start .args .weights .now) (start .pre .coded) (at-u16-to-usize .u16-to-usize .result) (at-u8-to-usize .u8-to-usize .result) (at-u16-to-usize .u16-to-usize .ensures .0) (at-u8-to-usize .u8-to-usize .ensures .0) (start .args .frame .now) (start .args .symbols .now) (start .args .costs .now) (start .args .store .now) (start .args .margins .now) (at-fault .fault .result) (at-fault .fault .ensures) (at-if1 .if1 .left)))))
+    sym (length-take-le (at-u16-to-usize .u16-to-usize .result) (start .args .symbols .now) (omega (arith, (fits (start .args .numbers) (start .args .degrees .now) (start .args .columns .now) (start .args .weights .now) (start .pre .coded) (at-u16-to-usize .u16-to-usize .result) (at-u16-to-usize .u16-to-usize .ensures .0) (start .args .frame .now) (start .args .symbols .now) (start .args .costs .now) (start .args .store .now) (start .args .margins .now) (at-fault .fault .result) (at-fault .fault .ensures) (at-if1 .if1 .left)))))
 
 slice-relend-prefix-iterated-2 : tie.Need-slice-relend-prefix-iterated-2
 slice-relend-prefix-iterated-2 c =
     let at-if1 = c .before .before .before .before .before .before in
     let at-fault = at-if1 .before in
-    let at-u8-to-usize = at-fault .before .before .before .before .before .before in
-    let at-u16-to-usize = at-u8-to-usize .before in
+    let at-u16-to-usize = at-fault .before .before .before .before .before .before in
     let start = at-u16-to-usize .before .before .before .before .before .before .before .before .before .before .before in
-    omega (arith, (fits (start .args .numbers) (start .args .degrees .now) (start .args .columns .now) (start .args .weights .now) (start .pre .coded) (at-u16-to-usize .u16-to-usize .result) (at-u8-to-usize .u8-to-usize .result) (at-u16-to-usize .u16-to-usize .ensures .0) (at-u8-to-usize .u8-to-usize .ensures .0) (start .args .frame .now) (start .args .symbols .now) (start .args .costs .now) (start .args .store .now) (start .args .margins .now) (at-fault .fault .result) (at-fault .fault .ensures) (at-if1 .if1 .left)))
+    omega (arith, (fits (start .args .numbers) (start .args .degrees .now) (start .args .columns .now) (start .args .weights .now) (start .pre .coded) (at-u16-to-usize .u16-to-usize .result) (at-u16-to-usize .u16-to-usize .ensures .0) (start .args .frame .now) (start .args .symbols .now) (start .args .costs .now) (start .args .store .now) (start .args .margins .now) (at-fault .fault .result) (at-fault .fault .ensures) (at-if1 .if1 .left)))
 
 slice-aggregate-iterated-2 : tie.Need-slice-aggregate-iterated-2
 slice-aggregate-iterated-2 c =
     let at-if1 = c .before .before .before .before .before .before .before in
     let at-fault = at-if1 .before in
-    let at-u8-to-usize = at-fault .before .before .before .before .before .before in
-    let at-u16-to-usize = at-u8-to-usize .before in
+    let at-u16-to-usize = at-fault .before .before .before .before .before .before in
     let start = at-u16-to-usize .before .before .before .before .before .before .before .before .before .before .before in
-    sym (length-take-le (length (start .args .frame .now)) (start .args .costs .now) (omega (arith, (fits (start .args .numbers) (start .args .degrees .now) (start .args .columns .now) (start .args .weights .now) (start .pre .coded) (at-u16-to-usize .u16-to-usize .result) (at-u8-to-usize .u8-to-usize .result) (at-u16-to-usize .u16-to-usize .ensures .0) (at-u8-to-usize .u8-to-usize .ensures .0) (start .args .frame .now) (start .args .symbols .now) (start .args .costs .now) (start .args .store .now) (start .args .margins .now) (at-fault .fault .result) (at-fault .fault .ensures) (at-if1 .if1 .left)))))
+    sym (length-take-le (length (start .args .frame .now)) (start .args .costs .now) (omega (arith, (fits (start .args .numbers) (start .args .degrees .now) (start .args .columns .now) (start .args .weights .now) (start .pre .coded) (at-u16-to-usize .u16-to-usize .result) (at-u16-to-usize .u16-to-usize .ensures .0) (start .args .frame .now) (start .args .symbols .now) (start .args .costs .now) (start .args .store .now) (start .args .margins .now) (at-fault .fault .result) (at-fault .fault .ensures) (at-if1 .if1 .left)))))
 
 slice-relend-prefix-iterated-3 : tie.Need-slice-relend-prefix-iterated-3
 slice-relend-prefix-iterated-3 c =
     let at-if1 = c .before .before .before .before .before .before .before .before in
     let at-fault = at-if1 .before in
-    let at-u8-to-usize = at-fault .before .before .before .before .before .before in
-    let at-u16-to-usize = at-u8-to-usize .before in
+    let at-u16-to-usize = at-fault .before .before .before .before .before .before in
     let start = at-u16-to-usize .before .before .before .before .before .before .before .before .before .before .before in
-    omega (arith, (fits (start .args .numbers) (start .args .degrees .now) (start .args .columns .now) (start .args .weights .now) (start .pre .coded) (at-u16-to-usize .u16-to-usize .result) (at-u8-to-usize .u8-to-usize .result) (at-u16-to-usize .u16-to-usize .ensures .0) (at-u8-to-usize .u8-to-usize .ensures .0) (start .args .frame .now) (start .args .symbols .now) (start .args .costs .now) (start .args .store .now) (start .args .margins .now) (at-fault .fault .result) (at-fault .fault .ensures) (at-if1 .if1 .left)))
+    omega (arith, (fits (start .args .numbers) (start .args .degrees .now) (start .args .columns .now) (start .args .weights .now) (start .pre .coded) (at-u16-to-usize .u16-to-usize .result) (at-u16-to-usize .u16-to-usize .ensures .0) (start .args .frame .now) (start .args .symbols .now) (start .args .costs .now) (start .args .store .now) (start .args .margins .now) (at-fault .fault .result) (at-fault .fault .ensures) (at-if1 .if1 .left)))
 
 slice-aggregate-iterated-3 : tie.Need-slice-aggregate-iterated-3
 slice-aggregate-iterated-3 c =
     let at-if1 = c .before .before .before .before .before .before .before .before .before in
     let at-fault = at-if1 .before in
-    let at-u8-to-usize = at-fault .before .before .before .before .before .before in
-    let at-u16-to-usize = at-u8-to-usize .before in
+    let at-u16-to-usize = at-fault .before .before .before .before .before .before in
     let start = at-u16-to-usize .before .before .before .before .before .before .before .before .before .before .before in
-    sym (length-take-le (at-u16-to-usize .u16-to-usize .result) (start .args .margins .now) (omega (arith, (fits (start .args .numbers) (start .args .degrees .now) (start .args .columns .now) (start .args .weights .now) (start .pre .coded) (at-u16-to-usize .u16-to-usize .result) (at-u8-to-usize .u8-to-usize .result) (at-u16-to-usize .u16-to-usize .ensures .0) (at-u8-to-usize .u8-to-usize .ensures .0) (start .args .frame .now) (start .args .symbols .now) (start .args .costs .now) (start .args .store .now) (start .args .margins .now) (at-fault .fault .result) (at-fault .fault .ensures) (at-if1 .if1 .left)))))
+    sym (length-take-le (at-u16-to-usize .u16-to-usize .result) (start .args .margins .now) (omega (arith, (fits (start .args .numbers) (start .args .degrees .now) (start .args .columns .now) (start .args .weights .now) (start .pre .coded) (at-u16-to-usize .u16-to-usize .result) (at-u16-to-usize .u16-to-usize .ensures .0) (start .args .frame .now) (start .args .symbols .now) (start .args .costs .now) (start .args .store .now) (start .args .margins .now) (at-fault .fault .result) (at-fault .fault .ensures) (at-if1 .if1 .left)))))
 
 iterated-requires : tie.Need-iterated-requires
 iterated-requires c κs =
@@ -148,10 +130,10 @@ iterated-requires c κs =
     let at-fault2 = at-if2 .before in
     let at-if1 = at-fault2 .before .before .before .before in
     let at-fault = at-if1 .before in
-    let at-u8-to-usize = at-fault .before .before .before .before .before .before in
+    let at-u8-to-usize = at-fault .before .before .before .before .before in
     let at-u16-to-usize = at-u8-to-usize .before in
     let start = at-u16-to-usize .before .before .before .before .before .before .before .before .before .before .before in
-    step-room (start .args .numbers) (start .args .degrees .now) (start .args .columns .now) (start .args .weights .now) (start .pre .coded) (at-u16-to-usize .u16-to-usize .result) (at-u8-to-usize .u8-to-usize .result) (at-u16-to-usize .u16-to-usize .ensures .0) (at-u8-to-usize .u8-to-usize .ensures .0) (start .args .frame .now) (start .args .symbols .now) (start .args .costs .now) (start .args .store .now) (start .args .margins .now) (at-fault .fault .result) (at-fault .fault .ensures) (at-if1 .if1 .left) (start .args .t) (at-fault2 .fault2 .result) (at-fault2 .fault2 .ensures) (at-if2 .if2 .left) (take (at-u16-to-usize .u16-to-usize .result) (start .args .symbols .now)) (take (at-u16-to-usize .u16-to-usize .result) (start .args .margins .now)) (start .args .arrived .now) (start .args .sent .now) (length-take-le (at-u16-to-usize .u16-to-usize .result) (start .args .symbols .now) (omega (arith, (fits (start .args .numbers) (start .args .degrees .now) (start .args .columns .now) (start .args .weights .now) (start .pre .coded) (at-u16-to-usize .u16-to-usize .result) (at-u8-to-usize .u8-to-usize .result) (at-u16-to-usize .u16-to-usize .ensures .0) (at-u8-to-usize .u8-to-usize .ensures .0) (start .args .frame .now) (start .args .symbols .now) (start .args .costs .now) (start .args .store .now) (start .args .margins .now) (at-fault .fault .result) (at-fault .fault .ensures) (at-if1 .if1 .left))))) (length-take-le (at-u16-to-usize .u16-to-usize .result) (start .args .margins .now) (omega (arith, (fits (start .args .numbers) (start .args .degrees .now) (start .args .columns .now) (start .args .weights .now) (start .pre .coded) (at-u16-to-usize .u16-to-usize .result) (at-u8-to-usize .u8-to-usize .result) (at-u16-to-usize .u16-to-usize .ensures .0) (at-u8-to-usize .u8-to-usize .ensures .0) (start .args .frame .now) (start .args .symbols .now) (start .args .costs .now) (start .args .store .now) (start .args .margins .now) (at-fault .fault .result) (at-fault .fault .ensures) (at-if1 .if1 .left))))) (start .pre .arrived) (start .pre .sent)
+    step-room (start .args .numbers) (start .args .degrees .now) (start .args .columns .now) (start .args .weights .now) (start .pre .coded) (at-u16-to-usize .u16-to-usize .result) (at-u8-to-usize .u8-to-usize .result) (at-u16-to-usize .u16-to-usize .ensures .0) (at-u8-to-usize .u8-to-usize .ensures .0) (start .args .frame .now) (start .args .symbols .now) (start .args .costs .now) (start .args .store .now) (start .args .margins .now) (at-fault .fault .result) (at-fault .fault .ensures) (at-if1 .if1 .left) (start .args .t) (at-fault2 .fault2 .result) (at-fault2 .fault2 .ensures) (at-if2 .if2 .left) (take (at-u16-to-usize .u16-to-usize .result) (start .args .symbols .now)) (take (at-u16-to-usize .u16-to-usize .result) (start .args .margins .now)) (start .args .arrived .now) (start .args .sent .now) (length-take-le (at-u16-to-usize .u16-to-usize .result) (start .args .symbols .now) (omega (arith, (fits (start .args .numbers) (start .args .degrees .now) (start .args .columns .now) (start .args .weights .now) (start .pre .coded) (at-u16-to-usize .u16-to-usize .result) (at-u16-to-usize .u16-to-usize .ensures .0) (start .args .frame .now) (start .args .symbols .now) (start .args .costs .now) (start .args .store .now) (start .args .margins .now) (at-fault .fault .result) (at-fault .fault .ensures) (at-if1 .if1 .left))))) (length-take-le (at-u16-to-usize .u16-to-usize .result) (start .args .margins .now) (omega (arith, (fits (start .args .numbers) (start .args .degrees .now) (start .args .columns .now) (start .args .weights .now) (start .pre .coded) (at-u16-to-usize .u16-to-usize .result) (at-u16-to-usize .u16-to-usize .ensures .0) (start .args .frame .now) (start .args .symbols .now) (start .args .costs .now) (start .args .store .now) (start .args .margins .now) (at-fault .fault .result) (at-fault .fault .ensures) (at-if1 .if1 .left))))) (start .pre .arrived) (start .pre .sent)
 
 u8-to-u16-requires : tie.Need-u8-to-u16-requires
 u8-to-u16-requires c κs = search needs
@@ -188,7 +170,7 @@ returns-3 c =
     let at-fault2 = at-if2 .before in
     let at-if1 = at-fault2 .before .before .before .before in
     let at-fault = at-if1 .before in
-    let at-u8-to-usize = at-fault .before .before .before .before .before .before in
+    let at-u8-to-usize = at-fault .before .before .before .before .before in
     let at-u16-to-usize = at-u8-to-usize .before in
     let start = at-u16-to-usize .before .before .before .before .before .before .before .before .before .before .before in
     step-leaves (start .args .numbers) (start .args .degrees .now) (start .args .columns .now) (start .args .weights .now) (start .pre .coded) (at-u16-to-usize .u16-to-usize .result) (at-u8-to-usize .u8-to-usize .result) (at-u16-to-usize .u16-to-usize .ensures .0) (at-u8-to-usize .u8-to-usize .ensures .0) (start .args .frame .now) (start .args .symbols .now) (start .args .costs .now) (start .args .store .now) (start .args .margins .now) (at-fault .fault .result) (at-fault .fault .ensures) (at-if1 .if1 .left) (start .args .t) (at-fault2 .fault2 .result) (at-fault2 .fault2 .ensures) (at-if2 .if2 .left) (at-iterated .iterated .result) _ _ _ _ (at-iterated .iterated .ensures .0) (at-iterated .iterated .ensures .1 .0) (at-iterated .iterated .ensures .1 .1 .0) (at-iterated .iterated .ensures .1 .1 .1) _ (rw (at-u8-to-u16 .u8-to-u16 .ensures .0) at (c .stage-after .ensures))
@@ -199,14 +181,13 @@ step-under-spec =
     (tie.spec
     u16-to-usize-requires
     u8-to-usize-requires
-    slice-aggregate-fault
     fault-requires
     same-length
     same-length-2
     same-length-3
     same-length-4
     returns
-    slice-aggregate-fault-2
+    slice-aggregate-fault
     fault-requires-2
     same-length-5
     same-length-6
