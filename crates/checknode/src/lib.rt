@@ -1,5 +1,4 @@
-// One check: a column's hard decision, the packed record of a check's messages, alone and beside the messages.
-mod hard_decision;
+// One check: the packed record of a check's messages, alone and beside the messages.
 mod lines;
 mod record;
 mod refusals;
@@ -7,23 +6,8 @@ mod send;
 
 use field::Written;
 ghost use mathlib.Core.Path.{_≡_};
-ghost use Rattle.trellis.specs.Check.{decide as decideOf};
 ghost use Rattle.field.specs.Answers.{writtenReply};
 ghost use Rattle.checknode.specs.Answers.{checkFault, checkReply, checkLeaves, messagesReply, messagesLeaves, messagesSent};
-
-// A hard decision: the symbol and its margin.
-pub struct Decision {
-    pub symbol: usize,
-    pub margin: u16,
-}
-
-// A column's hard decision, the smallest symbol of cost 0, with its margin: the least cost of the other symbols. Without a cost of 0 it
-// is the number of costs, with margin 0.
-pub fn decide(costs: &[u8]) -> Decision
-    ensures { λ r. ⌜ (r .symbol ≡ decideOf (now (costs .entry)) .symbol) × (r .margin ≡ decideOf (now (costs .entry)) .margin) ⌝ }
-{
-    hard_decision::decide(costs)
-}
 
 // The number by which a check is refused whose record buffer has `room` bytes, or 0: 6, the first byte; 9, degree not 2 to 32; 11, a
 // weight 0 or no element; 12, cost count; 13, a column without a cost of 0; 4, record buffer too short.

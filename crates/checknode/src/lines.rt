@@ -1,5 +1,4 @@
 // The lines of one check: for each column, what is left of 255 after the cost of the symbol in each row.
-use crate::hard_decision;
 ghost use mathlib.Core.Path.{_≡_};
 ghost use Prim.Native.Nat.{_-_, _%_, _<_};
 ghost use lib.ListN.{length, getD};
@@ -70,7 +69,7 @@ fn column(costs: &[u8], row: &[u8], line: &mut [u8]) -> u8
     ensures { λ r. ⌜ r ≡ getD (now (row .entry)) (firstZero (now (costs .entry))) 0 ⌝ }
     ensures { λ _. ⌜ now (line .exit) ≡ lineFrom (now (costs .entry)) (now (row .entry)) (now (line .entry)) ⌝ }
 {
-    let z = hard_decision::decide(costs).symbol;
+    let z = decision::decide_u8(costs).symbol;
     let s = row[z];
     place(costs, row, s, line);
     s

@@ -28,7 +28,7 @@ fn decide_at(costs: &[u16], q: usize, c: usize, symbols: &mut [u8]) -> usize
 {
     let a = c * q;
     let e = a + q;
-    let z = parity::decide(&costs[a..e]).symbol as u8;
+    let z = decision::decide_u16(&costs[a..e]).symbol as u8;
     if symbols[c] == z {
         return 0;
     }

@@ -1,14 +1,11 @@
 // The decisions with their margins, and whether they satisfy every check.
-use checknode::Decision;
 use codeline::answers::Numbers;
 use field::Element;
 ghost use mathlib.Core.Path.{_≡_};
 ghost use Prim.Native.Nat.{_*_, _^_, _≤_, _<_};
-ghost use lib.Dec.{eqb};
 ghost use lib.ListN.{length};
-ghost use Rattle.trellis.specs.Lists.{pick, tab};
+ghost use Rattle.trellis.specs.Lists.{tab};
 ghost use Rattle.trellis.specs.Check.{decide as decideOf};
-ghost use Rattle.trellis.specs.inner.Margins.{leastBut, marginAt};
 ghost use Rattle.trellis.specs.Field.{product};
 ghost use Rattle.trellis.specs.Rules.{powerOf};
 ghost use Rattle.machine.specs.inner.Tables.{term};
@@ -17,59 +14,6 @@ ghost use Rattle.machine.specs.Machine.{settled as settledOf, symbols as symbol
 ghost use Rattle.codeline.specs.inner.Coding.{codeOf};
 ghost use Rattle.machine.specs.inner.Tables.{EdgeRoom};
 ghost use Rattle.layered.specs.inner.Parity.{allHold, ParityRoom, FromTo, FirstNot, SettledRoom};
-
-// The cost of symbol x; where x is z, no cost is greater.
-fn but(cost: u16, x: usize, z: usize) -> u16
-    ensures { λ r. ⌜ r ≡ pick (eqb x z) 65535 cost ⌝ }
-{
-    if x == z { 65535 } else { cost }
-}
-
-// The least cost of the symbols other than z.
-fn least_but(costs: &[u16], z: usize) -> u16
-    ensures { λ r. ⌜ r ≡ leastBut 65535 (now (costs .entry)) z (length (now (costs .entry))) ⌝ }
-{
-    let mut least: u16 = 65535;
-    let mut x = 0;
-    while x < costs.len() {
-        least = scalar::min_u16(least, but(costs[x], x, z));
-        x += 1;
-    }
-    least
-}
-
-// What the other symbols cost above symbol z of cost 0; nothing where there is no other.
-fn margin_at(costs: &[u16], z: usize) -> u16
-    ensures { λ r. ⌜ r ≡ marginAt 65535 (now (costs .entry)) z ⌝ }
-{
-    if costs.len() < 2 {
-        return 0;
-    }
-    least_but(costs, z)
-}
-
-// "the smallest symbol of cost 0", with its margin; without a cost of 0 the number of costs. The search yields by `break`.
-pub fn decide(costs: &[u16]) -> Decision
-    ensures { λ r. ⌜ ((r .symbol ≡ decideOf (now (costs .entry)) .symbol) × (r .margin ≡ decideOf (now (costs .entry)) .margin))
-        × (r .symbol ≤ length (now (costs .entry))) ⌝ }
-{
-    let mut x = 0;
-    loop {
-        if x == costs.len() {
-            break Decision {
-                symbol: x,
-                margin: 0,
-            };
-        }
-        if costs[x] == 0 {
-            break Decision {
-                symbol: x,
-                margin: margin_at(costs, x),
-            };
-        }
-        x += 1;
-    }
-}
 
 // The decision of each column of q costs.
 fn decisions(costs: &[u16], q: usize, symbols: &mut [u8])
@@ -81,7 +25,7 @@ fn decisions(costs: &[u16], q: usize, symbols: &mut [u8])
     while c < symbols.len() {
         let a = c * q;
         let e = a + q;
-        let z = decide(&costs[a..e]).symbol;
+        let z = decision::decide_u16(&costs[a..e]).symbol;
         symbols[c] = z as u8;
         c += 1;
     }
@@ -97,7 +41,7 @@ pub fn margins(costs: &[u16], q: usize, margins: &mut [u16])
     while c < margins.len() {
         let a = c * q;
         let e = a + q;
-        margins[c] = decide(&costs[a..e]).margin;
+        margins[c] = decision::decide_u16(&costs[a..e]).margin;
         c += 1;
     }
 }

@@ -47,7 +47,7 @@ fn column(p: u8, h: u8, costs: &[u8], row: &mut [u8], moves: &mut [u16]) -> u8
     ensures { λ _. ⌜ now (moves .exit) ≡ tab (moveCost (now (costs .entry)) (firstZero (now (costs .entry)))) (2 ^ p) ⌝ }
 {
     products(p, h, row);
-    let z = checknode::decide(costs).symbol;
+    let z = decision::decide_u8(costs).symbol;
     step::move_costs(costs, z, moves);
     row[z]
 }

@@ -25,7 +25,7 @@ fn term(first: u8, weights: &[u8], costs: &[u8], n: usize) -> u8
     let q = rules::size(first);
     let a = n * q;
     let b = a + q;
-    let z = checknode::decide(&costs[a..b]).symbol;
+    let z = decision::decide_u8(&costs[a..b]).symbol;
     columns::times(rules::power(first), weights[n], z as u8)
 }
 

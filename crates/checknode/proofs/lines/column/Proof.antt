@@ -10,20 +10,20 @@ use Rattle.engine.specs.inner.Lines.{placed}
 use Rattle.checknode.proofs.lines.column.Statement.{statement}
 use Rattle.checknode.proofs.lines.column.Tie as tie
 
-decide-requires : tie.Need-decide-requires
-decide-requires c κs = search needs
+decide-u8-requires : tie.Need-decide-u8-requires
+decide-u8-requires c κs = search needs
 
 shared-slice-read-s : tie.Need-shared-slice-read-s
 shared-slice-read-s c =
     let at-decide = c .before in
     let start = at-decide .before .before .before .before in
-    omega (arith, at-decide .decide .ensures .0, start .pre .zero, start .pre .of-row)
+    omega (arith, at-decide .decide-u8 .ensures .0 .0, start .pre .zero, start .pre .of-row)
 
 place-requires : tie.Need-place-requires
 place-requires c κs =
     let at-decide = c .before .before in
     let start = at-decide .before .before .before .before in
-    (place-room (start .args .costs .now) (start .args .row .now) (start .args .line .now) (start .pre) (at-decide .decide .ensures .0), rw (start .pre .of-costs) (four-divides (start .pre .p) (start .pre .low)))
+    (place-room (start .args .costs .now) (start .args .row .now) (start .args .line .now) (start .pre) (at-decide .decide-u8 .ensures .0 .0), rw (start .pre .of-costs) (four-divides (start .pre .p) (start .pre .low)))
 
 same-length : tie.Need-same-length
 same-length c = search needs
@@ -33,8 +33,8 @@ returns c =
     let at-place = c .before .before in
     let at-decide = at-place .before .before .before in
     let start = at-decide .before .before .before .before in
-    ((ap (λ z. getD (start .args .row .now) z 0) (at-decide .decide .ensures .0)), at-place .place .ensures ∙ ap (λ s. placed (start .args .costs .now) (start .args .row .now) s (length (start .args .costs .now)) (start .args .line .now)) (ap (λ z. getD (start .args .row .now) z 0) (at-decide .decide .ensures .0)))
+    ((ap (λ z. getD (start .args .row .now) z 0) (at-decide .decide-u8 .ensures .0 .0)), at-place .place .ensures ∙ ap (λ s. placed (start .args .costs .now) (start .args .row .now) s (length (start .args .costs .now)) (start .args .line .now)) (ap (λ z. getD (start .args .row .now) z 0) (at-decide .decide-u8 .ensures .0 .0)))
 
 pub column-spec : {M : Type 1} → statement M
 column-spec =
-    tie.close (tie.spec decide-requires shared-slice-read-s place-requires same-length returns)
+    tie.close (tie.spec decide-u8-requires shared-slice-read-s place-requires same-length returns)

@@ -13,20 +13,20 @@ mul-a c = search needs
 add-e : tie.Need-add-e
 add-e c = search needs
 
-mul-decide : tie.Need-mul-decide
-mul-decide c = search needs
+mul-decide-u16 : tie.Need-mul-decide-u16
+mul-decide-u16 c = search needs
 
-sub-decide : tie.Need-sub-decide
-sub-decide c = search needs
+sub-decide-u16 : tie.Need-sub-decide-u16
+sub-decide-u16 c = search needs
 
-part-decide-start : tie.Need-part-decide-start
-part-decide-start c = search needs
+part-decide-u16-start : tie.Need-part-decide-u16-start
+part-decide-u16-start c = search needs
 
-part-decide-end : tie.Need-part-decide-end
-part-decide-end c = search needs
+part-decide-u16-end : tie.Need-part-decide-u16-end
+part-decide-u16-end c = search needs
 
-decide-requires : tie.Need-decide-requires
-decide-requires c κs = search needs
+decide-u16-requires : tie.Need-decide-u16-requires
+decide-u16-requires c κs = search needs
 
 cast-z : tie.Need-cast-z
 cast-z c = search needs
@@ -38,7 +38,7 @@ returns : tie.Need-returns
 returns c =
     let at-decide = c .before .before .before in
     let start = at-decide .before .before .before .before in
-    (decided-same (start .args .q) (start .args .c) (at-decide .decide .result .symbol) (start .args .costs .now) (start .args .symbols .now) (at-decide .decide .ensures .0 .0) (start .pre .1 .0) (c .if1 .taken), (omega arith, λ _. refl))
+    (decided-same (start .args .q) (start .args .c) (at-decide .decide-u16 .result .symbol) (start .args .costs .now) (start .args .symbols .now) (at-decide .decide-u16 .ensures .0 .0) (start .pre .1 .0) (c .if1 .taken), (omega arith, λ _. refl))
 
 slice-write-symbols : tie.Need-slice-write-symbols
 slice-write-symbols c = search needs
@@ -50,7 +50,7 @@ returns-2 : tie.Need-returns-2
 returns-2 c =
     let at-decide = c .before .before .before in
     let start = at-decide .before .before .before .before in
-    (decided-other (start .args .q) (start .args .c) (at-decide .decide .result .symbol) (start .args .costs .now) (start .args .symbols .now) (at-decide .decide .ensures .0 .0), (omega arith, λ (e : _≡_ {A = ℕ} 1 0). absurd (omega arith)))
+    (decided-other (start .args .q) (start .args .c) (at-decide .decide-u16 .result .symbol) (start .args .costs .now) (start .args .symbols .now) (at-decide .decide-u16 .ensures .0 .0), (omega arith, λ (e : _≡_ {A = ℕ} 1 0). absurd (omega arith)))
 
 pub decide-at-spec : {M : Type 1} → statement M
 decide-at-spec =
@@ -58,11 +58,11 @@ decide-at-spec =
     (tie.spec
     mul-a
     add-e
-    mul-decide
-    sub-decide
-    part-decide-start
-    part-decide-end
-    decide-requires
+    mul-decide-u16
+    sub-decide-u16
+    part-decide-u16-start
+    part-decide-u16-end
+    decide-u16-requires
     cast-z
     slice-read-if1
     returns

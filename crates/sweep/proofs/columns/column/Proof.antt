@@ -13,8 +13,8 @@ products-requires c κs =
     let start = c .before .before .before .before in
     (start .pre .0, (start .pre .1 .of-row, omega (arith, start .pre .1 .of-row, start .pre .1 .limit)))
 
-decide-requires : tie.Need-decide-requires
-decide-requires c κs = search needs
+decide-u8-requires : tie.Need-decide-u8-requires
+decide-u8-requires c κs = search needs
 
 move-costs-requires : tie.Need-move-costs-requires
 move-costs-requires c κs =
@@ -26,7 +26,7 @@ slice-read-result c =
     let at-decide = c .before .before .before .before .before in
     let at-products = at-decide .before .before .before in
     let start = at-products .before .before .before .before .before in
-    omega (arith, at-decide .decide .ensures .0, start .pre .1 .zero-in, start .pre .1 .of-row, at-products .products .kept)
+    omega (arith, at-decide .decide-u8 .ensures .0 .0, start .pre .1 .zero-in, start .pre .1 .of-row, at-products .products .kept)
 
 same-length : tie.Need-same-length
 same-length c = search needs
@@ -41,14 +41,14 @@ returns c =
     let at-products = at-decide .before .before .before in
     let start = at-products .before .before .before .before .before in
     let costs = start .args .costs .now in
-    (column-term (start .args .p) (start .args .h) costs (at-products .products .ensures) (at-decide .decide .ensures .0) (start .pre .1 .zero-in), (at-products .products .ensures, at-move-costs .move-costs .ensures ∙ ap₂ (λ z n. tab (moveCost costs z) n) (at-decide .decide .ensures .0) (start .pre .1 .of-moves)))
+    (column-term (start .args .p) (start .args .h) costs (at-products .products .ensures) (at-decide .decide-u8 .ensures .0 .0) (start .pre .1 .zero-in), (at-products .products .ensures, at-move-costs .move-costs .ensures ∙ ap₂ (λ z n. tab (moveCost costs z) n) (at-decide .decide-u8 .ensures .0 .0) (start .pre .1 .of-moves)))
 
 pub column-spec : {M : Type 1} → statement M
 column-spec =
     tie.close
     (tie.spec
     products-requires
-    decide-requires
+    decide-u8-requires
     move-costs-requires
     slice-read-result
     same-length

@@ -26,19 +26,19 @@ add-b c =
     let start = c .before .before .before in
     omega (arith, costs-room (start .args .first) (start .args .weights .now) (start .args .costs .now) (start .pre .0) (start .args .n) (start .pre .1) (c .size .result) (c .size .ensures .0))
 
-sub-decide : tie.Need-sub-decide
-sub-decide c = search needs
+sub-decide-u8 : tie.Need-sub-decide-u8
+sub-decide-u8 c = search needs
 
-part-decide-start : tie.Need-part-decide-start
-part-decide-start c = search needs
+part-decide-u8-start : tie.Need-part-decide-u8-start
+part-decide-u8-start c = search needs
 
-part-decide-end : tie.Need-part-decide-end
-part-decide-end c =
+part-decide-u8-end : tie.Need-part-decide-u8-end
+part-decide-u8-end c =
     let start = c .before .before .before in
     omega (arith, costs-room (start .args .first) (start .args .weights .now) (start .args .costs .now) (start .pre .0) (start .args .n) (start .pre .1) (c .size .result) (c .size .ensures .0))
 
-decide-requires : tie.Need-decide-requires
-decide-requires c κs = search needs
+decide-u8-requires : tie.Need-decide-u8-requires
+decide-u8-requires c κs = search needs
 
 power-requires : tie.Need-power-requires
 power-requires c κs = search needs
@@ -55,7 +55,7 @@ cast-times c =
     let costs = start .args .costs .now in
     let first = start .args .first in
     let n = start .args .n in
-    omega (arith, (let u : at-decide .decide .result .symbol < sizeOf first = rw (at-decide .decide .ensures .0 ∙ ap firstZero (costs-part first weights costs (start .pre .0) n (start .pre .1) (at-size .size .result) (at-size .size .ensures .0))) (start .pre .0 .zeros n (start .pre .1)) in u), size-limit first weights costs (start .pre .0))
+    omega (arith, (let u : at-decide .decide-u8 .result .symbol < sizeOf first = rw (at-decide .decide-u8 .ensures .0 .0 ∙ ap firstZero (costs-part first weights costs (start .pre .0) n (start .pre .1) (at-size .size .result) (at-size .size .ensures .0))) (start .pre .0 .zeros n (start .pre .1)) in u), size-limit first weights costs (start .pre .0))
 
 times-requires : tie.Need-times-requires
 times-requires c κs =
@@ -67,7 +67,7 @@ times-requires c κs =
     let costs = start .args .costs .now in
     let first = start .args .first in
     let n = start .args .n in
-    rw (at-power .power .ensures) (ready-low first weights costs (start .pre .0), (ready-high first weights costs (start .pre .0), (start .pre .0 .weight-small n (start .pre .1), (let u : at-decide .decide .result .symbol < sizeOf first = rw (at-decide .decide .ensures .0 ∙ ap firstZero (costs-part first weights costs (start .pre .0) n (start .pre .1) (at-size .size .result) (at-size .size .ensures .0))) (start .pre .0 .zeros n (start .pre .1)) in u))))
+    rw (at-power .power .ensures) (ready-low first weights costs (start .pre .0), (ready-high first weights costs (start .pre .0), (start .pre .0 .weight-small n (start .pre .1), (let u : at-decide .decide-u8 .result .symbol < sizeOf first = rw (at-decide .decide-u8 .ensures .0 .0 ∙ ap firstZero (costs-part first weights costs (start .pre .0) n (start .pre .1) (at-size .size .result) (at-size .size .ensures .0))) (start .pre .0 .zeros n (start .pre .1)) in u))))
 
 returns : tie.Need-returns
 returns c =
@@ -77,7 +77,7 @@ returns c =
     let start = at-size .before .before .before in
     let weights = start .args .weights .now in
     let n = start .args .n in
-    c .times .ensures ∙ ap₂ (λ p y. product p (getD weights n 0) y) (at-power .power .ensures) (at-decide .decide .ensures .0 ∙ ap firstZero (costs-part (start .args .first) weights (start .args .costs .now) (start .pre .0) n (start .pre .1) (at-size .size .result) (at-size .size .ensures .0)))
+    c .times .ensures ∙ ap₂ (λ p y. product p (getD weights n 0) y) (at-power .power .ensures) (at-decide .decide-u8 .ensures .0 .0 ∙ ap firstZero (costs-part (start .args .first) weights (start .args .costs .now) (start .pre .0) n (start .pre .1) (at-size .size .result) (at-size .size .ensures .0)))
 
 pub term-spec : {M : Type 1} → statement M
 term-spec =
@@ -86,10 +86,10 @@ term-spec =
     size-requires
     mul-a
     add-b
-    sub-decide
-    part-decide-start
-    part-decide-end
-    decide-requires
+    sub-decide-u8
+    part-decide-u8-start
+    part-decide-u8-end
+    decide-u8-requires
     power-requires
     shared-slice-read-times
     cast-times

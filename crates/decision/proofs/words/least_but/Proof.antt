@@ -1,0 +1,53 @@
+-- The least of the costs so far, turn by turn.
+use mathlib.Core.Path.{_≡_, refl}
+use Prim.Native.Nat.{_≤_, _-_}
+use native.Mathlib.Numerals.{add-one}
+use native.Mathlib.Omega.{arith}
+use borrow.Author.Needs.{needs}
+use lib.ListN.{length}
+use Rattle.trellis.specs.inner.Margins.{leastBut}
+use Rattle.decision.proofs.words.least_but.Statement.{statement}
+use Rattle.decision.proofs.words.least_but.Tie as tie
+
+abbrev Inv-loop : tie.InvT-loop
+Inv-loop costs z least₀ x₀ least x = (x ≤ length costs) × (least ≡ leastBut 65535 costs z x)
+
+abbrev μ-loop : tie.MeasureT-loop
+μ-loop costs z least₀ x₀ least x = length costs - x
+
+loop-holds : tie.Need-loop-holds Inv-loop μ-loop
+unfolding leastBut
+loop-holds c = (omega arith, refl)
+
+mul-but : tie.Need-mul-but Inv-loop μ-loop
+mul-but c = search needs
+
+shared-slice-read-but : tie.Need-shared-slice-read-but Inv-loop μ-loop
+shared-slice-read-but c = search needs
+
+but-requires : tie.Need-but-requires Inv-loop μ-loop
+but-requires c κs = search needs
+
+min-u16-requires : tie.Need-min-u16-requires Inv-loop μ-loop
+min-u16-requires c κs = search needs
+
+add-x : tie.Need-add-x Inv-loop μ-loop
+add-x c = search needs
+
+loop-less : tie.Need-loop-less Inv-loop μ-loop
+loop-less c = search needs
+
+loop-again : tie.Need-loop-again Inv-loop μ-loop
+unfolding leastBut
+loop-again c = (omega arith, rw add-one cc)
+
+returns : tie.Need-returns Inv-loop μ-loop
+returns c =
+    let l = c .before in
+    let a = l .before .before .args in
+    let e : l .loop .x ≡ length (a .costs .now) = omega arith in
+    rw (← e) (l .loop .inv .1)
+
+pub least-but-spec : {M : Type 1} → statement M
+least-but-spec =
+    tie.close (tie.spec Inv-loop μ-loop loop-holds mul-but shared-slice-read-but but-requires min-u16-requires add-x loop-less loop-again returns)
