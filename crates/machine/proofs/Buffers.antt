@@ -12,7 +12,9 @@ use Rattle.trellis.specs.Lists.{upTo, pick}
 use Rattle.trellis.proofs.Places.{length-count}
 use Rattle.machine.specs.CodeLine.{good, Code, size, parse, frameFault, bad}
 use Rattle.machine.specs.Machine.{decisionAt, symbols, margins, used}
-use Rattle.machine.specs.Decoding.{Buffers, holding, roomFault, admitted, decodingUnder, decoding, Accepts, Room, admittedUnder}
+use Rattle.machine.specs.Decoding.{Buffers, holding, admitted, decodingUnder, decoding, Accepts, Room, admittedUnder}
+use Rattle.machine.specs.inner.Faults.{roomFault}
+use Rattle.machine.proofs.Faults.{admitted-by}
 
 -- with room in the buffers none of 2, 3, 4 and 19 applies
 pub room-passes : (C : Code) (b : Buffers) → Room C b → roomFault C b ≡ 0
@@ -27,7 +29,7 @@ room-passes C b M =
 
 pub admits : (code f : List ℕ) (b : Buffers) (C : Code) → Accepts code f C → Room C b → admitted code f b ≡ good C
 unfolding admitted
-admits code f b C A M = rw (A .line, A .fits, room-passes C b M)
+admits code f b C A M = rw (A .line) (admitted-by C f b ∙ rw (A .fits, room-passes C b M))
 
 -- an accepted call with room in its buffers is filled from the run
 pub accepted-call : (code f : List ℕ) (b : Buffers) (C : Code) → Accepts code f C → Room C b → decoding code f b ≡ decodingUnder (good C) f b
@@ -87,7 +89,8 @@ pub record Admits (code f : List ℕ) (b : Buffers) (C : Code) : Type 0 where
 pub admits-of : (code f : List ℕ) (b : Buffers) (C : Code) → parse code ≡ good C → decoding code f b .reply .refused ≡ false → Admits code f b C
 unfolding decoding admitted
 admits-of code f b C e h =
-    let g : decodingUnder (admittedUnder (good C) f b) f b .reply .refused ≡ false = ap (λ r. decodingUnder (admittedUnder r f b) f b .reply .refused) (sym e) ∙ h in
+    let g : decodingUnder (pick (eqb (frameFault C f) 0) (pick (eqb (roomFault C b) 0) (good C) (bad (roomFault C b))) (bad (frameFault C f))) f b .reply .refused ≡ false =
+        ap (λ r. decodingUnder r f b .reply .refused) (sym (admitted-by C f b)) ∙ ap (λ r. decodingUnder (admittedUnder r f b) f b .reply .refused) (sym e) ∙ h in
     let z = go (eqb (frameFault C f) 0) refl (eqb (roomFault C b) 0) refl g in
     record { line = e; fits = z .0; room = room-of C b (z .1) }
   where

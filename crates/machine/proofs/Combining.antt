@@ -23,6 +23,7 @@ use Rattle.machine.specs.Machine.{lessLeast, capped}
 use Rattle.machine.specs.Decoding.{Accepts}
 use Rattle.machine.specs.Encoding.{Wrote, wrote, Codeword, Undisturbed}
 use Rattle.machine.specs.Combining.{bothCosts, combinedColumn, combinedTo, combined, combineFault, combiningUnder, combining, Left, Accepted-again, Either-order, Nothing-added, costIn, bothIn, decidedIn, LeastTogether, Decided-together, Shared, Shared-zero, OfOneWord, Found-together}
+use Rattle.machine.proofs.Faults.{combine-by}
 use Rattle.machine.proofs.Lists.{at-upTo}
 use Rattle.machine.specs.inner.InRange.{Below}
 use Rattle.machine.proofs.Updates.{less-zero, size-some}
@@ -168,8 +169,7 @@ pub record NoFault (C : Code) (f g : List ℕ) (room : ℕ) : Type 0 where
   pub enough : C .columns * size C ≤ room
 
 pub fault-none : (C : Code) (f g : List ℕ) (room : ℕ) → combineFault C f g room ≡ 0 → NoFault C f g room
-unfolding combineFault
-fault-none C f g room h = go (eqb (frameFault C f) 0) refl (eqb (frameFault C g) 0) refl (ltb room (C .columns * size C)) refl h
+fault-none C f g room h = go (eqb (frameFault C f) 0) refl (eqb (frameFault C g) 0) refl (ltb room (C .columns * size C)) refl (sym (combine-by C f g room) ∙ h)
   where
     go : (a : Bool) → eqb (frameFault C f) 0 ≡ a → (b : Bool) → eqb (frameFault C g) 0 ≡ b → (d : Bool) → ltb room (C .columns * size C) ≡ d
         → _≡_ {A = ℕ} (pick a (pick b (pick d 2 0) 23) (frameFault C f)) 0 → NoFault C f g room
@@ -180,8 +180,7 @@ fault-none C f g room h = go (eqb (frameFault C f) 0) refl (eqb (frameFault C g)
 
 -- two accepted frames are refused for the buffer alone, in either order
 fault-turned : (C : Code) (f g : List ℕ) (room : ℕ) → frameFault C f ≡ 0 → frameFault C g ≡ 0 → combineFault C f g room ≡ combineFault C g f room
-unfolding combineFault
-fault-turned C f g room h k = simp (eq-eqb (frameFault C f) 0 h, eq-eqb (frameFault C g) 0 k)
+fault-turned C f g room h k = rw (combine-by C f g room, combine-by C g f room) (simp (eq-eqb (frameFault C f) 0 h, eq-eqb (frameFault C g) 0 k))
 
 calls-turned : (code f g : List ℕ) (C : Code) → Accepts code f C → Accepts code g C → (out : List ℕ) → combining code f g out ≡ combining code g f out
 unfolding combining

@@ -16,7 +16,8 @@ use Rattle.trellis.specs.Record.{recordOf, recordLength}
 use Rattle.trellis.specs.Reply.{Reply}
 use Rattle.machine.specs.CodeLine.{good, Code, size, rule, check}
 use Rattle.machine.specs.Machine.{Last, none, made, State, lastOf, columnsIn, Status, found, notFound, run, records, used, recordIn}
-use Rattle.machine.specs.Decoding.{Buffers, storeOf, roomFault, admitted, decodingUnder, decoding, Decodes, Accepts, Room, lastUpdate, outcome, LeastSent, Kept, Agree, Demand-3}
+use Rattle.machine.specs.Decoding.{Buffers, storeOf, admitted, decodingUnder, decoding, Decodes, Accepts, Room, lastUpdate, outcome, LeastSent, Kept, Agree, Demand-3}
+use Rattle.machine.specs.inner.Faults.{roomFault}
 use Rattle.trellis.proofs.Records.{records-equal}
 use Rattle.trellis.proofs.Loops.{blocks-same, blocks-ext}
 use Rattle.machine.specs.inner.Accepted.{GoodCode}

@@ -13,7 +13,9 @@ use Rattle.trellis.specs.Lists.{pick, upto}
 use Rattle.trellis.specs.Rules.{sizeOf}
 use Rattle.machine.specs.CodeLine.{Read, good, bad, Code, wordAt, checks, headTests, parse, frameFault}
 use Rattle.machine.specs.Machine.{State, settled, update, iteration, start, Status, found, notFound, Result, result, go, run}
-use Rattle.machine.specs.Decoding.{outcome, roomFault, admittedUnder, admitted, decodingUnder, decoding}
+use Rattle.machine.specs.Decoding.{outcome, admittedUnder, admitted, decodingUnder, decoding}
+use Rattle.machine.specs.inner.Faults.{roomFault}
+use Rattle.machine.proofs.Faults.{admitted-by}
 use Rattle.machine.specs.Early.{momentAfter, testAfter, firstFrom, mostUpdates, updates, statusEarly, earlyUnder, decodingEarly, Whole-iterations, FirstMoment, Never-more, Few-updates}
 use Rattle.machine.specs.inner.Accepted.{GoodCode}
 use Rattle.machine.proofs.Lines.{passed, then-good, good-one, parse-good}
@@ -199,7 +201,7 @@ unfolding decodingEarly decoding admitted
 never-more code f b C e r r′ o o′ D D′ =
     let i : r .value ≡ earlyUnder (admittedUnder (good C) f b) f b .reply .value = ap (λ a. a .value) (D .replies) ∙ ap (λ l. earlyUnder (admittedUnder l f b) f b .reply .value) e in
     let j : r′ .value ≡ decodingUnder (admittedUnder (good C) f b) f b .reply .value = ap (λ a. a .value) (D′ .replies) ∙ ap (λ l. decodingUnder (admittedUnder l f b) f b .reply .value) e in
-    rw (i, j) (by (eqb (frameFault C f) 0) (eqb (roomFault C b) 0))
+    rw (i, j, admitted-by C f b) (by (eqb (frameFault C f) 0) (eqb (roomFault C b) 0))
   where
     by : (x y : Bool)
         → earlyUnder (pick x (pick y (good C) (bad (roomFault C b))) (bad (frameFault C f))) f b .reply .value
@@ -233,4 +235,4 @@ few-updates code f b h r o D = rw (ap (λ a. a .value) (D .replies)) (under (par
 
     under : (l : Read Code) → parse code ≡ l → earlyUnder (admittedUnder l f b) f b .reply .value ≤ 32640
     under (bad k) e = omega arith
-    under (good C) e = by C e (eqb (frameFault C f) 0) (eqb (roomFault C b) 0)
+    under (good C) e = rw (admitted-by C f b) (by C e (eqb (frameFault C f) 0) (eqb (roomFault C b) 0))

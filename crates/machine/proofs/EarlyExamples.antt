@@ -10,7 +10,7 @@ use Rattle.trellis.specs.Reply.{foundIn, notFoundIn}
 use Rattle.trellis.specs.Rules.{firstOk}
 use Rattle.machine.specs.CodeLine.{parse, checks, checkAt, edges, readEdge, frameFault}
 use Rattle.machine.specs.Machine.{run, go, iteration, update, spread, arriving, outgoing, incoming, message, settled, symbols, place, held, margins}
-use Rattle.machine.specs.Decoding.{lending, roomFault, admitted, decoding, After}
+use Rattle.machine.specs.Decoding.{lending, admitted, decoding, After}
 use Rattle.machine.specs.Early.{momentAfter, updates, decodingEarly}
 use Rattle.machine.proofs.Examples.{Gives}
 
@@ -26,13 +26,13 @@ pub inside : Gives (call 1 (0 ∷ 8 ∷ 2 ∷ 6 ∷ 7 ∷ 3 ∷ 1 ∷ 0 ∷ 7 �
     (4 ∷ 8 ∷ 0 ∷ 3 ∷ 4 ∷ 8 ∷ 0 ∷ 3 ∷ 7 ∷ 2 ∷ 1 ∷ 0 ∷ 7 ∷ [])
     ((3 ∷ 0 ∷ 1 ∷ 1 ∷ 8 ∷ 255 ∷ 0 ∷ 2 ∷ 0 ∷ 3 ∷ 255 ∷ 0 ∷ 6 ∷ 0 ∷ 7 ∷ 255 ∷ 0 ∷ []) ++ replicate 18 7)
     (3 ∷ 3 ∷ 1 ∷ 7 ∷ [])
-unfolding decodingEarly momentAfter updates admitted roomFault parse firstOk checks checkAt edges readEdge frameFault place held update spread arriving outgoing incoming message settled symbols margins marginOf sent leastCost choices xor recordOf shifts group above extra sentAt shift decided
+unfolding decodingEarly momentAfter updates admitted parse firstOk checks checkAt edges readEdge frameFault place held update spread arriving outgoing incoming message settled symbols margins marginOf sent leastCost choices xor recordOf shifts group above extra sentAt shift decided
 inside = (refl, (refl, (refl, (refl, refl))))
 
 -- at the start: no update, the store is untouched
 pub at-start : Gives (call 1 (0 ∷ 8 ∷ 1 ∷ 1 ∷ 0 ∷ 4 ∷ 5 ∷ 0 ∷ 0 ∷ 1 ∷ 8 ∷ 5 ∷ [])) (foundIn 0) (0 ∷ 0 ∷ 0 ∷ 7 ∷ [])
     (0 ∷ 8 ∷ 1 ∷ 1 ∷ 0 ∷ 4 ∷ 5 ∷ 0 ∷ 0 ∷ 1 ∷ 8 ∷ 5 ∷ 7 ∷ []) (replicate 35 7) (1 ∷ 0 ∷ 1 ∷ 7 ∷ [])
-unfolding decodingEarly momentAfter updates admitted roomFault parse firstOk checks checkAt edges readEdge frameFault place held update spread arriving outgoing incoming message settled symbols margins marginOf sent leastCost choices xor recordOf shifts group above extra sentAt shift decided
+unfolding decodingEarly momentAfter updates admitted parse firstOk checks checkAt edges readEdge frameFault place held update spread arriving outgoing incoming message settled symbols margins marginOf sent leastCost choices xor recordOf shifts group above extra sentAt shift decided
 at-start = (refl, (refl, (refl, (refl, refl))))
 
 abbrev frame-1 : List ℕ
@@ -44,7 +44,7 @@ pub missed : Gives (call 1 frame-1) (notFoundIn 2) (0 ∷ 1 ∷ 2 ∷ 7 ∷ [])
     (1 ∷ 0 ∷ 4 ∷ 1 ∷ 5 ∷ 255 ∷ 0 ∷ 3 ∷ 1 ∷ 7 ∷ 255 ∷ 0 ∷ 8 ∷ 1 ∷ 9 ∷ 255 ∷ 0
     ∷ 1 ∷ 0 ∷ 1 ∷ 0 ∷ 6 ∷ 255 ∷ 0 ∷ 2 ∷ 1 ∷ 11 ∷ 255 ∷ 0 ∷ 8 ∷ 0 ∷ 10 ∷ 255 ∷ 0 ∷ 7 ∷ [])
     (1 ∷ 5 ∷ 5 ∷ 7 ∷ [])
-unfolding decodingEarly momentAfter updates admitted roomFault parse firstOk checks checkAt edges readEdge frameFault place held update spread arriving outgoing incoming message settled symbols margins marginOf sent leastCost choices xor recordOf shifts group above extra sentAt shift decided
+unfolding decodingEarly momentAfter updates admitted parse firstOk checks checkAt edges readEdge frameFault place held update spread arriving outgoing incoming message settled symbols margins marginOf sent leastCost choices xor recordOf shifts group above extra sentAt shift decided
 missed = (refl, (refl, (refl, (refl, refl))))
 
 -- the same frame with I = 2: inside the second iteration check 0 has its second record and check 1 its first
@@ -53,7 +53,7 @@ pub inside-second : Gives (call 2 frame-1) (foundIn 3) (1 ∷ 1 ∷ 2 ∷ 7 ∷ 
     (1 ∷ 0 ∷ 5 ∷ 0 ∷ 10 ∷ 255 ∷ 0 ∷ 5 ∷ 1 ∷ 7 ∷ 255 ∷ 0 ∷ 9 ∷ 0 ∷ 18 ∷ 255 ∷ 0
     ∷ 1 ∷ 0 ∷ 1 ∷ 0 ∷ 6 ∷ 255 ∷ 0 ∷ 2 ∷ 1 ∷ 11 ∷ 255 ∷ 0 ∷ 8 ∷ 0 ∷ 10 ∷ 255 ∷ 0 ∷ 7 ∷ [])
     (5 ∷ 5 ∷ 5 ∷ 7 ∷ [])
-unfolding decodingEarly momentAfter updates admitted roomFault parse firstOk checks checkAt edges readEdge frameFault place held update spread arriving outgoing incoming message settled symbols margins marginOf sent leastCost choices xor recordOf shifts group above extra sentAt shift decided
+unfolding decodingEarly momentAfter updates admitted parse firstOk checks checkAt edges readEdge frameFault place held update spread arriving outgoing incoming message settled symbols margins marginOf sent leastCost choices xor recordOf shifts group above extra sentAt shift decided
 inside-second = (refl, (refl, (refl, (refl, refl))))
 
 -- It may find a word that the ordinary call does not: two checks of the same two columns, found after 3 updates and no longer after 4
@@ -65,5 +65,5 @@ frame-2 = 0 ∷ 0 ∷ 3 ∷ 8 ∷ 4 ∷ 0 ∷ 1 ∷ 0 ∷ []
 
 pub found-alone : (decodingEarly line-2 frame-2 (lending (replicate 2 7) (replicate 8 7) (replicate 34 7) (replicate 2 7)) .reply ≡ foundIn 3)
     × (decoding line-2 frame-2 (lending (replicate 2 7) (replicate 8 7) (replicate 34 7) (replicate 2 7)) .reply ≡ notFoundIn 2)
-unfolding decodingEarly momentAfter updates decoding run go iteration admitted roomFault parse firstOk checks checkAt edges readEdge frameFault place update spread arriving outgoing incoming message settled symbols sent leastCost choices xor
+unfolding decodingEarly momentAfter updates decoding run go iteration admitted parse firstOk checks checkAt edges readEdge frameFault place update spread arriving outgoing incoming message settled symbols sent leastCost choices xor
 found-alone = (refl, refl)

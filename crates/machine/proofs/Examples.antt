@@ -13,7 +13,7 @@ use Rattle.machine.specs.CodeLine.{Code, edge, good, parse, checks, chec
 use Rattle.machine.specs.Machine.{scaled, run, go, iteration, update, spread, arriving, outgoing, incoming, message, settled, symbols, records, place, Status, found, notFound, margins}
 use Rattle.machine.specs.Encoding.{wrote}
 use Rattle.machine.specs.Combining.{combinedColumn, combinedTo, combineFault, combining}
-use Rattle.machine.specs.Decoding.{lending, roomFault, admitted, decoding, After, lastUpdate}
+use Rattle.machine.specs.Decoding.{lending, admitted, decoding, After, lastUpdate}
 
 abbrev line : List ℕ
 line = 2 ∷ 0 ∷ 3 ∷ 1 ∷ 16 ∷ 1 ∷ 3 ∷ 0 ∷ 0 ∷ 1 ∷ 0 ∷ 1 ∷ 1 ∷ 0 ∷ 2 ∷ 1 ∷ []
@@ -53,17 +53,17 @@ pub example-1 : Gives (call frame-1) (foundIn 1) (1 ∷ 1 ∷ 0 ∷ 7 ∷ [])
     (1 ∷ 0 ∷ 7 ∷ 6 ∷ 1 ∷ 0 ∷ 11 ∷ 1 ∷ 0 ∷ 2 ∷ 1 ∷ 13 ∷ 7 ∷ [])
     (0 ∷ 1 ∷ 1 ∷ 4 ∷ 1 ∷ 5 ∷ 255 ∷ 0 ∷ 2 ∷ 2 ∷ 7 ∷ 255 ∷ 0 ∷ 3 ∷ 1 ∷ 7 ∷ 255 ∷ 0 ∷ 7 ∷ [])
     (1 ∷ 1 ∷ 1 ∷ 7 ∷ [])
-unfolding decoding admitted roomFault parse firstOk checks checkAt edges readEdge frameFault place records run go iteration update spread arriving outgoing incoming message settled symbols margins marginOf sent leastCost choices xor recordOf shifts group above extra sentAt shift decided
+unfolding decoding admitted parse firstOk checks checkAt edges readEdge frameFault place records run go iteration update spread arriving outgoing incoming message settled symbols margins marginOf sent leastCost choices xor recordOf shifts group above extra sentAt shift decided
 example-1 = (refl, (refl, (refl, (refl, refl))))
 
 -- found at t = 0: the store is untouched, the margins are the frame's
 pub example-0 : Gives (call frame-0) (foundIn 0) (0 ∷ 0 ∷ 0 ∷ 7 ∷ []) (frame-0 ++ (7 ∷ [])) (replicate 19 7) (5 ∷ 3 ∷ 2 ∷ 7 ∷ [])
-unfolding decoding admitted roomFault parse firstOk checks checkAt edges readEdge frameFault place records run go iteration update spread arriving outgoing incoming message settled symbols margins marginOf sent leastCost choices xor recordOf shifts group above extra sentAt shift decided
+unfolding decoding admitted parse firstOk checks checkAt edges readEdge frameFault place records run go iteration update spread arriving outgoing incoming message settled symbols margins marginOf sent leastCost choices xor recordOf shifts group above extra sentAt shift decided
 example-0 = (refl, (refl, (refl, (refl, refl))))
 
 -- equal stores and different symbols
 pub equal-stores : (call frame-1 .buffers .store ≡ call frame-2 .buffers .store) × (call frame-2 .buffers .symbols ≡ 3 ∷ 1 ∷ 2 ∷ 7 ∷ [])
-unfolding decoding admitted roomFault parse firstOk checks checkAt edges readEdge frameFault place records run go iteration update spread arriving outgoing incoming message settled symbols margins marginOf sent leastCost choices xor recordOf shifts group above extra sentAt shift decided
+unfolding decoding admitted parse firstOk checks checkAt edges readEdge frameFault place records run go iteration update spread arriving outgoing incoming message settled symbols margins marginOf sent leastCost choices xor recordOf shifts group above extra sentAt shift decided
 equal-stores = (refl, refl)
 
 -- equal sent costs and different stores
@@ -72,7 +72,7 @@ sentIn f = map (λ n. map (sent (rule code) (lastUpdate code f 0) n) (upTo 4)) (
 
 pub equal-sents : (sentIn frame-3 ≡ sentIn frame-4) × ((call frame-3 .buffers .store ≡ 0 ∷ 1 ∷ 1 ∷ 0 ∷ 255 ∷ 0 ∷ 255 ∷ 0 ∷ 0 ∷ 255 ∷ 0 ∷ 255 ∷ 0 ∷ 0 ∷ 255 ∷ 0 ∷ 255 ∷ 0 ∷ 7 ∷ [])
     × (call frame-4 .buffers .store ≡ 0 ∷ 2 ∷ 2 ∷ 0 ∷ 255 ∷ 0 ∷ 255 ∷ 0 ∷ 0 ∷ 255 ∷ 0 ∷ 255 ∷ 0 ∷ 0 ∷ 255 ∷ 0 ∷ 255 ∷ 0 ∷ 7 ∷ []))
-unfolding decoding admitted roomFault parse firstOk checks checkAt edges readEdge frameFault place records run go iteration update spread arriving outgoing incoming message settled symbols margins marginOf sent leastCost choices xor recordOf shifts group above extra sentAt shift decided
+unfolding decoding admitted parse firstOk checks checkAt edges readEdge frameFault place records run go iteration update spread arriving outgoing incoming message settled symbols margins marginOf sent leastCost choices xor recordOf shifts group above extra sentAt shift decided
 equal-sents = (refl, (refl, refl))
 
 -- two frames combined, in a buffer one too long
@@ -168,7 +168,7 @@ call-2 =
 pub least-code : Gives call-2 (foundIn 1) (0 ∷ 0 ∷ 7 ∷ []) (0 ∷ 1 ∷ 11 ∷ 8 ∷ 0 ∷ 1 ∷ 11 ∷ 8 ∷ 7 ∷ [])
     (1 ∷ 0 ∷ 4 ∷ 1 ∷ 5 ∷ 255 ∷ 0 ∷ 3 ∷ 1 ∷ 7 ∷ 255 ∷ 0 ∷ 8 ∷ 1 ∷ 9 ∷ 255 ∷ 0 ∷ 7 ∷ [])
     (1 ∷ 1 ∷ 7 ∷ [])
-unfolding decoding admitted roomFault parse firstOk checks checkAt edges readEdge frameFault place records run go iteration update spread arriving outgoing incoming message settled symbols margins marginOf sent leastCost choices xor recordOf shifts group above extra sentAt shift decided
+unfolding decoding admitted parse firstOk checks checkAt edges readEdge frameFault place records run go iteration update spread arriving outgoing incoming message settled symbols margins marginOf sent leastCost choices xor recordOf shifts group above extra sentAt shift decided
 least-code = (refl, (refl, (refl, (refl, refl))))
 
 -- refusals, in their order
@@ -221,5 +221,5 @@ table =
     []
 
 pub refusals : map answerTo table ≡ map (λ c. c .gives) table
-unfolding decoding admitted roomFault parse firstOk checks checkAt edges readEdge frameFault place records run go iteration update spread arriving outgoing incoming message settled symbols margins marginOf sent leastCost choices xor recordOf shifts group above extra sentAt shift decided
+unfolding decoding admitted parse firstOk checks checkAt edges readEdge frameFault place records run go iteration update spread arriving outgoing incoming message settled symbols margins marginOf sent leastCost choices xor recordOf shifts group above extra sentAt shift decided
 refusals = refl

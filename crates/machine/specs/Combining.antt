@@ -1,13 +1,14 @@
 -- Document 02 §10: two frames of the same symbols as one. The combined frame, what the call replies and leaves, and what is claimed.
 use mathlib.Core.Path.{_≡_}
 use mathlib.Core.Logic.{_≢_}
-use mathlib.Core.List.{List, map, _++_}
+use mathlib.Core.List.{List, [], _∷_, map, _++_}
 use Prim.Native.Nat.{ℕ, _+_, _*_, _<_, _≤_}
 use lib.Dec.{eqb, ltb}
 use lib.ListN.{length, getD, take, drop}
 use Rattle.trellis.specs.Lists.{upTo, pick, blocks}
+use Rattle.trellis.specs.Refusals.{when, unless, faultBy}
 use Rattle.trellis.specs.Reply.{Reply, accepted, refusal}
-use Rattle.machine.specs.CodeLine.{Read, good, bad, Code, size, columnOf, parse, frameFault}
+use Rattle.machine.specs.CodeLine.{Read, good, bad, Code, size, columnOf, parse, frameTests, frameFault}
 use Rattle.machine.specs.Machine.{lessLeast, capped, decisionAt}
 use Rattle.machine.specs.Decoding.{Buffers, Room, Accepts, decoding}
 use Rattle.machine.specs.Encoding.{Wrote, wrote, Codeword, FoundAtOnce}
@@ -32,11 +33,11 @@ combined C f g = combinedTo (size C) f g (C .columns)
 -- these; then 2 for the output buffer", which "needs N times q bytes"; 0 for none
 unfoldable pub combineFault : Code → List ℕ → List ℕ → ℕ → ℕ
 combineFault C f g room =
-    pick (eqb (frameFault C f) 0)
-    (pick (eqb (frameFault C g) 0)
-    (pick (ltb room (C .columns * size C)) 2 0)
-    23)
-    (frameFault C f)
+    faultBy
+    (frameTests (size C) (C .columns) f
+    ++ (unless (eqb (frameFault C g) 0) 23
+    ∷ when (ltb room (C .columns * size C)) 2
+    ∷ []))
 
 -- under a code that was read: a refusal changes nothing; else N times q costs, and their number is returned
 abbrev pub combiningUnder : Read Code → List ℕ → List ℕ → List ℕ → Wrote

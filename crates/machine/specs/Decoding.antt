@@ -8,9 +8,9 @@ use lib.Dec.{eqb, ltb}
 use lib.ListN.{length, take, drop}
 use Rattle.trellis.specs.Lists.{pick, others, put}
 use Rattle.trellis.specs.Check.{Rule, Column, Fits, deviations, weightedSum, costOf, shift, sent}
-use Rattle.trellis.specs.Refusals.{Test, when, faultBy}
+use Rattle.trellis.specs.Refusals.{Test, when, refusedBy}
 use Rattle.trellis.specs.Reply.{Reply, refusal, foundIn, notFoundIn}
-use Rattle.machine.specs.CodeLine.{Read, good, bad, Code, size, rule, check, parse, frameFault}
+use Rattle.machine.specs.CodeLine.{Read, good, bad, Code, size, rule, check, parse, frameTests, frameFault}
 use Rattle.machine.specs.Machine.{made, State, Status, found, notFound, run, symbols, margins, records, used, lastOf, columnsIn}
 
 -- the four lent buffers of a decoding, in the order of its parameters
@@ -57,17 +57,17 @@ roomTests n w u symbols costs store margins =
     ∷ when (ltb margins n) 19
     ∷ []
 
--- of a code's buffers, 0 for none
-unfoldable pub roomFault : Code → Buffers → ℕ
-roomFault C b =
-    faultBy (roomTests (C .columns) (C .columns * size C) (used C) (length (b .symbols)) (length (b .costs)) (length (b .store))
-    (length (b .margins)))
+-- "Decode: code, 12, 13, 2, 3, 4.", 19: what comes after the code, for n columns of q costs and u bytes of records (SPEC 8.4)
+abbrev pub decodeTests : ℕ → ℕ → ℕ → List ℕ → ℕ → ℕ → ℕ → ℕ → List Test
+decodeTests q n u f symbols costs store margins = frameTests q n f ++ roomTests n (n * q) u symbols costs store margins
 
--- "Decode: code, 12, 13, 2, 3, 4.", 19: the code, or the number by which decoding refuses (SPEC 8.4)
+-- the code, or the number by which decoding refuses
 abbrev pub admittedUnder : Read Code → List ℕ → Buffers → Read Code
 admittedUnder (bad k) f b = bad k
 admittedUnder (good C) f b =
-    pick (eqb (frameFault C f) 0) (pick (eqb (roomFault C b) 0) (good C) (bad (roomFault C b))) (bad (frameFault C f))
+    refusedBy
+    (decodeTests (size C) (C .columns) (used C) f (length (b .symbols)) (length (b .costs)) (length (b .store)) (length (b .margins)))
+    bad (good C)
 
 unfoldable pub admitted : List ℕ → List ℕ → Buffers → Read Code
 admitted code f b = admittedUnder (parse code) f b

@@ -4,3 +4,4 @@ pub mod InRange
 pub mod Blocks
 pub mod Tables
 pub mod LentEarly
+pub mod Faults

@@ -1,5 +1,6 @@
 -- Tests and lists, the field's laws, then the theorems about one check.
 pub mod Tests
+pub mod Refusals
 pub mod Lists
 pub mod Least
 pub mod Xor

@@ -17,7 +17,9 @@ use Rattle.machine.specs.CodeLine.{Read, good, bad, then, Edge, Code, edge, wor
 use Rattle.machine.specs.Machine.{settled, used}
 use Rattle.machine.specs.Lent.{Lent}
 use Rattle.machine.proofs.Lines.{then-good}
-use Rattle.machine.specs.Decoding.{Buffers, holding, roomFault, admittedUnder, admitted}
+use Rattle.machine.specs.Decoding.{Buffers, holding, admittedUnder, admitted}
+use Rattle.machine.specs.inner.Faults.{roomFault}
+use Rattle.machine.proofs.Faults.{admitted-by}
 use Rattle.machine.specs.Moments.{loadingUnder, loading, costsOk, storeOk, resumableUnder, resumable, further, stateAfter, iteratingUnder, iterating}
 use Rattle.window.specs.Window.{Registers, idle, read, Window, bitFor, setting, entering, taking, load, iterate, masked, cleared, second, command, write}
 use Rattle.window.specs.Writes.{Bytes, Lending, lentTo, step, since, Shows, acts, Changes, Every-list}
@@ -116,7 +118,7 @@ known-admitted code f b = go (parse code) (known-parse code)
   where
     go : (r : Read Code) → Known r → Known (admittedUnder r f b)
     go (bad k) h = h
-    go (good C) h = known-number (frameFault C f) _ (known-fault C f) (known-number (roomFault C b) (good C) (known-room C b) tt)
+    go (good C) h = rw (admitted-by C f b) (known-number (frameFault C f) _ (known-fault C f) (known-number (roomFault C b) (good C) (known-room C b) tt))
 
 known-resumable : (code f : List ℕ) (t : ℕ) (b : Buffers) → Known (resumable code f t b)
 unfolding resumable
@@ -231,7 +233,7 @@ admitted-line code f b C h = go (parse code) h
 
     go : (r : Read Code) → admittedUnder r f b ≡ good C → r ≡ good C
     go (bad k) h = absurd (clash k h)
-    go (good D) h = at (eqb (frameFault D f) 0) (eqb (roomFault D b) 0) h
+    go (good D) h = at (eqb (frameFault D f) 0) (eqb (roomFault D b) 0) (sym (admitted-by D f b) ∙ h)
       where
         at : (i j : Bool) → pick i (pick j (good D) (bad (roomFault D b))) (bad (frameFault D f)) ≡ good C → good D ≡ good C
         at true true h = h

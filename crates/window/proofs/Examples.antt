@@ -11,7 +11,7 @@ use Rattle.trellis.specs.Record.{recordOf, shifts, group, above, pairsOk, recor
 use Rattle.machine.specs.CodeLine.{parse, checks, checkAt, edges, readEdge, frameFault}
 use Rattle.machine.specs.Machine.{spread, arriving, outgoing, incoming, settled, symbols, margins, place}
 use Rattle.machine.specs.Lent.{costsLent, recordLent, updateLent, iterationLent, messageLent}
-use Rattle.machine.specs.Decoding.{Buffers, roomFault, admitted}
+use Rattle.machine.specs.Decoding.{Buffers, admitted}
 use Rattle.machine.specs.Moments.{costsOk, storeOk, resumable, loading, iterating}
 use Rattle.window.specs.Window.{Registers, idle, read, interrupt, Window, setting, second, command, write}
 use Rattle.window.specs.Writes.{Write, writes}
@@ -46,7 +46,7 @@ pub loaded : after (to 4 1 ∷ to 0 1 ∷ [])
         store = replicate 19 7;
       };
     }
-unfolding write command loading setting admitted roomFault parse firstOk checks checkAt edges readEdge frameFault place spread arriving outgoing incoming settled symbols margins marginOf choices leastCost xor recordOf shifts group above extra sentAt shift decided
+unfolding write command loading setting admitted parse firstOk checks checkAt edges readEdge frameFault place spread arriving outgoing incoming settled symbols margins marginOf choices leastCost xor recordOf shifts group above extra sentAt shift decided
 loaded = refl
 
 -- then command 2: found in one iteration, bit 0 pending, the interrupt raised
@@ -60,7 +60,7 @@ pub found : after (to 4 1 ∷ to 0 1 ∷ to 0 2 ∷ [])
         store = 0 ∷ 1 ∷ 1 ∷ 4 ∷ 1 ∷ 5 ∷ 255 ∷ 0 ∷ 2 ∷ 2 ∷ 7 ∷ 255 ∷ 0 ∷ 3 ∷ 1 ∷ 7 ∷ 255 ∷ 0 ∷ 7 ∷ [];
       };
     }
-unfolding write command second loading iterating resumable costsOk storeOk updateLent costsLent recordLent iterationLent messageLent readAt expandAt setting admitted roomFault parse firstOk checks checkAt edges readEdge frameFault place spread arriving outgoing incoming settled symbols margins marginOf choices leastCost xor recordOf shifts group above extra sentAt shift decided
+unfolding write command second loading iterating resumable costsOk storeOk updateLent costsLent recordLent iterationLent messageLent readAt expandAt setting admitted parse firstOk checks checkAt edges readEdge frameFault place spread arriving outgoing incoming settled symbols margins marginOf choices leastCost xor recordOf shifts group above extra sentAt shift decided
 found = refl
 
 pub raised : interrupt (bytes 2 0 1 1 1) ≡ true
@@ -75,19 +75,19 @@ abbrev number : ℕ → List ℕ → ℕ
 number t c = write line frame 0 2 (record { registers = bytes 1 0 t 0 0; buffers = record { symbols = replicate 3 0; margins = replicate 3 0; costs = c; store = replicate 18 7 } }) .registers .refusal
 
 pub no-zero : number 0 (replicate 12 7) ≡ 13
-unfolding write command second iterating resumable costsOk storeOk updateLent costsLent recordLent iterationLent messageLent readAt expandAt setting admitted roomFault parse firstOk checks checkAt edges readEdge frameFault place spread arriving outgoing incoming settled symbols margins marginOf choices leastCost xor recordOf shifts group above extra sentAt shift decided
+unfolding write command second iterating resumable costsOk storeOk updateLent costsLent recordLent iterationLent messageLent readAt expandAt setting admitted parse firstOk checks checkAt edges readEdge frameFault place spread arriving outgoing incoming settled symbols margins marginOf choices leastCost xor recordOf shifts group above extra sentAt shift decided
 no-zero = refl
 
 pub above-510 : number 0 (costs 511) ≡ 13
-unfolding write command second iterating resumable costsOk storeOk updateLent costsLent recordLent iterationLent messageLent readAt expandAt setting admitted roomFault parse firstOk checks checkAt edges readEdge frameFault place spread arriving outgoing incoming settled symbols margins marginOf choices leastCost xor recordOf shifts group above extra sentAt shift decided
+unfolding write command second iterating resumable costsOk storeOk updateLent costsLent recordLent iterationLent messageLent readAt expandAt setting admitted parse firstOk checks checkAt edges readEdge frameFault place spread arriving outgoing incoming settled symbols margins marginOf choices leastCost xor recordOf shifts group above extra sentAt shift decided
 above-510 = refl
 
 pub bad-record : number 1 (costs 510) ≡ 16
-unfolding write command second iterating resumable costsOk storeOk updateLent costsLent recordLent iterationLent messageLent readAt expandAt recordOk pairsOk setting admitted roomFault parse firstOk checks checkAt edges readEdge frameFault place spread arriving outgoing incoming settled symbols margins marginOf choices leastCost xor recordOf shifts group above extra sentAt shift decided
+unfolding write command second iterating resumable costsOk storeOk updateLent costsLent recordLent iterationLent messageLent readAt expandAt recordOk pairsOk setting admitted parse firstOk checks checkAt edges readEdge frameFault place spread arriving outgoing incoming settled symbols margins marginOf choices leastCost xor recordOf shifts group above extra sentAt shift decided
 bad-record = refl
 
 pub no-record : number 0 (costs 510) ≡ 0
-unfolding write command second iterating resumable costsOk storeOk updateLent costsLent recordLent iterationLent messageLent readAt expandAt setting admitted roomFault parse firstOk checks checkAt edges readEdge frameFault place spread arriving outgoing incoming settled symbols margins marginOf choices leastCost xor recordOf shifts group above extra sentAt shift decided
+unfolding write command second iterating resumable costsOk storeOk updateLent costsLent recordLent iterationLent messageLent readAt expandAt setting admitted parse firstOk checks checkAt edges readEdge frameFault place spread arriving outgoing incoming settled symbols margins marginOf choices leastCost xor recordOf shifts group above extra sentAt shift decided
 no-record = refl
 
 -- a load that is refused: state 4 with its number, bit 1 pending, no buffer changed; and once more from there
@@ -102,5 +102,5 @@ ignored = refl
 
 -- decoding's refusals come first: a short margin buffer (19) before the costs' 13
 pub margins-first : write line frame 0 2 (record { registers = bytes 1 0 0 0 0; buffers = record { symbols = replicate 3 0; margins = []; costs = replicate 12 7; store = replicate 18 7 } }) .registers .refusal ≡ 19
-unfolding write command second iterating resumable setting admitted roomFault parse firstOk checks checkAt edges readEdge frameFault place
+unfolding write command second iterating resumable setting admitted parse firstOk checks checkAt edges readEdge frameFault place
 margins-first = refl
