@@ -1,116 +1,58 @@
--- The tests of a display in their order: an expansion without room says all but the last of them.
+-- The tests of a display in their order, and what a call leads to by them.
 use mathlib.Core.Path.{_≡_, refl, sym, ap, _∙_}
-use mathlib.Core.Bool.{Bool, true, false, not, true≢false}
-use mathlib.Core.List.{List, _++_}
-use Prim.Native.Nat.{ℕ, _*_, _≤_, _<_}
-use native.Mathlib.Nat.{mul-le-mul}
+use mathlib.Core.Bool.{Bool, true, false, not}
+use mathlib.Core.List.{List, [], _∷_, _++_}
+use Prim.Native.Nat.{ℕ, _≤_, _<_}
 use native.Mathlib.Decide.{ℕ-discrete}
 use native.Mathlib.Omega.{arith}
 use lib.Dec.{eqb, ltb}
 use lib.ListN.{length, take, drop}
 use lib.Seq.{length-take-le}
-use lib.Pow.{pow-pos}
 use borrow.Author.Tests.{eq-eqb, ne-eqb, lt-ltb, le-ltb, ltb-false}
 use Rattle.trellis.specs.Lists.{pick}
 use Rattle.trellis.specs.Record.{recordOk}
 use Rattle.trellis.specs.Rules.{powerOf, sizeOf, firstOk, ruleFor}
+use Rattle.trellis.specs.Refusals.{when, unless}
+use Rattle.trellis.proofs.Refusals.{by-number}
 use Rattle.trellis.specs.Reply.{Reply, accepted, refusal}
 use Rattle.trellis.specs.Display.{displayed, Stored}
 use Rattle.trellis.proofs.Display.{form-front}
-use Rattle.field.specs.Answers.{weightsOk, weightsFault}
-use Rattle.expansion.specs.Answers.{expandReply}
+use Rattle.field.specs.Answers.{weightTests, weightsOk, weightsFault}
 use Rattle.field.proofs.Weighed.{Weighed, no-fault, fault-case, rest-case, weight-at}
 use Rattle.display.specs.Answers.{displayCases, displayFault, displayReply, displayLeaves}
-use Rattle.display.specs.inner.Showing.{formFault, ShowRoom}
+use Rattle.display.specs.inner.Showing.{ShowRoom}
 
 module _ (f : ℕ) (ws r : List ℕ) where
   abbrev formed : Bool
   formed = recordOk (ruleFor f) (length ws) r
 
-  -- an expansion into one byte
-  pub short-reply : (none : List ℕ) → length none ≡ 1 → expandReply f ws r none ≡ refusal (formFault f ws r)
-  unfolding expandReply formFault
-  short-reply none l =
-      elim (ℕ-discrete (weightsFault f ws) 0) [
-        | yes e ↦
-            let W = no-fault f ws e in
-            let room : 2 * 1 ≤ length ws * sizeOf f = mul-le-mul (W .two) (pow-pos (powerOf f)) in
-            rest-case f ws W (λ k. refusal k) _ ∙ by formed (ltb (length none) (length ws * sizeOf f)) (lt-ltb (length none) (length ws * sizeOf f) (omega arith)) ∙ sym (ap refusal (rest-case f ws W (λ k. k) (pick formed 2 16)))
-        | no e ↦ sym (fault-case f ws (λ k. refusal k) _ refl e) ∙ ap refusal (fault-case f ws (λ k. k) (pick formed 2 16) refl e)
-      ]
-    where
-      by : (b t : Bool) → t ≡ true → pick b (pick t (refusal 2) (accepted (length ws * sizeOf f))) (refusal 16) ≡ refusal (pick b 2 16)
-      by true t e = rw e
-      by false t e = refl
-
-  module _ (none : List ℕ) (l : length none ≡ 1) where
-    pub never-written : (n : ℕ) → accepted n ≡ expandReply f ws r none → ⊥
-    never-written n e = true≢false (sym (ap (λ (a : Reply). a .refused) (e ∙ short-reply none l)))
-
-    pub fault-said : (k : ℕ) → refusal k ≡ expandReply f ws r none → k ≡ formFault f ws r
-    fault-said k e = ap (λ (a : Reply). a .number) (e ∙ short-reply none l)
-
-  -- 2 is said of an accepted form alone
-  two-formed : formFault f ws r ≡ 2 → (weightsFault f ws ≡ 0) × (formed ≡ true)
-  unfolding formFault weightsFault
-  two-formed e = go (firstOk f) (ltb (length ws) 2) (ltb 32 (length ws)) (weightsOk (sizeOf f) ws) formed refl e
-    where
-      go : (a c d o b : Bool) → formed ≡ b → _≡_ {A = ℕ} (pick (not a) 6 (pick c 9 (pick d 9 (pick o (pick b 2 16) 11)))) 2
-          → (_≡_ {A = ℕ} (pick (not a) 6 (pick c 9 (pick d 9 (pick o 0 11)))) 0) × (formed ≡ true)
-      go false c d o b i e = absurd (omega arith)
-      go true true d o b i e = absurd (omega arith)
-      go true false true o b i e = absurd (omega arith)
-      go true false false false b i e = absurd (omega arith)
-      go true false false true false i e = absurd (omega arith)
-      go true false false true true i e = (refl, i)
-
-  -- the tests by the number that an expansion without room says
+  -- the tests in their order
   module _ (room : ℕ) where
-    pub accepts : Weighed f ws → formed ≡ true → displayFault f ws r room ≡ pick (ltb room (length ws)) 2 0
+    pub weight-fault : (k : ℕ) → k ≡ weightsFault f ws → (k ≡ 0 → ⊥) → k ≡ displayFault f ws r room
     unfolding displayFault
-    accepts W o = rest-case f ws W (λ k. k) _ ∙ rw o
+    weight-fault k e n = fault-case f ws (λ k. k) (pick formed (pick (ltb room (length ws)) 2 0) 16) e n
 
-    module _ (k : ℕ) (e : k ≡ formFault f ws r) where
-      pub other-fault : (k ≡ 2 → ⊥) → k ≡ displayFault f ws r room
-      unfolding displayFault formFault
-      other-fault n =
-          elim (ℕ-discrete (weightsFault f ws) 0) [
-            | yes z ↦
-                let W = no-fault f ws z in
-                by formed (e ∙ rest-case f ws W (λ k. k) (pick formed 2 16)) ∙ sym (rest-case f ws W (λ k. k) (pick formed (pick (ltb room (length ws)) 2 0) 16))
-            | no z ↦ e ∙ sym (fault-case f ws (λ k. k) (pick formed 2 16) refl z) ∙ fault-case f ws (λ k. k) (pick formed (pick (ltb room (length ws)) 2 0) 16) refl z
-          ]
-        where
-          by : (b : Bool) → k ≡ pick b 2 16 → k ≡ pick b (pick (ltb room (length ws)) 2 0) 16
-          by true i = absurd (n i)
-          by false i = i
+    module _ (W : Weighed f ws) where
+      pub form-fault : formed ≡ false → 16 ≡ displayFault f ws r room
+      unfolding displayFault
+      form-fault o = sym (rest-case f ws W (λ k. k) _ ∙ rw o)
 
-      module _ (z : k ≡ 2) where
-        passed : displayFault f ws r room ≡ pick (ltb room (length ws)) 2 0
-        passed = let t = two-formed (sym e ∙ z) in accepts (no-fault f ws (t .0)) (t .1)
+      pub accepts : formed ≡ true → displayFault f ws r room ≡ pick (ltb room (length ws)) 2 0
+      unfolding displayFault
+      accepts o = rest-case f ws W (λ k. k) _ ∙ rw o
 
-        pub short-fault : room < length ws → 2 ≡ displayFault f ws r room
-        short-fault h = sym (passed ∙ rw (lt-ltb room (length ws) h))
+      pub short-fault : formed ≡ true → room < length ws → 2 ≡ displayFault f ws r room
+      short-fault o h = sym (accepts o ∙ rw (lt-ltb room (length ws) h))
 
-        pub none-fault : length ws ≤ room → 0 ≡ displayFault f ws r room
-        none-fault h = sym (passed ∙ rw (le-ltb room (length ws) h))
+      pub none-fault : formed ≡ true → length ws ≤ room → 0 ≡ displayFault f ws r room
+      none-fault o h = sym (accepts o ∙ rw (le-ltb room (length ws) h))
 
     -- any answer goes by the number of the refusal
     pub by-fault : {A : Type 0} (bad : ℕ → A) (good : A) → displayCases f ws r room bad good ≡ pick (eqb (displayFault f ws r room) 0) good (bad (displayFault f ws r room))
     unfolding displayFault
-    by-fault {A} bad good = go (firstOk f) (ltb (length ws) 2) (ltb 32 (length ws)) (weightsOk (sizeOf f) ws) formed (ltb room (length ws))
-      where
-        cases : {B : Type 0} → (a c d o b t : Bool) → (ℕ → B) → B → B
-        cases a c d o b t bad good = pick (not a) (bad 6) (pick c (bad 9) (pick d (bad 9) (pick o (pick b (pick t (bad 2) good) (bad 16)) (bad 11))))
-
-        go : (a c d o b t : Bool) → cases a c d o b t bad good ≡ pick (eqb (cases a c d o b t (λ k. k) 0) 0) good (bad (cases a c d o b t (λ k. k) 0))
-        go false c d o b t = refl
-        go true true d o b t = refl
-        go true false true o b t = refl
-        go true false false false b t = refl
-        go true false false true false t = refl
-        go true false false true true true = refl
-        go true false false true true false = refl
+    by-fault bad good =
+        by-number (weightTests f ws ++ (unless formed 16 ∷ when (ltb room (length ws)) 2 ∷ []))
+        ((λ e. omega arith), ((λ e. omega arith), ((λ e. omega arith), ((λ e. omega arith), ((λ e. omega arith), ((λ e. omega arith), tt)))))) bad good
 
   -- a call that is not refused
   pub record Passed (room : ℕ) : Type 0 where

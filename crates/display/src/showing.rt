@@ -1,28 +1,20 @@
 // The refusals, and the quotients of the shifts.
-use field::Written;
+use expansion::form;
 ghost use mathlib.Core.Path.{_≡_};
 ghost use Rattle.trellis.specs.Display.{displayed};
 ghost use Rattle.display.specs.Answers.{displayFault};
-ghost use Rattle.display.specs.inner.Showing.{formFault, ShowRoom};
-
-// The number by which an expansion without room refuses: 6, 9, 11 or 16, and 2 exactly where none of them applies.
-fn form_fault(first: u8, weights: &[u8], bytes: &[u8]) -> u8
-    ensures { λ r. ⌜ r ≡ formFault first (now (weights .entry)) (now (bytes .entry)) ⌝ }
-{
-    let mut none = [0u8; 1];
-    match expansion::expand(first, weights, bytes, &mut none) {
-        Written::Bytes(_) => 0,
-        Written::Refused(k) => k,
-    }
-}
+ghost use Rattle.display.specs.inner.Showing.{ShowRoom};
 
 // "Both refuse as expansion does; the display's buffer is d bytes, refusal 2"; 0 for none.
 pub fn fault(first: u8, weights: &[u8], bytes: &[u8], room: usize) -> u8
     ensures { λ r. ⌜ r ≡ displayFault first (now (weights .entry)) (now (bytes .entry)) room ⌝ }
 {
-    let k = form_fault(first, weights, bytes);
-    if k != 2 {
+    let k = field::weights_fault(first, weights);
+    if k != 0 {
         return k;
+    }
+    if !form::record_ok(first, bytes, weights.len()) {
+        return 16;
     }
     if room < weights.len() {
         return 2;

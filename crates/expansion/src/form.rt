@@ -1,12 +1,11 @@
 // The form of an accepted record.
 ghost use mathlib.Core.Path.{_≡_};
-ghost use mathlib.Core.Bool.{true};
 ghost use Prim.Native.Nat.{_+_, _*_, _≤_};
 ghost use lib.Dec.{ltb};
 ghost use lib.ListN.{length, getD};
 ghost use Rattle.trellis.specs.Lists.{allTo};
 ghost use Rattle.trellis.specs.Record.{pairsOk, recordOk};
-ghost use Rattle.trellis.specs.Rules.{ruleFor, firstOk};
+ghost use Rattle.trellis.specs.Rules.{ruleFor};
 ghost use Rattle.expansion.specs.inner.Asks.{pairNext};
 
 // After the pair c, s: the least column that the next used pair may have, 256 after an unused pair, 257 for a fault.
@@ -53,7 +52,7 @@ fn pairs_ok(r: &[u8], at: usize, d: usize, k: usize) -> bool
 }
 
 fn groups_ok(r: &[u8], d: usize, n: usize, k: usize) -> bool
-    requires { ⌜ (d ≤ 32) × ((k ≤ 3) × (d + (1 + 2 * k) * n ≤ length (now r))) ⌝ }
+    requires { ⌜ (k ≤ 3) × (d + (1 + 2 * k) * n ≤ length (now r)) ⌝ }
     ensures { λ b. ⌜
         b ≡ allTo (λ b. pairsOk k (now (r .entry)) (d + (1 + 2 * k) * b + 1) (getD (now (r .entry)) (d + (1 + 2 * k) * b) 0) d 0) n ⌝ }
 {
@@ -80,12 +79,15 @@ fn shifts_ok(r: &[u8], d: usize, q: usize) -> bool
     ok
 }
 
-// The length first: d shifts, and the bytes of the groups.
+// Whether these bytes are a record of degree d of accepted form. The length first: d shifts, and the bytes of the groups.
 pub fn record_ok(first: u8, r: &[u8], d: usize) -> bool
-    requires { ⌜ (d ≤ 32) × (firstOk first ≡ true) ⌝ }
     ensures { λ b. ⌜ b ≡ recordOk (ruleFor first) d (now (r .entry)) ⌝ }
 {
-    if r.len() != d + rules::groups(first) {
+    let groups = rules::groups(first);
+    if r.len() < groups {
+        return false;
+    }
+    if r.len() - groups != d {
         return false;
     }
     let q = rules::size(first);

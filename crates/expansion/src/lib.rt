@@ -1,6 +1,6 @@
 // The expansion of a packed record: what a check sends, by symbols.
 mod expansion;
-mod form;
+pub mod form;
 
 use field::Written;
 ghost use mathlib.Core.Path.{_≡_};

@@ -23,11 +23,7 @@ size-requires : tie.Need-size-requires
 size-requires c κs = search needs
 
 record-ok-requires : tie.Need-record-ok-requires
-record-ok-requires c κs =
-    let at-if1 = c .before in
-    let s = at-if1 .before .before .before .before .before in
-    let W : Weighed (s .args .first) (s .args .weights .now) = no-fault _ _ (sym (at-if1 .before .weights-fault .ensures) ∙ at-if1 .if1 .left) in
-    (W .few, W .accepted)
+record-ok-requires c κs = search needs
 
 returns-2 : tie.Need-returns-2
 returns-2 c =

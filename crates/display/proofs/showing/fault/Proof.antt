@@ -1,29 +1,48 @@
--- The tests by the number that an expansion without room says.
+-- The tests in the definition's order.
+use mathlib.Core.Path.{sym, _∙_}
 use borrow.Author.Needs.{needs}
-use Rattle.display.proofs.Refusals.{other-fault, short-fault, none-fault}
+use borrow.Author.Tests.{not-true, not-false}
+use Rattle.field.proofs.Weighed.{Weighed, no-fault}
+use Rattle.display.proofs.Refusals.{weight-fault, form-fault, short-fault, none-fault}
 use Rattle.display.proofs.showing.fault.Statement.{statement}
 use Rattle.display.proofs.showing.fault.Tie as tie
 
-form-fault-requires : tie.Need-form-fault-requires
-form-fault-requires c κs = search needs
+weights-fault-requires : tie.Need-weights-fault-requires
+weights-fault-requires c κs = search needs
 
 returns : tie.Need-returns
 returns c =
-    let a = c .before .before .before .before .args in
-    let k = c .before .form-fault in
-    other-fault (a .first) (a .weights .now) (a .bytes .now) (a .room) (k .result) (k .ensures) (c .if1 .taken)
+    let k = c .before in
+    let a = k .before .before .before .args in
+    weight-fault (a .first) (a .weights .now) (a .bytes .now) (a .room) (k .weights-fault .result) (k .weights-fault .ensures) (c .if1 .taken)
+
+record-ok-requires : tie.Need-record-ok-requires
+record-ok-requires c κs = search needs
 
 returns-2 : tie.Need-returns-2
 returns-2 c =
-    let a = c .before .before .before .before .before .args in
-    let k = c .before .before .form-fault in
-    short-fault (a .first) (a .weights .now) (a .bytes .now) (a .room) (k .result) (k .ensures) (c .before .if1 .left) (c .if2 .taken)
+    let o = c .before in
+    let k = o .before .before in
+    let a = k .before .before .before .args in
+    let W : Weighed (a .first) (a .weights .now) = no-fault _ _ (sym (k .weights-fault .ensures) ∙ o .before .if1 .left) in
+    form-fault (a .first) (a .weights .now) (a .bytes .now) (a .room) W (sym (o .record-ok .ensures) ∙ not-true _ (c .if2 .taken))
 
 returns-3 : tie.Need-returns-3
 returns-3 c =
-    let a = c .before .before .before .before .before .args in
-    let k = c .before .before .form-fault in
-    none-fault (a .first) (a .weights .now) (a .bytes .now) (a .room) (k .result) (k .ensures) (c .before .if1 .left) (c .if2 .left)
+    let o = c .before .before in
+    let k = o .before .before in
+    let a = k .before .before .before .args in
+    let W : Weighed (a .first) (a .weights .now) = no-fault _ _ (sym (k .weights-fault .ensures) ∙ o .before .if1 .left) in
+    short-fault (a .first) (a .weights .now) (a .bytes .now) (a .room) W (sym (o .record-ok .ensures) ∙ not-false _ (c .before .if2 .left)) (c .if3 .taken)
+
+returns-4 : tie.Need-returns-4
+returns-4 c =
+    let o = c .before .before in
+    let k = o .before .before in
+    let a = k .before .before .before .args in
+    let W : Weighed (a .first) (a .weights .now) = no-fault _ _ (sym (k .weights-fault .ensures) ∙ o .before .if1 .left) in
+    none-fault (a .first) (a .weights .now) (a .bytes .now) (a .room) W (sym (o .record-ok .ensures) ∙ not-false _ (c .before .if2 .left)) (c .if3 .left)
 
 pub fault-spec : {M : Type 1} → statement M
-fault-spec = tie.close (tie.spec form-fault-requires returns returns-2 returns-3)
+fault-spec =
+    tie.close (tie.spec weights-fault-requires returns record-ok-requires returns-2 returns-3 returns-4)

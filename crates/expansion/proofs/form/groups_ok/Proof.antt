@@ -29,7 +29,7 @@ room : (c : tie.In-loop Inv-loop μ-loop) → let a = c .before .before .before 
 room c =
     let start = c .before .before .before in
     let a = start .args in
-    group-room (a .d) (1 + 2 * a .k) (a .n) (c .before .loop .b) (length (a .r .now)) (omega arith) (start .pre .1 .1)
+    group-room (a .d) (1 + 2 * a .k) (a .n) (c .before .loop .b) (length (a .r .now)) (omega arith) (start .pre .1)
 
 loop-holds : tie.Need-loop-holds Inv-loop μ-loop
 loop-holds c = search needs
