@@ -21,7 +21,7 @@ use Rattle.codeline.specs.declared.answers.Numbers.{Numbers}
 use Rattle.codeline.specs.inner.Coding.{codeOf, Coded}
 use Rattle.codeline.specs.Answers.{headerNumbers}
 use Rattle.codeline.proofs.Answered.{header-refused}
-use Rattle.layered.specs.inner.Frames.{roomFaultOf}
+use Rattle.frame.specs.Answers.{roomFaultOf}
 use Rattle.layered.proofs.Decoded.{used-is}
 use Rattle.channels.specs.declared.service.Layout.{Layout}
 use Rattle.channels.specs.Channels.{results, refusing, roomFaultFor, under, channels}

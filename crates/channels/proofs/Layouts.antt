@@ -19,7 +19,7 @@ use Rattle.machine.specs.inner.Accepted.{GoodCode}
 use Rattle.machine.specs.inner.InRange.{Below, Ranged, Passable}
 use Rattle.machine.proofs.Ranges.{part-patch, below-take, below-drop, frame-ranged}
 use Rattle.codeline.specs.inner.Coding.{codeOf}
-use Rattle.layered.specs.inner.Frames.{frameFaultOf}
+use Rattle.frame.specs.Answers.{frameFaultOf}
 use Rattle.layered.specs.Answers.{ends}
 use Rattle.layered.specs.inner.Stages.{stageAfter, TestRoom}
 use Rattle.layered.specs.inner.Stages.{StepRoom as IterateRoom}

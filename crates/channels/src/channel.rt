@@ -1,7 +1,6 @@
 // One channel in its parts of the buffers: its load and its next iteration.
 use crate::service::Layout;
 use layered::answers::Stage;
-use layered::frame;
 use layered::stages;
 ghost use mathlib.Core.Path.{_≡_};
 ghost use mathlib.Core.List.{List};

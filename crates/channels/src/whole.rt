@@ -4,7 +4,6 @@ use crate::service;
 use crate::service::Layout;
 use codeline::answers::Header;
 use codeline::answers::Numbers;
-use layered::frame;
 ghost use mathlib.Core.Path.{_≡_};
 ghost use mathlib.Core.List.{List};
 ghost use Prim.Native.Nat.{ℕ};

@@ -15,6 +15,7 @@ use Rattle.trellis.proofs.Lists.{in-upTo, smallest-le}
 use Rattle.trellis.proofs.Loops.{tab-whole, length-even, block-more, block-end}
 use Rattle.machine.specs.CodeLine.{good, Code, columnOf, parse, numbersOf, frameFault}
 use Rattle.machine.specs.Combining.{bothCosts, combinedColumn, combinedTo, combineFault, combiningUnder, combining}
+use Rattle.machine.proofs.Faults.{combine-by}
 use Rattle.machine.proofs.Lists.{map-after}
 use Rattle.machine.proofs.Lines.{parse-good}
 use Rattle.machine.proofs.Ranges.{column-room, frame-fits}
@@ -24,7 +25,7 @@ use Rattle.codeline.specs.declared.answers.Numbers.{Numbers}
 use Rattle.codeline.specs.declared.answers.Header.the-variants.{Read as HeaderRead, Refused as HeaderRefused}
 use Rattle.codeline.specs.Answers.{headerNumbers}
 use Rattle.codeline.proofs.Answered.{Accepted, header-refused, header-read}
-use Rattle.layered.specs.inner.Frames.{frameFaultOf}
+use Rattle.frame.specs.Answers.{frameFaultOf}
 use Rattle.layered.proofs.Columns.{smallest-loop, upTo-tab, length-part}
 use Rattle.combiner.specs.inner.Columns.{leastBoth, headed}
 
@@ -91,8 +92,7 @@ module _ (byte n : ℕ) (f g : List ℕ) (room k : ℕ) (e : k ≡ frameFaultOf 
   first-is = e ∙ frame-fault-is byte n f
 
   pub first-fault : (k ≡ 0 → ⊥) → k ≡ combineFault C f g room
-  unfolding combineFault
-  first-fault h = first-is ∙ rw (ne-eqb (frameFault C f) 0 (λ z. h (first-is ∙ z)))
+  first-fault h = first-is ∙ rw (combine-by C f g room, ne-eqb (frameFault C f) 0 (λ z. h (first-is ∙ z)))
 
   module _ (z : k ≡ 0) (j : ℕ) (i : j ≡ frameFaultOf byte n g) where
     second-is : j ≡ frameFault C g
@@ -102,16 +102,13 @@ module _ (byte n : ℕ) (f g : List ℕ) (room k : ℕ) (e : k ≡ frameFaultOf 
     fits = sym first-is ∙ z
 
     pub second-fault : (j ≡ 0 → ⊥) → 23 ≡ combineFault C f g room
-    unfolding combineFault
-    second-fault h = simp (eq-eqb (frameFault C f) 0 fits, ne-eqb (frameFault C g) 0 (λ y. h (second-is ∙ y)))
+    second-fault h = rw (combine-by C f g room) (simp (eq-eqb (frameFault C f) 0 fits, ne-eqb (frameFault C g) 0 (λ y. h (second-is ∙ y))))
 
     pub short-fault : j ≡ 0 → room < length f → 2 ≡ combineFault C f g room
-    unfolding combineFault
-    short-fault y l = simp (eq-eqb (frameFault C f) 0 fits, eq-eqb (frameFault C g) 0 (sym second-is ∙ y), lt-ltb room (n * sizeOf byte) (omega (arith, frame-fits C f fits .0)))
+    short-fault y l = rw (combine-by C f g room) (simp (eq-eqb (frameFault C f) 0 fits, eq-eqb (frameFault C g) 0 (sym second-is ∙ y), lt-ltb room (n * sizeOf byte) (omega (arith, frame-fits C f fits .0))))
 
     pub no-fault : j ≡ 0 → length f ≤ room → 0 ≡ combineFault C f g room
-    unfolding combineFault
-    no-fault y l = simp (eq-eqb (frameFault C f) 0 fits, eq-eqb (frameFault C g) 0 (sym second-is ∙ y), le-ltb room (n * sizeOf byte) (omega (arith, frame-fits C f fits .0)))
+    no-fault y l = rw (combine-by C f g room) (simp (eq-eqb (frameFault C f) 0 fits, eq-eqb (frameFault C g) 0 (sym second-is ∙ y), le-ltb room (n * sizeOf byte) (omega (arith, frame-fits C f fits .0))))
 
 -- a call under such a code
 module _ (byte n : ℕ) (f g out : List ℕ) (k : ℕ) (e : k ≡ combineFault (headed byte n) f g (length out)) where

@@ -2,7 +2,6 @@
 use crate::columns;
 use codeline::answers::Numbers;
 use field::Written;
-use layered::frame;
 ghost use mathlib.Core.Path.{_≡_};
 ghost use Rattle.field.specs.Answers.{writtenReply};
 ghost use Rattle.machine.specs.CodeLine.{good};

@@ -1,37 +1,27 @@
--- An iteration's own tests: a turn of each loop, and what an expansion without room says of a record's form.
+-- The laws behind the tests of lent costs and records: a turn of each loop, and the tests in their order.
 use mathlib.Core.Path.{_≡_, sym, ap, _∙_}
-use mathlib.Core.Bool.{Bool, true, false, true≢false}
+use mathlib.Core.Bool.{Bool, true, false}
+use mathlib.Core.Logic.{_≢_}
 use mathlib.Core.List.{List}
-use Prim.Native.Nat.{ℕ, _+_, _-_, _*_, _≤_, _<_}
+use Prim.Native.Nat.{ℕ, _+_, _-_, _*_, _≤_, _<_, min}
 use native.Mathlib.Nat.{mul-le-mul, add-sub-cancel-left}
 use native.Mathlib.Numerals.{add-one}
 use native.Mathlib.Omega.{arith}
-use lib.Dec.{eqb}
-use lib.Pow.{pow-pos, pow-mono}
-use lib.ListN.{length, getD}
-use borrow.Author.Tests.{le-leb, lt-leb, le-ltb, lt-ltb, eq-eqb, ne-eqb}
+use lib.Dec.{eqb, leb}
+use lib.Pow.{pow-mono}
+use lib.ListN.{length, getD, length-take, length-drop}
+use borrow.Author.Tests.{le-leb, lt-leb, eq-eqb, ne-eqb}
 use Rattle.trellis.specs.Lists.{pick, upto, allTo, part}
-use Rattle.trellis.specs.Record.{groupLength, recordOk}
-use Rattle.trellis.specs.Rules.{firstOk, powerOf, sizeOf, ruleFor}
-use Rattle.trellis.proofs.Recurrence.{size-64}
-use Rattle.trellis.proofs.Rules.{first-power, most-few}
-use Rattle.trellis.specs.Reply.{Reply, accepted, refusal}
-use Rattle.expansion.specs.Answers.{expandReply}
+use Rattle.trellis.specs.Record.{groupLength, recordLength, recordOk}
+use Rattle.trellis.specs.Rules.{powerOf, sizeOf, ruleFor}
+use Rattle.trellis.proofs.Rules.{most-few}
 use Rattle.machine.specs.CodeLine.{zeroIn}
-use Rattle.machine.specs.inner.Tables.{edgesBefore, bytesBefore, tableAt}
+use Rattle.machine.specs.inner.Tables.{bytesBefore}
 use Rattle.machine.proofs.Lists.{all-not}
-use Rattle.layered.specs.inner.Updates.{Weighed}
-use Rattle.layered.specs.inner.Stages.{lengthAt, lowCost, costsIn, formedAt, recordsIn, resumeFault, FormRoom, StoreRoom}
-use Rattle.layered.proofs.Updates.{weights-pass}
+use Rattle.codeline.specs.declared.answers.Numbers.{Numbers}
+use Rattle.frame.specs.Answers.{lowCost, costsIn, formedAt, recordsIn, resumeFault}
 
--- a record has at most 441 bytes behind its shifts
-pub groups-few : (first : ℕ) → firstOk first ≡ true → groupLength (ruleFor first) * (sizeOf first - 1) ≤ 441
-groups-few first h =
-    let k : groupLength (ruleFor first) ≤ 7 = omega (arith, most-few first) in
-    let n : sizeOf first - 1 ≤ 63 = omega (arith, size-64 (powerOf first) (first-power first h .1)) in
-    mul-le-mul k n
-
--- and under any first byte at most 229,369
+-- what stands behind a record's shifts has at most 229,369 bytes under any first byte
 pub groups-small : (first : ℕ) → groupLength (ruleFor first) * (sizeOf first - 1) ≤ 229369
 groups-small first =
     let k : groupLength (ruleFor first) ≤ 7 = omega (arith, most-few first) in
@@ -58,82 +48,67 @@ low-more l i h e = rw (add-one i, e, le-leb (getD l i 0) 510 h)
 pub low-not : (l : List ℕ) (i n : ℕ) → i < n → 510 < getD l i 0 → allTo (lowCost l) n ≡ false
 low-not l i n k h = all-not (lowCost l) i n k (lt-leb (getD l i 0) 510 h)
 
--- the two tests of the costs
-module _ (q n : ℕ) (c : List ℕ) (low : Bool) (e : low ≡ allTo (lowCost c) (n * q)) where
+-- the three tests of the costs
+pub costs-few : (q n w : ℕ) (c : List ℕ) → w ≡ n * q → length c < w → false ≡ costsIn q n c
+unfolding costsIn
+costs-few q n w c e h = rw (lt-leb (n * q) (length c) (omega (arith, e)))
+
+module _ (q n w : ℕ) (c : List ℕ) (i : w ≡ n * q) (l : w ≤ length c) (low : Bool) (e : low ≡ allTo (lowCost c) w) where
+  there : leb (n * q) (length c) ≡ true
+  there = le-leb (n * q) (length c) (omega (arith, i))
+
+  costs-by : (b : Bool) → low ≡ b → allTo (lowCost c) (n * q) ≡ b
+  costs-by b h = rw (← i) (sym e ∙ h)
+
   pub costs-high : low ≡ false → false ≡ costsIn q n c
   unfolding costsIn
-  costs-high h = rw (← e, h)
+  costs-high h = rw (there, costs-by false h)
 
   pub costs-low : low ≡ true → (zeros : Bool) → zeros ≡ allTo (zeroIn q c) n → zeros ≡ costsIn q n c
   unfolding costsIn
-  costs-low h zeros o = o ∙ rw (← e, h)
+  costs-low h zeros o = o ∙ rw (there, costs-by true h)
 
 -- the records are tested but at t = 0
-pub records-none : (first : ℕ) (ds : List ℕ) (t : ℕ) (s : List ℕ) → t ≡ 0 → true ≡ recordsIn first ds t s
+pub records-none : (first : ℕ) (ds : List ℕ) (m t : ℕ) (s : List ℕ) → t ≡ 0 → true ≡ recordsIn first ds m t s
 unfolding recordsIn
-records-none first ds t s h = rw (eq-eqb t 0 h)
+records-none first ds m t s h = rw (eq-eqb t 0 h)
 
-pub records-some : (first : ℕ) (ds : List ℕ) (t : ℕ) (s : List ℕ) → (t ≡ 0 → ⊥) → (r : Bool) → r ≡ allTo (formedAt first ds s) (length ds) → r ≡ recordsIn first ds t s
+pub records-some : (first : ℕ) (ds : List ℕ) (m t : ℕ) (s : List ℕ) → (t ≡ 0 → ⊥) → (r : Bool) → r ≡ allTo (formedAt first ds s) m → r ≡ recordsIn first ds m t s
 unfolding recordsIn
-records-some first ds t s h r o = o ∙ rw (ne-eqb t 0 h)
+records-some first ds m t s h r o = o ∙ rw (ne-eqb t 0 h)
 
 -- the tests' order
-module _ (first n q t : ℕ) (ds c s : List ℕ) (i : q ≡ sizeOf first) (a : Bool) (e : a ≡ costsIn q n c) where
-  pub fault-costs : a ≡ false → 13 ≡ resumeFault first n ds t c s
+module _ (k : Numbers) (ds c s : List ℕ) (n q t : ℕ) (N : n ≡ k .columns) (i : q ≡ sizeOf (k .first)) (a : Bool) (e : a ≡ costsIn q n c) where
+  pub fault-costs : a ≡ false → 13 ≡ resumeFault k ds t c s
   unfolding resumeFault
-  fault-costs h = rw (← i, ← e, h)
+  fault-costs h = rw (← i, ← N, ← e, h)
 
-  pub fault-records : a ≡ true → (b : Bool) → b ≡ recordsIn first ds t s → pick b 0 16 ≡ resumeFault first n ds t c s
+  pub fault-records : a ≡ true → (m : ℕ) → m ≡ min (k .checks) (length ds) → (b : Bool) → b ≡ recordsIn (k .first) ds m t s → pick b 0 16 ≡ resumeFault k ds t c s
   unfolding resumeFault
-  fault-records h b o = rw (← i, ← e, h, o)
+  fault-records h m j b o = rw (← i, ← N, ← e, h, ← j, o)
 
-module _ (first : ℕ) (ws r out : List ℕ) (W : Weighed first ws) (short : length out ≡ 1) where
-  reply-is : expandReply first ws r out ≡ pick (recordOk (ruleFor first) (length ws) r) (refusal 2) (refusal 16)
-  unfolding expandReply
-  reply-is =
-      let room : 2 * 1 ≤ length ws * sizeOf first = mul-le-mul (W .two) (pow-pos (powerOf first)) in
-      rw (W .accepted, le-ltb (length ws) 2 (W .two), le-ltb 32 (length ws) (W .few), weights-pass first ws W, lt-ltb (length out) (length ws * sizeOf first) (omega arith))
+-- a turn of the loop over the checks, at the place that it carries
+module _ (first : ℕ) (ds s : List ℕ) (count m place d n groups : ℕ) (h : m < count) (b : place ≡ bytesBefore first ds m) (i : d ≡ getD ds m 0) (j : groups ≡ groupLength (ruleFor first) * (sizeOf first - 1)) (l : n ≡ d + groups) where
+  record-end : n ≡ recordLength (ruleFor first) (getD ds m 0)
+  record-end = rw (l, j, i)
 
-  pub never-written : (n : ℕ) → accepted n ≡ expandReply first ws r out → ⊥
-  never-written n e = go (recordOk (ruleFor first) (length ws) r) (e ∙ reply-is)
-    where
-      go : (b : Bool) → accepted n ≡ pick b (refusal 2) (refusal 16) → ⊥
-      go true h = true≢false (sym (ap (λ (a : Reply). a .refused) h))
-      go false h = true≢false (sym (ap (λ (a : Reply). a .refused) h))
+  -- a record that the store does not hold whole has another length
+  pub form-short : length s - place < n → allTo (formedAt first ds s) count ≡ false
+  unfolding recordOk
+  form-short u =
+      let z : length (part s (bytesBefore first ds m) (recordLength (ruleFor first) (getD ds m 0))) ≢ recordLength (ruleFor first) (getD ds m 0) =
+          λ e. let a : length (part s place n) ≡ n = rw (record-end, b) e in let c : length (part s place n) ≡ min n (length s - place) = simp (length-take, length-drop) in omega (arith, a, c) in
+      all-not (formedAt first ds s) m count h (rw (ne-eqb _ _ z))
 
-  pub form-said : (k : ℕ) → refusal k ≡ expandReply first ws r out → eqb k 2 ≡ recordOk (ruleFor first) (length ws) r
-  form-said k e = go (recordOk (ruleFor first) (length ws) r) (e ∙ reply-is)
-    where
-      go : (b : Bool) → refusal k ≡ pick b (refusal 2) (refusal 16) → eqb k 2 ≡ b
-      go true h = ap (λ (a : Reply). eqb (a .number) 2) h
-      go false h = ap (λ (a : Reply). eqb (a .number) 2) h
+  record-is : part s place (place + n - place) ≡ part s (bytesBefore first ds m) (recordLength (ruleFor first) (getD ds m 0))
+  record-is = let v : place + n - place ≡ n = add-sub-cancel-left place n in rw (v, record-end, b)
 
--- a turn of the loop over the checks, at the places that it carries
-module _ (first : ℕ) (ds ws s : List ℕ) (R : StoreRoom first ds ws s) (m at place d groups : ℕ) (h : m < length ds) (a : at ≡ edgesBefore ds m) (b : place ≡ bytesBefore first ds m) (i : d ≡ getD ds m 0) (j : groups ≡ groupLength (ruleFor first) * (sizeOf first - 1)) where
-  F : FormRoom first ds ws s m
-  F = R .each m h
-
-  record-end : d + groups ≡ lengthAt first ds m
-  record-end = rw (j, i)
-
-  pub form-places : (at + d ≤ length ws) × (place + (d + groups) ≤ length s)
-  form-places = (rw (a, i) (F .weights), rw (b, record-end) (F .store))
-
-  weights-are : part ws at (at + d - at) ≡ tableAt ds ws m
-  weights-are = let u : at + d - at ≡ d = add-sub-cancel-left at d in rw (u, a, i)
-
-  record-is : part s place (place + (d + groups) - place) ≡ part s (bytesBefore first ds m) (lengthAt first ds m)
-  record-is = let v : place + (d + groups) - place ≡ d + groups = add-sub-cancel-left place (d + groups) in rw (v, record-end, b)
-
-  pub form-asks : Weighed first (part ws at (at + d - at))
-  form-asks = rw weights-are (F .weighed)
-
-  module _ (r : Bool) (o : r ≡ recordOk (ruleFor first) (length (part ws at (at + d - at))) (part s place (place + (d + groups) - place))) where
+  module _ (r : Bool) (o : r ≡ recordOk (ruleFor first) d (part s place (place + n - place))) where
     formed-is : r ≡ formedAt first ds s m
-    formed-is = o ∙ rw (weights-are, record-is, F .degree)
+    formed-is = o ∙ rw (record-is, i)
 
     pub form-more : r ≡ true → allTo (formedAt first ds s) m ≡ true → allTo (formedAt first ds s) (m + 1) ≡ true
     form-more t k = rw (add-one m, k) (sym formed-is ∙ t)
 
-    pub form-not : r ≡ false → allTo (formedAt first ds s) (length ds) ≡ false
-    form-not t = all-not (formedAt first ds s) m (length ds) h (sym formed-is ∙ t)
+    pub form-not : r ≡ false → allTo (formedAt first ds s) count ≡ false
+    form-not t = all-not (formedAt first ds s) m count h (sym formed-is ∙ t)

@@ -1,29 +1,14 @@
-// A frame under a code: its tests, those of the buffers, and its costs in the cost buffer.
+// A frame under a code: its tests, those of the buffers, its costs in the cost buffer, and the tests of costs and records from which an
+// iteration goes on.
+mod columns;
+mod stored;
+
 use codeline::answers::Numbers;
 ghost use mathlib.Core.Path.{_≡_};
-ghost use Prim.Native.Nat.{_*_, _≤_, min};
+ghost use Prim.Native.Nat.{min};
 ghost use lib.ListN.{length};
-ghost use Rattle.trellis.specs.Lists.{allTo};
-ghost use Rattle.machine.specs.CodeLine.{zeroIn};
 ghost use Rattle.machine.specs.inner.Tables.{bytesBefore};
-ghost use Rattle.layered.specs.inner.Frames.{frameFaultOf, roomFaultOf, faultOf, copiedTo};
-
-// Whether each of n columns of q costs has a cost of 0.
-fn zeros_in(frame: &[u8], q: usize, n: usize) -> bool
-    requires { ⌜ n * q ≤ length (now frame) ⌝ }
-    ensures { λ r. ⌜ r ≡ allTo (zeroIn q (now (frame .entry))) n ⌝ }
-{
-    let mut c = 0;
-    while c < n {
-        let a = c * q;
-        let e = a + q;
-        if checknode::decide(&frame[a..e]).symbol == q {
-            return false;
-        }
-        c += 1;
-    }
-    true
-}
+ghost use Rattle.frame.specs.Answers.{frameFaultOf, roomFaultOf, faultOf, copiedTo, resumeFault};
 
 // "12, cost count wrong; 13, a column without a cost of 0"; 0 for none.
 pub fn frame_fault(numbers: Numbers, frame: &[u8]) -> u8
@@ -34,7 +19,7 @@ pub fn frame_fault(numbers: Numbers, frame: &[u8]) -> u8
     if frame.len() != n * q {
         return 12;
     }
-    if zeros_in(frame, q, n) {
+    if columns::zeros_u8(frame, q, n) {
         return 0;
     }
     13
@@ -128,4 +113,21 @@ pub fn copy(frame: &[u8], costs: &mut [u16])
         costs[i] = scalar::u8_to_u16(frame[i]);
         i += 1;
     }
+}
+
+// "then 13 for a cost above 510, or a column without a 0, in the cost buffer's used part, then, if t is not 0, 16 for each stored record";
+// 0 for none.
+pub fn resume_fault(numbers: Numbers, t: u8, degrees: &[u8], costs: &[u16], store: &[u8]) -> u8
+    ensures { λ r. ⌜ r ≡ resumeFault numbers (now (degrees .entry)) t (now (costs .entry)) (now (store .entry)) ⌝ }
+{
+    let n = scalar::u16_to_usize(numbers.columns);
+    let q = rules::size(numbers.first);
+    if !stored::costs_ok(costs, q, n) {
+        return 13;
+    }
+    let count = scalar::min_usize(scalar::u8_to_usize(numbers.checks), degrees.len());
+    if !stored::records_ok(numbers.first, t, degrees, count, store) {
+        return 16;
+    }
+    0
 }

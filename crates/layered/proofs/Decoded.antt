@@ -15,11 +15,14 @@ use Rattle.trellis.specs.Check.{firstZero}
 use Rattle.trellis.specs.Rules.{sizeOf}
 use Rattle.trellis.proofs.Margins.{first-most}
 use Rattle.trellis.proofs.Loops.{tab-whole, length-tab, getD-tab}
+use Rattle.trellis.specs.Refusals.{Test, faultBy}
+use Rattle.trellis.proofs.Refusals.{then-ends, by-number}
 use Rattle.trellis.specs.Reply.{Reply, refusal}
 use Rattle.machine.specs.CodeLine.{Read, good, bad, Code, numbersOf, parse, size, columnOf, zeroIn, frameFault}
 use Rattle.machine.specs.Machine.{Status, symbols, margins, run, place, used}
 use Rattle.machine.specs.Lent.{Lent, lent, Ended, ended, goLent}
-use Rattle.machine.specs.Decoding.{Buffers, After, lending, outcome, holding, storeOf, roomFault as faultOfRoom, admittedUnder, admitted, decodingUnder, decoding, Leaves, Decodes, Room}
+use Rattle.machine.specs.Decoding.{Buffers, After, lending, outcome, holding, storeOf, decodeTests, admittedUnder, admitted, decodingUnder, decoding, Leaves, Decodes, Room}
+use Rattle.machine.specs.inner.Faults.{roomFault}
 use Rattle.machine.specs.inner.Tables.{bytesBefore}
 use Rattle.machine.proofs.Ranges.{frame-ranged}
 use Rattle.machine.proofs.Buffers.{room-of}
@@ -37,90 +40,29 @@ use Rattle.layered.specs.declared.answers.Answer.the-variants.{Decoded}
 use Rattle.layered.specs.Answers.{answerReply}
 use Rattle.machine.specs.inner.InRange.{Below}
 use Rattle.layered.specs.inner.Iterations.{endedIn, RunRoom}
-use Rattle.layered.specs.inner.Frames.{frameFaultOf, roomFaultOf, faultOf, copiedTo, decodingOf}
+use Rattle.layered.specs.inner.Calls.{decodingOf}
+use Rattle.frame.specs.Answers.{frameFaultOf, faultOf}
+use Rattle.frame.proofs.Frames.{decode-numbered, decode-parts, frame-counted}
 use Rattle.layered.proofs.Columns.{length-part}
 use Rattle.machine.proofs.Lists.{all-not}
 use Rattle.layered.proofs.Runs.{checks-count}
 
--- the frame copied whole
-list-tab : (l : List ℕ) → tab (λ k. getD l k 0) (length l) ≡ l
-list-tab l = ext-getD 0 (tab (λ k. getD l k 0) (length l)) l (length-tab _ (length l)) (λ i h. getD-tab (λ k. getD l k 0) (length l) i (omega (arith, length-tab (λ k. getD l k 0) (length l))))
-
-pub copied : (f d out : List ℕ) (i : ℕ) → length f ≡ length d → i ≡ length d → out ≡ tab (λ k. getD f k 0) i ++ drop i d → out ≡ f
-copied f d out i e k o = o ∙ rw k (tab-whole (λ k. getD f k 0) d ∙ rw (← e) (list-tab f))
-
--- nothing copied, or the frame
-pub copied-none : (f c : List ℕ) → (length f ≡ length c → ⊥) → c ≡ copiedTo f c
-copied-none f c h = rw (ne-eqb (length f) (length c) h)
-
-pub copied-frame : (f c r : List ℕ) → length f ≡ length c → r ≡ f → r ≡ copiedTo f c
-copied-frame f c r h e = e ∙ rw (eq-eqb (length f) (length c) h)
-
-pub copied-is : (f c r : List ℕ) → length f ≡ length c → r ≡ copiedTo f c → r ≡ f
-copied-is f c r h e = e ∙ rw (eq-eqb (length f) (length c) h)
-
--- a turn of the loop over the frame's columns
-module _ (q n c z : ℕ) (f : List ℕ) (room : c * q + q ≤ length f) (e : z ≡ firstZero (part f (c * q) (c * q + q - c * q))) where
-  whole : part f (c * q) (c * q + q - c * q) ≡ columnOf q f c
-  whole = ap (λ k. part f (c * q) k) (add-sub-cancel-left (c * q) q)
-
-  pub zeros-more : (z ≡ q → ⊥) → allTo (zeroIn q f) c ≡ true → allTo (zeroIn q f) (c + 1) ≡ true
-  zeros-more h o =
-      let i : z ≡ firstZero (columnOf q f c) = e ∙ ap firstZero whole in
-      let k : length (columnOf q f c) ≡ q = length-part f (c * q) q room in
-      let j : firstZero (columnOf q f c) < q = omega (arith, first-most (columnOf q f c)) in
-      rw (add-one c, o) (lt-ltb (firstZero (columnOf q f c)) q j)
-
-  pub zeros-not : z ≡ q → c < n → allTo (zeroIn q f) n ≡ false
-  zeros-not h l = all-not (zeroIn q f) c n l (rw (← whole, ← e) (le-ltb z q (omega arith)))
-
--- the frame's tests
-module _ (first n q : ℕ) (f : List ℕ) (e : q ≡ sizeOf first) where
-  pub fault-count : (length f ≡ n * q → ⊥) → 12 ≡ frameFaultOf first n f
-  unfolding frameFaultOf
-  fault-count h = rw (ne-eqb (length f) (n * sizeOf first) (λ k. h (k ∙ ap (λ y. n * y) (sym e))))
-
-  pub fault-zeros : (b : Bool) → length f ≡ n * q → b ≡ allTo (zeroIn q f) n → pick b 0 13 ≡ frameFaultOf first n f
-  unfolding frameFaultOf
-  fault-zeros b h o = rw (eq-eqb (length f) (n * sizeOf first) (h ∙ ap (λ y. n * y) e), ← e, ← o)
-
-frame-counted : (first n : ℕ) (f : List ℕ) → frameFaultOf first n f ≡ 0 → length f ≡ n * sizeOf first
-unfolding frameFaultOf
-frame-counted first n f h = go (eqb (length f) (n * sizeOf first)) refl (allTo (zeroIn (sizeOf first) f) n) h
-  where
-    go : (a : Bool) → eqb (length f) (n * sizeOf first) ≡ a → (b : Bool) → _≡_ {A = ℕ} (pick a (pick b 0 13) 12) 0 → length f ≡ n * sizeOf first
-    go true e b h = eqb-true _ _ e
-    go false e b h = absurd (omega arith)
-
--- all tests after the code
-module _ (k : Numbers) (ds f : List ℕ) (y c s v r : ℕ) (e : r ≡ frameFaultOf (k .first) (k .columns) f) where
-  pub fault-frame : (r ≡ 0 → ⊥) → r ≡ faultOf k ds f y c s v
-  unfolding faultOf
-  fault-frame h = e ∙ rw (ne-eqb (frameFaultOf (k .first) (k .columns) f) 0 (λ z. h (e ∙ z)))
-
-  pub fault-room : r ≡ 0 → (n w u x : ℕ) → n ≡ k .columns → w ≡ length f → u ≡ bytesBefore (k .first) ds (min (k .checks) (length ds))
-      → x ≡ roomFaultOf n w u y c s v → x ≡ faultOf k ds f y c s v
-  unfolding faultOf
-  fault-room h n w u x i j l o =
-      o ∙ rw (i, j, l, frame-counted (k .first) (k .columns) f (sym e ∙ h), eq-eqb (frameFaultOf (k .first) (k .columns) f) 0 (sym e ∙ h))
-
 -- what decoding's refusals lead to, by the number of the refusal, 0 for none
 module _ (C : Code) (f : List ℕ) (b : Buffers) where
+  abbrev tests : List Test
+  tests = decodeTests (size C) (C .columns) (used C) f (length (b .symbols)) (length (b .costs)) (length (b .store)) (length (b .margins))
+
   abbrev pub faultIn : ℕ
-  faultIn = pick (eqb (frameFault C f) 0) (faultOfRoom C b) (frameFault C f)
+  faultIn = faultBy tests
 
   pub by-fault : {A : Type 0} (h : Read Code → A) → h (admittedUnder (good C) f b) ≡ pick (eqb faultIn 0) (h (good C)) (h (bad faultIn))
-  by-fault {A} h = go (eqb (frameFault C f) 0) refl
-    where
-      picked : (i : Bool) (k : ℕ) → h (pick i (good C) (bad k)) ≡ pick i (h (good C)) (h (bad k))
-      picked true k = refl
-      picked false k = refl
+  by-fault {A} h =
+      then-ends h tests bad (good C)
+      ∙ by-number tests (decode-numbered (size C) (C .columns) (used C) f (length (b .symbols)) (length (b .costs)) (length (b .store)) (length (b .margins))) (λ k. h (bad k)) (h (good C))
 
-      go : (i : Bool) → eqb (frameFault C f) 0 ≡ i
-          → h (pick i (pick (eqb (faultOfRoom C b) 0) (good C) (bad (faultOfRoom C b))) (bad (frameFault C f)))
-          ≡ pick (eqb (pick i (faultOfRoom C b) (frameFault C f)) 0) (h (good C)) (h (bad (pick i (faultOfRoom C b) (frameFault C f))))
-      go true e = picked (eqb (faultOfRoom C b) 0) (faultOfRoom C b)
-      go false e = rw e
+  fault-parts : faultIn ≡ pick (eqb (frameFault C f) 0) (roomFault C b) (frameFault C f)
+  unfolding frameFault roomFault
+  fault-parts = decode-parts (size C) (C .columns) (used C) f (length (b .symbols)) (length (b .costs)) (length (b .store)) (length (b .margins))
 
 -- no number but 0 in two steps
 split-fault : (x r : ℕ) → pick (eqb x 0) r x ≡ 0 → (x ≡ 0) × (r ≡ 0)
@@ -157,7 +99,7 @@ module _ (k : Numbers) (ds cs ws : List ℕ) (T : Coded k ds cs ws) (n : ℕ) (N
     b = lending y c s v
 
     pub fault-is : r ≡ faultIn C f b
-    unfolding faultOf frameFaultOf frameFault roomFaultOf faultOfRoom
+    unfolding faultOf
     fault-is = e ∙ rw used-is
 
     -- a refusal, of decoding or of a call that refuses as decoding does
@@ -168,8 +110,8 @@ module _ (k : Numbers) (ds cs ws : List ℕ) (T : Coded k ds cs ws) (n : ℕ) (N
 
     -- no refusal
     module _ (z : r ≡ 0) where
-      pub none : (frameFault C f ≡ 0) × (faultOfRoom C b ≡ 0)
-      none = split-fault (frameFault C f) _ (sym fault-is ∙ z)
+      pub none : (frameFault C f ≡ 0) × (roomFault C b ≡ 0)
+      none = split-fault (frameFault C f) _ (sym (fault-parts C f b) ∙ sym fault-is ∙ z)
 
       pub rooms : Room C b
       rooms = room-of C b (none .1)

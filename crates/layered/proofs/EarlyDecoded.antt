@@ -20,7 +20,8 @@ use Rattle.layered.specs.declared.answers.Stopped.{Stopped}
 use Rattle.layered.specs.declared.answers.Stopped.the-variants.{Found, NotFound}
 use Rattle.layered.specs.declared.answers.EarlyAnswer.the-variants.{Decoded}
 use Rattle.layered.specs.Answers.{earlyReply}
-use Rattle.layered.specs.inner.Frames.{faultOf, earlyOf}
+use Rattle.frame.specs.Answers.{faultOf}
+use Rattle.layered.specs.inner.Calls.{earlyOf}
 use Rattle.layered.specs.inner.Early.{haltedIn}
 use Rattle.layered.proofs.Runs.{checks-count}
 use Rattle.layered.proofs.Decoded.{rooms, holds-leaves, copied-front, copied-rest, refused-calls, said-calls}

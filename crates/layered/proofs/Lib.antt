@@ -7,7 +7,6 @@ pub mod Places
 pub mod Runs
 pub mod Retests
 pub mod Advances
-pub mod Resuming
 pub mod Decoded
 pub mod EarlyDecoded
 pub mod Steps

@@ -3,12 +3,11 @@
 use mathlib.Core.Path.{_≡_, refl, sym, ap, ap₂, _∙_}
 use mathlib.Core.Bool.{Bool, true, false, _&&_, _||_}
 use mathlib.Core.List.{List, _++_}
-use Prim.Native.Nat.{ℕ, zero, suc, _+_, _*_, _≤_, _<_}
+use Prim.Native.Nat.{ℕ, zero, suc, _+_, _*_, _≤_, _<_, min}
 use native.Mathlib.Omega.{arith}
 use lib.Dec.{eqb, leb}
-use borrow.Author.Tests.{eq-eqb, ne-eqb, lt-leb}
+use borrow.Author.Tests.{eq-eqb, ne-eqb, lt-leb, le-leb}
 use lib.ListN.{length, getD, take, drop}
-use lib.Seq.{getD-take, length-take-le}
 use Rattle.trellis.specs.Lists.{pick, allTo, part}
 use Rattle.trellis.specs.Rules.{sizeOf}
 use Rattle.machine.specs.CodeLine.{Read, good, bad, Code, numbersOf, parse, size, check, edgeAt}
@@ -19,8 +18,7 @@ use Rattle.machine.specs.Moments.{Stage as Ends, moment, Moves, loadingUnder, l
 use Rattle.machine.specs.inner.Tables.{edgesBefore, bytesBefore, tableAt}
 use Rattle.machine.specs.inner.InRange.{Below}
 use Rattle.machine.proofs.Ranges.{frame-ranged}
-use Rattle.machine.proofs.Lent.{place-suc, place-mono}
-use Rattle.machine.proofs.InTables.{in-weights, weights-length, weight-part, degree-is, place-is, before-take, bytes-take}
+use Rattle.machine.proofs.InTables.{degree-is, place-is}
 use Rattle.machine.proofs.Tested.{tested}
 use Rattle.codeline.specs.declared.answers.Header.{Header}
 use Rattle.codeline.specs.declared.answers.Header.the-variants.{Refused as HeaderRefused}
@@ -29,9 +27,9 @@ use Rattle.codeline.specs.Answers.{numbersIn, headerNumbers}
 use Rattle.codeline.specs.inner.Coding.{codeOf, Coded}
 use Rattle.codeline.proofs.Answered.{header-refused}
 use Rattle.layered.specs.inner.Iterations.{Running}
-use Rattle.layered.specs.inner.Frames.{faultOf}
+use Rattle.frame.specs.Answers.{faultOf, costsIn, formedAt, recordsIn, resumeFault}
 use Rattle.layered.specs.Answers.{ends}
-use Rattle.layered.specs.inner.Stages.{stageAfter, loadingOf, iteratingOf, costsIn, formedAt, recordsIn, resumeFault, FormRoom, StoreRoom, ResumeRoom, TestRoom, StepRoom}
+use Rattle.layered.specs.inner.Stages.{stageAfter, loadingOf, iteratingOf, TestRoom, StepRoom}
 use Rattle.layered.proofs.Runs.{checks-count, iteration-running, test-room}
 use Rattle.layered.proofs.Decoded.{by-fault, holds-then, fault-is, none, rooms, frame-length, copied-front}
 
@@ -61,7 +59,7 @@ pub after-room : (k : Numbers) (ds cs ws P s z v A S : List ℕ) (start : Bool) 
 after-room k ds cs ws P s z v A S start R P′ s′ z′ v′ e i j =
     tested-room k ds cs ws P′ s′ false (iteration-running k ds cs ws P s start (R .iterate .running) P′ s′ e) z′ v′ (i ∙ R .symbols) (j ∙ R .margins)
 
-module _ (k : Numbers) (ds cs ws : List ℕ) (T : Coded k ds cs ws) (n m : ℕ) (N : n ≡ k .columns) (M : m ≡ k .checks) where
+module _ (k : Numbers) (ds cs ws : List ℕ) (T : Coded k ds cs ws) (n : ℕ) (N : n ≡ k .columns) where
   abbrev C : Code
   C = codeOf k ds cs ws
 
@@ -71,84 +69,38 @@ module _ (k : Numbers) (ds cs ws : List ℕ) (T : Coded k ds cs ws) (n m : ℕ) 
   abbrev hw : edgesBefore ds (k .checks) ≤ length ws
   hw = T .for-weights
 
-  abbrev own : List ℕ
-  own = take m ds
-
-  -- the degrees, and where a check stands by them
-  module _ (j : ℕ) (h : j < m) where
-    in-code : j < k .checks
-    in-code = omega (arith, M)
-
-    own-degree : getD own j 0 ≡ length (check C j)
-    own-degree = getD-take m ds j 0 h ∙ sym (degree-is (numbersIn k) ds cs ws hc hw j in-code)
-
-    own-table : tableAt own ws j ≡ tableAt ds ws j
-    own-table = ap₂ (part ws) (before-take ds m j (omega arith)) (getD-take m ds j 0 h)
-
-    own-byte : bytesBefore (k .first) own j ≡ place C j
-    own-byte = bytes-take (k .first) ds m j (omega arith) ∙ place-is (numbersIn k) ds cs ws hc hw j (omega (arith, M))
-
-    in-checks : j < length (C .checks)
-    in-checks = omega (arith, M, checks-count k ds cs ws T)
-
-  -- every check's record may be tested
-  own-length : length own ≡ m
-  own-length = length-take-le m ds (omega (arith, T .for-degrees, M))
-
-  pub form-room : (s : List ℕ) → used C ≤ length s → StoreRoom (k .first) own ws s
-  form-room s room = record { accepted = T .good .first; each = at-check }
-    where
-      at-check : (j : ℕ) → j < length own → FormRoom (k .first) own ws s j
-      at-check j l =
-          let h : j < m = omega (arith, own-length) in
-          let G = T .good .each-check j (in-checks j h) in
-          let d : length (check C j) ≡ getD ds j 0 = degree-is (numbersIn k) ds cs ws hc hw j (in-code j h) in
-          let w : length (tableAt own ws j) ≡ length (check C j) = ap length (own-table j h) ∙ weights-length (numbersIn k) ds cs ws hc hw j (in-code j h) ∙ sym d in
-          let t : (i : ℕ) → getD (tableAt own ws j) i 0 ≡ edgeAt (check C j) i .weight = λ i. ap (λ l. getD l i 0) (own-table j h) ∙ weight-part (numbersIn k) ds cs ws hc hw j (in-code j h) i in
-          record {
-            weights = rw (before-take ds m j (omega arith), own-degree j h, d) (in-weights (numbersIn k) ds cs ws hc hw j (in-code j h));
-            store = rw (own-byte j h, own-degree j h) (omega (arith, place-suc C j, place-mono C (suc j) (length (C .checks)) (in-checks j h)));
-            weighed = record {
-              accepted = T .good .first;
-              two = omega (arith, G .low, w);
-              few = omega (arith, G .high, w);
-              some = λ i u. rw (t i) (G .each-edge i (omega (arith, w)) .weight-some);
-              small = λ i u. rw (t i) (G .each-edge i (omega (arith, w)) .weight-small);
-            };
-            degree = w ∙ sym (own-degree j h);
-          }
-
   -- the tests are the definition's
-  costs-there : (c : List ℕ) → costsIn (sizeOf (k .first)) n c ≡ costsOk C c
+  costs-there : (c : List ℕ) → k .columns * sizeOf (k .first) ≤ length c → costsIn (sizeOf (k .first)) (k .columns) c ≡ costsOk C c
   unfolding costsIn costsOk
-  costs-there c = rw N
+  costs-there c h = rw (le-leb (k .columns * sizeOf (k .first)) (length c) h)
 
-  store-there : (s : List ℕ) → allTo (formedAt (k .first) own s) (length own) ≡ storeOk C s
-  unfolding storeOk
-  store-there s =
-      ap (allTo (formedAt (k .first) own s)) (own-length ∙ M ∙ sym (checks-count k ds cs ws T))
+  all-checks : min (k .checks) (length ds) ≡ length (C .checks)
+  all-checks = omega (arith, T .for-degrees, checks-count k ds cs ws T)
+
+  records-there : (t : ℕ) (s : List ℕ) → recordsIn (k .first) ds (min (k .checks) (length ds)) t s ≡ (eqb t 0 || storeOk C s)
+  unfolding recordsIn storeOk
+  records-there t s =
+      ap (λ b. eqb t 0 || b)
+      (ap (allTo (formedAt (k .first) ds s)) all-checks
       ∙ all-ext (length (C .checks)) _ _ (λ j h.
-      let i : j < m = omega (arith, M, checks-count k ds cs ws T) in
-      rw (own-degree j i, own-byte j i))
-
-  records-there : (t : ℕ) (s : List ℕ) → recordsIn (k .first) own t s ≡ (eqb t 0 || storeOk C s)
-  unfolding recordsIn
-  records-there t s = ap (λ b. eqb t 0 || b) (store-there s)
+      let i : j < k .checks = omega (arith, checks-count k ds cs ws T) in
+      rw (degree-is (numbersIn k) ds cs ws hc hw j i, place-is (numbersIn k) ds cs ws hc hw j (omega arith))))
 
   -- by the number of the test that fails, 0 for none
-  resumes : (t : ℕ) (b : Buffers) (r : ℕ) → r ≡ resumeFault (k .first) n own t (b .costs) (b .store)
+  resumes : (t : ℕ) (b : Buffers) → k .columns * sizeOf (k .first) ≤ length (b .costs) → (r : ℕ) → r ≡ resumeFault k ds t (b .costs) (b .store)
       → resumableUnder (good C) t b ≡ pick (eqb r 0) (good C) (bad r)
   unfolding resumeFault
-  resumes t b r e = rw (e, costs-there (b .costs), records-there t (b .store)) (go (costsOk C (b .costs)) (eqb t 0 || storeOk C (b .store)))
+  resumes t b l r e = rw (e, costs-there (b .costs) l, records-there t (b .store)) (go (costsOk C (b .costs)) (eqb t 0 || storeOk C (b .store)))
     where
       go : (i j : Bool) → pick i (pick j (good C) (bad 16)) (bad 13) ≡ pick (eqb (pick i (pick j 0 16) 13) 0) (good C) (bad (pick i (pick j 0 16) 13))
       go true true = refl
       go true false = refl
       go false j = refl
 
-  passes : (t : ℕ) (b : Buffers) → resumeFault (k .first) n own t (b .costs) (b .store) ≡ 0 → (costsOk C (b .costs) ≡ true) × ((eqb t 0 || storeOk C (b .store)) ≡ true)
+  passes : (t : ℕ) (b : Buffers) → k .columns * sizeOf (k .first) ≤ length (b .costs) → resumeFault k ds t (b .costs) (b .store) ≡ 0 → (costsOk C (b .costs) ≡ true) × ((eqb t 0 || storeOk C (b .store)) ≡ true)
   unfolding resumeFault
-  passes t b h = go (costsIn (sizeOf (k .first)) n (b .costs)) (costs-there (b .costs)) (recordsIn (k .first) own t (b .store)) (records-there t (b .store)) h
+  passes t b l h =
+      go (costsIn (sizeOf (k .first)) (k .columns) (b .costs)) (costs-there (b .costs) l) (recordsIn (k .first) ds (min (k .checks) (length ds)) t (b .store)) (records-there t (b .store)) h
     where
       go : (i : Bool) → i ≡ costsOk C (b .costs) → (j : Bool) → j ≡ (eqb t 0 || storeOk C (b .store)) → _≡_ {A = ℕ} (pick i (pick j 0 16) 13) 0
           → (costsOk C (b .costs) ≡ true) × ((eqb t 0 || storeOk C (b .store)) ≡ true)
@@ -207,27 +159,19 @@ module _ (k : Numbers) (ds cs ws : List ℕ) (T : Coded k ds cs ws) (n m : ℕ) 
             rw i (holds-then k ds cs ws T n N f s s y c v x x′ (length f) width (p ∙ ap (symbols C) front) (p′ ∙ ap (margins C) front)) in
             rw (a, h) record { staged = w ∙ rw (t, u); symbols-then = refl; costs-then = refl; store-then = refl; margins-then = refl }
 
-      pub resume-room : ResumeRoom (k .first) n own ws c s
-      resume-room =
-          record {
-            columns = omega (arith, T .good .columns-high);
-            costs = rw N (R .for-costs);
-            store = form-room s (R .for-store);
-          }
-
-      module _ (t j : ℕ) (o : j ≡ resumeFault (k .first) n own t c s) where
+      module _ (t j : ℕ) (o : j ≡ resumeFault k ds t c s) where
         -- refused by 13 or 16
         pub resume-refused : (j ≡ 0 → ⊥) → Moves (iteratingOf C f t b) (ends 4 j) b
         resume-refused h =
             let x : iteratingOf C f t b ≡ moment 4 j 0 b =
-            admits-by (λ r. iteratingUnder (resumableUnder r t b) t b) ∙ rw (eq-eqb r 0 z) (ap (λ r. iteratingUnder r t b) (resumes t b j o) ∙ rw (ne-eqb j 0 h)) in
+            admits-by (λ r. iteratingUnder (resumableUnder r t b) t b) ∙ rw (eq-eqb r 0 z) (ap (λ r. iteratingUnder r t b) (resumes t b (R .for-costs) j o) ∙ rw (ne-eqb j 0 h)) in
             rw x record { staged = refl; symbols-then = refl; costs-then = refl; store-then = refl; margins-then = refl }
 
         module _ (h : j ≡ 0) where
           -- or it goes on
           pub step-room : (x x′ A S : List ℕ) → length x ≡ n → length x′ ≡ n → 2048 ≤ length A → 2048 ≤ length S → StepRoom k ds cs ws (eqb t 0) (take (length f) c) s x x′ A S
           step-room x x′ A S l l′ a b =
-              let u = passes t (lending y c s v) (sym o ∙ h) in
+              let u = passes t (lending y c s v) (R .for-costs) (sym o ∙ h) in
               record {
                 iterate = record {
                   running = record { coded = T; passable = rw width (tested C (T .good) c s t (R .for-costs) (R .for-store) (u .0) (u .1)) };
@@ -245,7 +189,7 @@ module _ (k : Numbers) (ds cs ws : List ℕ) (T : Coded k ds cs ws) (n m : ℕ) 
           unfolding stageAfter
           step-leaves found P u x x′ i p d d′ q w =
               let a : iteratingOf C f t b ≡ iteratingUnder (good C) t b =
-              admits-by (λ r. iteratingUnder (resumableUnder r t b) t b) ∙ rw (eq-eqb r 0 z) (ap (λ r. iteratingUnder r t b) (resumes t b j o) ∙ rw (eq-eqb j 0 h)) in
+              admits-by (λ r. iteratingUnder (resumableUnder r t b) t b) ∙ rw (eq-eqb r 0 z) (ap (λ r. iteratingUnder r t b) (resumes t b (R .for-costs) j o) ∙ rw (eq-eqb j 0 h)) in
               let g : lent P u ≡ further C t b = p ∙ ap (λ k. iterationLent C (eqb t 0) (lent (take k c) s)) width in
               let l : lending (x ++ drop n y) (P ++ drop (length f) c) u (x′ ++ drop n v) ≡ holding C P u b =
               holds-then k ds cs ws T n N P u s y c v x x′ (length f) width d d′ in

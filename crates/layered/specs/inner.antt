@@ -5,5 +5,5 @@ pub mod Updates
 pub mod Iterations
 pub mod Places
 pub mod Early
-pub mod Frames
+pub mod Calls
 pub mod Stages

@@ -1,7 +1,6 @@
 // Decoding over lent tables and lists to work in: the code is read, then its refusals, or the run.
 use crate::answers::Answer;
 use crate::answers::Counted;
-use crate::frame;
 use crate::iterate;
 use codeline::answers::Header;
 use codeline::answers::Numbers;
@@ -11,7 +10,7 @@ ghost use Rattle.machine.specs.CodeLine.{parse, numbersOf, columnsRead};
 ghost use Rattle.machine.specs.Decoding.{lending, Leaves, Decodes};
 ghost use Rattle.layered.specs.Answers.{answerReply};
 ghost use Rattle.codeline.specs.inner.Coding.{codeOf};
-ghost use Rattle.layered.specs.inner.Frames.{decodingOf, CodeRoom};
+ghost use Rattle.layered.specs.inner.Calls.{decodingOf, CodeRoom};
 
 // "Decode: code, 12, 13, 2, 3, 4.", 19. Nothing is written before the last refusal has been tested.
 fn under_code(

@@ -1,10 +1,8 @@
 // A load and one iteration: decoding's refusals, then the first test, or the iteration from the lent costs and records and the test after
 // it.
 use crate::answers::Stage;
-use crate::frame;
 use crate::iterate;
 use crate::parity;
-use crate::resume;
 use codeline::answers::Header;
 use codeline::answers::Numbers;
 ghost use mathlib.Core.Path.{_≡_};
@@ -12,7 +10,7 @@ ghost use Rattle.machine.specs.Machine.{settled, symbols as symbolsOf, margins 
 ghost use Rattle.machine.specs.Lent.{lent, iterationLent};
 ghost use Rattle.machine.specs.Decoding.{lending};
 ghost use Rattle.machine.specs.Moments.{Moves, loading, iterating};
-ghost use Rattle.layered.specs.inner.Frames.{CodeRoom};
+ghost use Rattle.layered.specs.inner.Calls.{CodeRoom};
 ghost use Rattle.codeline.specs.inner.Coding.{codeOf, Coded};
 ghost use Rattle.layered.specs.Answers.{stageOf};
 ghost use Rattle.layered.specs.inner.Stages.{stageAfter, loadingOf, iteratingOf, TestRoom, StepRoom};
@@ -159,12 +157,11 @@ fn step_under(
         (lending (now (symbols .exit)) (now (costs .exit)) (now (store .exit)) (now (margins .exit))) ⌝ }
 {
     let n = scalar::u16_to_usize(numbers.columns);
-    let m = scalar::u8_to_usize(numbers.checks);
     let k = frame::fault(numbers, degrees, frame, symbols, costs, store, margins);
     if k != 0 {
         return Stage::Refused(k);
     }
-    let l = resume::fault(numbers.first, n, t, &degrees[..m], weights, costs, store);
+    let l = frame::resume_fault(numbers, t, degrees, costs, store);
     if l != 0 {
         return Stage::Refused(l);
     }

@@ -1,7 +1,6 @@
 // Decoding that may stop inside an iteration, over lent tables and lists to work in: the code is read, then its refusals, or the run.
 use crate::answers::EarlyAnswer;
 use crate::early;
-use crate::frame;
 use codeline::answers::Header;
 use codeline::answers::Numbers;
 ghost use mathlib.Core.Path.{_≡_};
@@ -9,7 +8,7 @@ ghost use Rattle.machine.specs.Decoding.{lending, Leaves};
 ghost use Rattle.machine.specs.Early.{DecodesEarly};
 ghost use Rattle.layered.specs.Answers.{earlyReply};
 ghost use Rattle.codeline.specs.inner.Coding.{codeOf};
-ghost use Rattle.layered.specs.inner.Frames.{earlyOf, CodeRoom};
+ghost use Rattle.layered.specs.inner.Calls.{earlyOf, CodeRoom};
 
 // "It refuses as decoding does." Nothing is written before the last refusal has been tested.
 fn under_code(

@@ -17,7 +17,7 @@ use Rattle.machine.specs.Moments.{Moment}
 use Rattle.machine.specs.inner.Tables.{bytesBefore}
 use Rattle.machine.specs.inner.Accepted.{GoodCode}
 use Rattle.machine.specs.inner.InRange.{Passable}
-use Rattle.layered.specs.inner.Frames.{roomFaultOf}
+use Rattle.frame.specs.Answers.{roomFaultOf}
 use Rattle.codeline.specs.declared.answers.Numbers.{Numbers}
 use Rattle.codeline.specs.inner.Coding.{codeOf, Coded}
 use Rattle.channels.specs.declared.service.Layout.{Layout}

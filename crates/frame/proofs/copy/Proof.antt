@@ -7,9 +7,9 @@ use borrow.Author.Needs.{needs}
 use lib.ListN.{length, drop, getD}
 use Rattle.trellis.specs.Lists.{tab}
 use Rattle.trellis.proofs.Loops.{tab-more}
-use Rattle.layered.proofs.Decoded.{copied, copied-none, copied-frame}
-use Rattle.layered.proofs.frame.copy.Statement.{statement}
-use Rattle.layered.proofs.frame.copy.Tie as tie
+use Rattle.frame.proofs.Frames.{copied, copied-none, copied-frame}
+use Rattle.frame.proofs.copy.Statement.{statement}
+use Rattle.frame.proofs.copy.Tie as tie
 
 abbrev Inv-loop : tie.InvT-loop
 Inv-loop frame costs₀ i₀ costs i = (i ≤ length costs₀) × ((length costs ≡ length costs₀) × (costs ≡ tab (λ (k : ℕ). getD frame k 0) i ++ drop i costs₀))

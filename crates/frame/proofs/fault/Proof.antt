@@ -3,9 +3,9 @@ use mathlib.Core.Path.{refl}
 use borrow.Author.Needs.{needs}
 use lib.ListN.{length}
 use Rattle.machine.specs.Machine.{symbols, margins}
-use Rattle.layered.proofs.Decoded.{fault-frame, fault-room}
-use Rattle.layered.proofs.frame.fault.Statement.{statement}
-use Rattle.layered.proofs.frame.fault.Tie as tie
+use Rattle.frame.proofs.Frames.{fault-frame, fault-room}
+use Rattle.frame.proofs.fault.Statement.{statement}
+use Rattle.frame.proofs.fault.Tie as tie
 
 frame-fault-requires : tie.Need-frame-fault-requires
 frame-fault-requires c κs = search needs

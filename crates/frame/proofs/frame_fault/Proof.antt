@@ -5,10 +5,10 @@ use Prim.Native.Nat.{_*_, _≤_}
 use native.Mathlib.Omega.{arith}
 use borrow.Author.Needs.{needs}
 use native.Mathlib.Nat.{mul-le-mul}
-use Rattle.layered.specs.inner.Frames.{frameFaultOf}
-use Rattle.layered.proofs.Decoded.{fault-count, fault-zeros}
-use Rattle.layered.proofs.frame.frame_fault.Statement.{statement}
-use Rattle.layered.proofs.frame.frame_fault.Tie as tie
+use Rattle.frame.specs.Answers.{frameFaultOf}
+use Rattle.frame.proofs.Frames.{fault-count, fault-zeros}
+use Rattle.frame.proofs.frame_fault.Statement.{statement}
+use Rattle.frame.proofs.frame_fault.Tie as tie
 
 u16-to-usize-requires : tie.Need-u16-to-usize-requires
 u16-to-usize-requires c κs = search needs
@@ -28,26 +28,26 @@ returns c =
     let start = at-u16-to-usize .before .before in
     fault-count (start .args .numbers .first) (at-u16-to-usize .u16-to-usize .result) (at-size .size .result) (start .args .frame .now) (at-size .size .ensures .0) (c .if1 .taken) ∙ ap (λ n. frameFaultOf (start .args .numbers .first) n (start .args .frame .now)) (at-u16-to-usize .u16-to-usize .ensures .0)
 
-zeros-in-requires : tie.Need-zeros-in-requires
-zeros-in-requires c κs = search needs
+zeros-u8-requires : tie.Need-zeros-u8-requires
+zeros-u8-requires c κs = search needs
 
 returns-2 : tie.Need-returns-2
 returns-2 c =
-    let at-zeros-in = c .before in
-    let at-if1 = at-zeros-in .before in
+    let at-zeros-u8 = c .before in
+    let at-if1 = at-zeros-u8 .before in
     let at-size = at-if1 .before in
     let at-u16-to-usize = at-size .before in
     let start = at-u16-to-usize .before .before in
-    fault-zeros (start .args .numbers .first) (at-u16-to-usize .u16-to-usize .result) (at-size .size .result) (start .args .frame .now) (at-size .size .ensures .0) true (at-if1 .if1 .left) (sym (c .if2 .taken) ∙ at-zeros-in .zeros-in .ensures) ∙ ap (λ n. frameFaultOf (start .args .numbers .first) n (start .args .frame .now)) (at-u16-to-usize .u16-to-usize .ensures .0)
+    fault-zeros (start .args .numbers .first) (at-u16-to-usize .u16-to-usize .result) (at-size .size .result) (start .args .frame .now) (at-size .size .ensures .0) true (at-if1 .if1 .left) (sym (c .if2 .taken) ∙ at-zeros-u8 .zeros-u8 .ensures) ∙ ap (λ n. frameFaultOf (start .args .numbers .first) n (start .args .frame .now)) (at-u16-to-usize .u16-to-usize .ensures .0)
 
 returns-3 : tie.Need-returns-3
 returns-3 c =
-    let at-zeros-in = c .before in
-    let at-if1 = at-zeros-in .before in
+    let at-zeros-u8 = c .before in
+    let at-if1 = at-zeros-u8 .before in
     let at-size = at-if1 .before in
     let at-u16-to-usize = at-size .before in
     let start = at-u16-to-usize .before .before in
-    fault-zeros (start .args .numbers .first) (at-u16-to-usize .u16-to-usize .result) (at-size .size .result) (start .args .frame .now) (at-size .size .ensures .0) false (at-if1 .if1 .left) (sym (c .if2 .left) ∙ at-zeros-in .zeros-in .ensures) ∙ ap (λ n. frameFaultOf (start .args .numbers .first) n (start .args .frame .now)) (at-u16-to-usize .u16-to-usize .ensures .0)
+    fault-zeros (start .args .numbers .first) (at-u16-to-usize .u16-to-usize .result) (at-size .size .result) (start .args .frame .now) (at-size .size .ensures .0) false (at-if1 .if1 .left) (sym (c .if2 .left) ∙ at-zeros-u8 .zeros-u8 .ensures) ∙ ap (λ n. frameFaultOf (start .args .numbers .first) n (start .args .frame .now)) (at-u16-to-usize .u16-to-usize .ensures .0)
 
 pub frame-fault-spec : {M : Type 1} → statement M
 frame-fault-spec =
@@ -57,6 +57,6 @@ frame-fault-spec =
     size-requires
     mul-if1
     returns
-    zeros-in-requires
+    zeros-u8-requires
     returns-2
     returns-3)

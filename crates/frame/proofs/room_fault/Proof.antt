@@ -1,8 +1,8 @@
 -- One test for each refusal, in the definition's order.
 use borrow.Author.Tests.{lt-ltb, le-ltb}
-use Rattle.layered.specs.inner.Frames.{roomFaultOf}
-use Rattle.layered.proofs.frame.room_fault.Statement.{statement}
-use Rattle.layered.proofs.frame.room_fault.Tie as tie
+use Rattle.frame.specs.Answers.{roomFaultOf}
+use Rattle.frame.proofs.room_fault.Statement.{statement}
+use Rattle.frame.proofs.room_fault.Tie as tie
 
 returns : tie.Need-returns
 unfolding roomFaultOf

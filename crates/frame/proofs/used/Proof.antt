@@ -7,9 +7,9 @@ use borrow.Author.Needs.{needs}
 use lib.ListN.{length, getD}
 use Rattle.machine.specs.inner.Tables.{bytesBefore}
 use Rattle.trellis.specs.Lists.{upto}
-use Rattle.layered.proofs.Resuming.{groups-small, sum-bytes}
-use Rattle.layered.proofs.frame.used.Statement.{statement}
-use Rattle.layered.proofs.frame.used.Tie as tie
+use Rattle.frame.proofs.Resuming.{groups-small, sum-bytes}
+use Rattle.frame.proofs.used.Statement.{statement}
+use Rattle.frame.proofs.used.Tie as tie
 
 abbrev Inv-loop : tie.InvT-loop
 Inv-loop degrees groups count sum₀ m₀ sum m = (m ≤ count) × ((count ≤ length degrees) × ((count ≤ 255) × ((groups ≤ 229369) × ((sum ≡ upto (λ k a. a + (getD degrees k 0 + groups)) m 0) × (sum ≤ m * 229624)))))

@@ -10,7 +10,7 @@ use Rattle.machine.specs.Decoding.{lending}
 use Rattle.layered.proofs.Columns.{length-part}
 use Rattle.channels.specs.inner.Layouts.{PartRoom}
 use Rattle.channels.proofs.Layouts.{symbols-inside, costs-inside, margins-inside, frame-inside, load-refused, load-asks, load-puts, load-room, frame-room, someStore, some-room}
-use Rattle.layered.proofs.Decoded.{copied-is}
+use Rattle.frame.proofs.Frames.{copied-is}
 use Rattle.channels.proofs.channel.load_at.Statement.{statement}
 use Rattle.channels.proofs.channel.load_at.Tie as tie
 

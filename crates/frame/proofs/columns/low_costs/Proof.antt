@@ -5,10 +5,10 @@ use native.Mathlib.Omega.{arith}
 use borrow.Author.Needs.{needs}
 use mathlib.Core.Bool.{true}
 use Rattle.trellis.specs.Lists.{allTo}
-use Rattle.layered.specs.inner.Stages.{lowCost}
-use Rattle.layered.proofs.Resuming.{low-more, low-not}
-use Rattle.layered.proofs.resume.low_costs.Statement.{statement}
-use Rattle.layered.proofs.resume.low_costs.Tie as tie
+use Rattle.frame.specs.Answers.{lowCost}
+use Rattle.frame.proofs.Resuming.{low-more, low-not}
+use Rattle.frame.proofs.columns.low_costs.Statement.{statement}
+use Rattle.frame.proofs.columns.low_costs.Tie as tie
 
 abbrev Inv-loop : tie.InvT-loop
 Inv-loop costs w i₀ i = (i ≤ w) × (allTo (lowCost costs) i ≡ true)

@@ -6,7 +6,8 @@ use lib.ListN.{length, take, length-take}
 use lib.Seq.{length-take-le}
 use Rattle.machine.specs.Machine.{symbols, margins}
 use Rattle.layered.proofs.Columns.{front-room}
-use Rattle.layered.proofs.Decoded.{fits, copied-is}
+use Rattle.frame.proofs.Frames.{copied-is}
+use Rattle.layered.proofs.Decoded.{fits}
 use Rattle.layered.proofs.Steps.{load-refused, first-room, load-leaves}
 use Rattle.layered.proofs.stages.load_under.Statement.{statement}
 use Rattle.layered.proofs.stages.load_under.Tie as tie
@@ -31,7 +32,7 @@ returns c =
     let at-fault = c .before in
     let at-u16-to-usize = at-fault .before .before .before .before in
     let start = at-u16-to-usize .before .before .before .before .before .before .before .before .before in
-    load-refused (start .args .numbers) (start .args .degrees .now) (start .args .columns .now) (start .args .weights .now) (start .pre) (at-u16-to-usize .u16-to-usize .result) (start .args .numbers .checks) (at-u16-to-usize .u16-to-usize .ensures .0) refl (start .args .frame .now) (start .args .symbols .now) (start .args .costs .now) (start .args .store .now) (start .args .margins .now) (at-fault .fault .result) (at-fault .fault .ensures) (c .if1 .taken)
+    load-refused (start .args .numbers) (start .args .degrees .now) (start .args .columns .now) (start .args .weights .now) (start .pre) (at-u16-to-usize .u16-to-usize .result) (at-u16-to-usize .u16-to-usize .ensures .0) (start .args .frame .now) (start .args .symbols .now) (start .args .costs .now) (start .args .store .now) (start .args .margins .now) (at-fault .fault .result) (at-fault .fault .ensures) (c .if1 .taken)
 
 slice-relend-prefix-copy : tie.Need-slice-relend-prefix-copy
 slice-relend-prefix-copy c =
@@ -109,7 +110,7 @@ tested-requires c κs =
     let at-u16-to-usize = at-fault .before .before .before .before in
     let at-shared-slice-known4 = at-u16-to-usize .before .before .before .before .before in
     let start = at-shared-slice-known4 .before .before .before .before in
-    first-room (start .args .numbers) (start .args .degrees .now) (start .args .columns .now) (start .args .weights .now) (start .pre) (at-u16-to-usize .u16-to-usize .result) (start .args .numbers .checks) (at-u16-to-usize .u16-to-usize .ensures .0) refl (start .args .frame .now) (start .args .symbols .now) (start .args .costs .now) (start .args .store .now) (start .args .margins .now) (at-fault .fault .result) (at-fault .fault .ensures) (at-if1 .if1 .left) (at-copy .copy .last .1 .0) (copied-is (start .args .frame .now) (take (length (start .args .frame .now)) (start .args .costs .now)) (at-copy .copy .last .1 .0) (sym (length-take-le (length (start .args .frame .now)) (start .args .costs .now) (omega (arith, (fits (start .args .numbers) (start .args .degrees .now) (start .args .columns .now) (start .args .weights .now) (start .pre) (at-u16-to-usize .u16-to-usize .result) (at-u16-to-usize .u16-to-usize .ensures .0) (start .args .frame .now) (start .args .symbols .now) (start .args .costs .now) (start .args .store .now) (start .args .margins .now) (at-fault .fault .result) (at-fault .fault .ensures) (at-if1 .if1 .left)))))) (at-copy .copy .ensures)) (λ x. omega (arith, at-shared-slice-known4 .shared-slice-known4 .given x)) (take (at-u16-to-usize .u16-to-usize .result) (start .args .symbols .now)) (take (at-u16-to-usize .u16-to-usize .result) (start .args .margins .now)) (length-take-le (at-u16-to-usize .u16-to-usize .result) (start .args .symbols .now) (omega (arith, (fits (start .args .numbers) (start .args .degrees .now) (start .args .columns .now) (start .args .weights .now) (start .pre) (at-u16-to-usize .u16-to-usize .result) (at-u16-to-usize .u16-to-usize .ensures .0) (start .args .frame .now) (start .args .symbols .now) (start .args .costs .now) (start .args .store .now) (start .args .margins .now) (at-fault .fault .result) (at-fault .fault .ensures) (at-if1 .if1 .left))))) (length-take-le (at-u16-to-usize .u16-to-usize .result) (start .args .margins .now) (omega (arith, (fits (start .args .numbers) (start .args .degrees .now) (start .args .columns .now) (start .args .weights .now) (start .pre) (at-u16-to-usize .u16-to-usize .result) (at-u16-to-usize .u16-to-usize .ensures .0) (start .args .frame .now) (start .args .symbols .now) (start .args .costs .now) (start .args .store .now) (start .args .margins .now) (at-fault .fault .result) (at-fault .fault .ensures) (at-if1 .if1 .left)))))
+    first-room (start .args .numbers) (start .args .degrees .now) (start .args .columns .now) (start .args .weights .now) (start .pre) (at-u16-to-usize .u16-to-usize .result) (at-u16-to-usize .u16-to-usize .ensures .0) (start .args .frame .now) (start .args .symbols .now) (start .args .costs .now) (start .args .store .now) (start .args .margins .now) (at-fault .fault .result) (at-fault .fault .ensures) (at-if1 .if1 .left) (at-copy .copy .last .1 .0) (copied-is (start .args .frame .now) (take (length (start .args .frame .now)) (start .args .costs .now)) (at-copy .copy .last .1 .0) (sym (length-take-le (length (start .args .frame .now)) (start .args .costs .now) (omega (arith, (fits (start .args .numbers) (start .args .degrees .now) (start .args .columns .now) (start .args .weights .now) (start .pre) (at-u16-to-usize .u16-to-usize .result) (at-u16-to-usize .u16-to-usize .ensures .0) (start .args .frame .now) (start .args .symbols .now) (start .args .costs .now) (start .args .store .now) (start .args .margins .now) (at-fault .fault .result) (at-fault .fault .ensures) (at-if1 .if1 .left)))))) (at-copy .copy .ensures)) (λ x. omega (arith, at-shared-slice-known4 .shared-slice-known4 .given x)) (take (at-u16-to-usize .u16-to-usize .result) (start .args .symbols .now)) (take (at-u16-to-usize .u16-to-usize .result) (start .args .margins .now)) (length-take-le (at-u16-to-usize .u16-to-usize .result) (start .args .symbols .now) (omega (arith, (fits (start .args .numbers) (start .args .degrees .now) (start .args .columns .now) (start .args .weights .now) (start .pre) (at-u16-to-usize .u16-to-usize .result) (at-u16-to-usize .u16-to-usize .ensures .0) (start .args .frame .now) (start .args .symbols .now) (start .args .costs .now) (start .args .store .now) (start .args .margins .now) (at-fault .fault .result) (at-fault .fault .ensures) (at-if1 .if1 .left))))) (length-take-le (at-u16-to-usize .u16-to-usize .result) (start .args .margins .now) (omega (arith, (fits (start .args .numbers) (start .args .degrees .now) (start .args .columns .now) (start .args .weights .now) (start .pre) (at-u16-to-usize .u16-to-usize .result) (at-u16-to-usize .u16-to-usize .ensures .0) (start .args .frame .now) (start .args .symbols .now) (start .args .costs .now) (start .args .store .now) (start .args .margins .now) (at-fault .fault .result) (at-fault .fault .ensures) (at-if1 .if1 .left)))))
 
 stage-after-requires : tie.Need-stage-after-requires
 stage-after-requires c κs = search needs
@@ -131,7 +132,7 @@ returns-2 c =
     let at-fault = at-if1 .before in
     let at-u16-to-usize = at-fault .before .before .before .before in
     let start = at-u16-to-usize .before .before .before .before .before .before .before .before .before in
-    load-leaves (start .args .numbers) (start .args .degrees .now) (start .args .columns .now) (start .args .weights .now) (start .pre) (at-u16-to-usize .u16-to-usize .result) (start .args .numbers .checks) (at-u16-to-usize .u16-to-usize .ensures .0) refl (start .args .frame .now) (start .args .symbols .now) (start .args .costs .now) (start .args .store .now) (start .args .margins .now) (at-fault .fault .result) (at-fault .fault .ensures) (at-if1 .if1 .left) (at-copy .copy .last .1 .0) (copied-is (start .args .frame .now) (take (length (start .args .frame .now)) (start .args .costs .now)) (at-copy .copy .last .1 .0) (sym (length-take-le (length (start .args .frame .now)) (start .args .costs .now) (omega (arith, (fits (start .args .numbers) (start .args .degrees .now) (start .args .columns .now) (start .args .weights .now) (start .pre) (at-u16-to-usize .u16-to-usize .result) (at-u16-to-usize .u16-to-usize .ensures .0) (start .args .frame .now) (start .args .symbols .now) (start .args .costs .now) (start .args .store .now) (start .args .margins .now) (at-fault .fault .result) (at-fault .fault .ensures) (at-if1 .if1 .left)))))) (at-copy .copy .ensures)) (at-tested .tested .result) _ _ (at-tested .tested .ensures .0) (at-tested .tested .ensures .1 .0) (at-tested .tested .ensures .1 .1) _ (c .stage-after .ensures)
+    load-leaves (start .args .numbers) (start .args .degrees .now) (start .args .columns .now) (start .args .weights .now) (start .pre) (at-u16-to-usize .u16-to-usize .result) (at-u16-to-usize .u16-to-usize .ensures .0) (start .args .frame .now) (start .args .symbols .now) (start .args .costs .now) (start .args .store .now) (start .args .margins .now) (at-fault .fault .result) (at-fault .fault .ensures) (at-if1 .if1 .left) (at-copy .copy .last .1 .0) (copied-is (start .args .frame .now) (take (length (start .args .frame .now)) (start .args .costs .now)) (at-copy .copy .last .1 .0) (sym (length-take-le (length (start .args .frame .now)) (start .args .costs .now) (omega (arith, (fits (start .args .numbers) (start .args .degrees .now) (start .args .columns .now) (start .args .weights .now) (start .pre) (at-u16-to-usize .u16-to-usize .result) (at-u16-to-usize .u16-to-usize .ensures .0) (start .args .frame .now) (start .args .symbols .now) (start .args .costs .now) (start .args .store .now) (start .args .margins .now) (at-fault .fault .result) (at-fault .fault .ensures) (at-if1 .if1 .left)))))) (at-copy .copy .ensures)) (at-tested .tested .result) _ _ (at-tested .tested .ensures .0) (at-tested .tested .ensures .1 .0) (at-tested .tested .ensures .1 .1) _ (c .stage-after .ensures)
 
 pub load-under-spec : {M : Type 1} → statement M
 load-under-spec =
