@@ -27,7 +27,7 @@ use Rattle.channels.specs.declared.service.Layout.{Layout}
 use Rattle.channels.specs.Channels.{frameOf, ownOf}
 use Rattle.channels.specs.inner.Rounds.{lentIn, statusOf, patchAt, loadAt, stepAt}
 use Rattle.channels.specs.inner.Layouts.{Fitted, Puts, OnePart, PartRoom}
-use Rattle.layered.proofs.Columns.{length-part}
+use Rattle.machine.proofs.Places.{length-part}
 use Rattle.channels.proofs.Parts.{Exact}
 use Rattle.channels.proofs.Serves.{further-own}
 

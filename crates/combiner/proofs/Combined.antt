@@ -26,7 +26,8 @@ use Rattle.codeline.specs.declared.answers.Header.the-variants.{Read as HeaderR
 use Rattle.codeline.specs.Answers.{headerNumbers}
 use Rattle.codeline.proofs.Answered.{Accepted, header-refused, header-read}
 use Rattle.frame.specs.Answers.{frameFaultOf}
-use Rattle.layered.proofs.Columns.{smallest-loop, upTo-tab, length-part}
+use Rattle.machine.proofs.Leasts.{smallest-loop, upTo-tab}
+use Rattle.machine.proofs.Places.{length-part}
 use Rattle.combiner.specs.inner.Columns.{leastBoth, headed}
 
 -- the least of a column's sums

@@ -8,7 +8,7 @@ use native.Mathlib.Numerals.{add-one}
 use native.Mathlib.Omega.{arith}
 use lib.Dec.{eqb}
 use borrow.Author.Tests.{eqb-true, eq-eqb, ne-eqb, lt-ltb, le-ltb}
-use lib.ListN.{length, getD, take, drop, length-take, length-drop}
+use lib.ListN.{length, getD, take, drop}
 use lib.Seq.{ext-getD}
 use Rattle.trellis.specs.Lists.{tab, part, allTo, pick}
 use Rattle.trellis.specs.Check.{firstZero}
@@ -22,11 +22,9 @@ use Rattle.machine.specs.Decoding.{roomTests, decodeTests}
 use Rattle.machine.specs.inner.Tables.{bytesBefore}
 use Rattle.machine.proofs.Faults.{frame-numbered}
 use Rattle.machine.proofs.Lists.{all-not}
+use Rattle.machine.proofs.Places.{length-part}
 use Rattle.codeline.specs.declared.answers.Numbers.{Numbers}
 use Rattle.frame.specs.Answers.{frameFaultOf, roomFaultOf, faultOf, copiedTo}
-
-length-part : (l : List ℕ) (at n : ℕ) → at + n ≤ length l → length (part l at n) ≡ n
-length-part l at n h = simp (length-take, length-drop) (omega arith)
 
 -- the frame copied whole
 list-tab : (l : List ℕ) → tab (λ k. getD l k 0) (length l) ≡ l

@@ -16,6 +16,8 @@ use Rattle.trellis.proofs.Places.{map-ext}
 use Rattle.trellis.proofs.Loops.{tab-ext, map-tab, tab-whole}
 use Rattle.machine.specs.Machine.{scaled, incoming, outgoing}
 use Rattle.machine.proofs.Lists.{map-after}
+use Rattle.machine.proofs.Leasts.{least-le, smallest-loop, upTo-tab}
+use Rattle.machine.proofs.Places.{length-part}
 use Rattle.machine.proofs.Updates.{length-incoming}
 use Rattle.machine.proofs.Ranges.{below-take, below-drop, length-outgoing, length-patch, column-room}
 use Rattle.machine.specs.inner.InRange.{Below}
@@ -23,43 +25,6 @@ use Rattle.layered.specs.inner.Columns.{raised, leastRaised, oneColumn, 
 
 pub mul-small : (g w : ℕ) → g ≤ 16 → w < 256 → g * w ≤ 4080
 mul-small g w h k = mul-le-mul h (le-of-suc-le-suc k)
-
--- the least of a loop that starts with 1000
-module _ (f : ℕ → ℕ) where
-  abbrev leastTo : ℕ → ℕ
-  leastTo n = upto (λ k a. min a (f k)) n 1000
-
-  least-le : (n k : ℕ) → k < n → leastTo n ≤ f k
-  least-le zero k h = absurd (omega arith)
-  least-le (suc n) k h =
-      elim (ℕ-discrete k n) [
-        | yes e ↦ rw e (omega arith)
-        | no e ↦ omega (arith, least-le n k (omega arith))
-      ]
-
-  least-at : (n : ℕ) → ((k : ℕ) → f k ≤ 1000) → (leastTo n ≡ 1000) ⊎ ((k : ℕ) × (k < n) × (leastTo n ≡ f k))
-  least-at zero b = inl refl
-  least-at (suc n) b = at (decLe (leastTo n) (f n)) (least-at n b)
-    where
-      at : Dec (leastTo n ≤ f n) → (leastTo n ≡ 1000) ⊎ ((k : ℕ) × (k < n) × (leastTo n ≡ f k)) → (min (leastTo n) (f n) ≡ 1000) ⊎ ((k : ℕ) × (k < suc n) × (min (leastTo n) (f n) ≡ f k))
-      at (yes h) (inl e) = inl (omega arith)
-      at (yes h) (inr r) = inr (r .0, omega (arith, r .1), omega (arith, r .2))
-      at (no h) r = inr (n, omega arith, omega arith)
-
-  pub smallest-loop : (n : ℕ) → 0 < n → ((k : ℕ) → f k ≤ 1000) → smallest (map f (upTo n)) ≡ leastTo n
-  smallest-loop n h b =
-      let i = Memᴰ·of-map f (upTo n) (smallest-in (Memᴰ·map f (in-upTo h))) in
-      let u : leastTo n ≤ f (i .0) = least-le n (i .0) (of-upTo (i .1)) in
-      let v : smallest (map f (upTo n)) ≤ leastTo n = below (least-at n b) in
-      omega (arith, i .2)
-    where
-      below : (leastTo n ≡ 1000) ⊎ ((k : ℕ) × (k < n) × (leastTo n ≡ f k)) → smallest (map f (upTo n)) ≤ leastTo n
-      below (inl e) = omega (arith, smallest-le (Memᴰ·map f (in-upTo h)), b 0)
-      below (inr r) = omega (arith, smallest-le (Memᴰ·map f (in-upTo (r .1))), r .2)
-
--- a list made from the numbers below n, as a loop makes it
-pub upTo-tab : (f : ℕ → ℕ) (n : ℕ) → map f (upTo n) ≡ tab f n
-upTo-tab f n = map-tab f 0 n ∙ tab-ext (λ j. f (0 + j)) f n (λ j h. ap f (zero-add j))
 
 -- a scaled list's elements; past its end 0 is scaled to 0
 pub scaled-at : (g : ℕ) (l : List ℕ) (x : ℕ) → getD (map (scaled g) l) x 0 ≡ scaled g (getD l x 0)
@@ -87,9 +52,6 @@ incoming-done g P old d out least i some h b k e m o =
 pub room-at : (P cols old : List ℕ) (g q : ℕ) (out : List ℕ) → GatherRoom P cols old g q out → (k : ℕ) → k < length cols → (w : ℕ) → w ≡ getD cols k 0
     → (w * q + q ≤ length P) × ((k * q + q ≤ length old) × (k * q + q ≤ length out))
 room-at P cols old g q out R k h w e = (rw e (R .columns k h), (omega (arith, column-room k (length cols) q h, R .for-old), omega (arith, column-room k (length cols) q h, R .for-out)))
-
-pub length-part : (l : List ℕ) (a n : ℕ) → a + n ≤ length l → length (part l a n) ≡ n
-length-part l a n h = simp (length-take, length-drop) (omega arith)
 
 -- a part that comes back as long as it was lent
 pub part-kept : (l s : List ℕ) (a n : ℕ) → a + n ≤ length l → length s ≡ length (part l a n) → length (patch l a n s) ≡ length l

@@ -43,7 +43,7 @@ use Rattle.layered.specs.inner.Iterations.{endedIn, RunRoom}
 use Rattle.layered.specs.inner.Calls.{decodingOf}
 use Rattle.frame.specs.Answers.{frameFaultOf, faultOf}
 use Rattle.frame.proofs.Frames.{decode-numbered, decode-parts, frame-counted}
-use Rattle.layered.proofs.Columns.{length-part}
+use Rattle.machine.proofs.Places.{length-part}
 use Rattle.machine.proofs.Lists.{all-not}
 use Rattle.layered.proofs.Runs.{checks-count}
 

@@ -27,7 +27,7 @@ use Rattle.codeline.specs.inner.Coding.{codeOf}
 use Rattle.layered.specs.inner.Updates.{UpdateRoom}
 use Rattle.layered.specs.declared.place.Place.{Place}
 use Rattle.layered.specs.inner.Places.{Stands, Updatable}
-use Rattle.layered.proofs.Columns.{length-part}
+use Rattle.machine.proofs.Places.{length-part}
 
 -- by its own number
 pub stands-own : (first : ℕ) (ds : List ℕ) (m : ℕ) (p : Place) → Stands first ds m p → Stands first ds (p .check) p

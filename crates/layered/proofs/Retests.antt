@@ -28,7 +28,7 @@ use Rattle.layered.specs.declared.parity.CheckAt.{CheckAt}
 use Rattle.layered.specs.declared.place.Place.{Place}
 use Rattle.layered.specs.inner.Parity.{allHold, ParityRoom, FromTo, FirstNot, SomeNot}
 use Rattle.layered.specs.inner.Early.{decidedAgain, AgainRoom, RetestRoom, Retested}
-use Rattle.layered.proofs.Columns.{length-part}
+use Rattle.machine.proofs.Places.{length-part}
 use Rattle.layered.proofs.Satisfied.{decided-room, settled-by, all-hold, one-not}
 use Rattle.layered.proofs.Runs.{checks-count}
 

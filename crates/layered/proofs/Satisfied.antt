@@ -30,7 +30,8 @@ use Rattle.codeline.specs.inner.Coding.{codeOf}
 use Rattle.layered.specs.declared.parity.CheckAt.{CheckAt}
 use Rattle.machine.specs.inner.Tables.{EdgeRoom}
 use Rattle.layered.specs.inner.Parity.{holdsAt, allHold, ParityRoom, FirstNot, SettledRoom}
-use Rattle.layered.proofs.Columns.{upTo-tab, length-part}
+use Rattle.machine.proofs.Leasts.{upTo-tab}
+use Rattle.machine.proofs.Places.{length-part}
 
 -- a loop over the columns of q costs, which leaves g of each: its turn and its end
 pub each-turn : (g : List ℕ → ℕ) (q : ℕ) (P d now : List ℕ) (c z : ℕ) → c < length d → now ≡ tab (λ k. g (columnOf q P k)) c ++ drop c d

@@ -38,7 +38,8 @@ use Rattle.machine.proofs.Lent.{arriving-ext, spread-ext}
 use Rattle.machine.proofs.Edges.{length-edges, column-edge, weight-edge, weights-edges}
 use Rattle.layered.specs.inner.Columns.{oneColumn, gathered as gatheredCosts, GatherRoom, scattered, ScatterRoom}
 use Rattle.layered.specs.inner.Updates.{oldCosts, Weighed, RecallRoom, SendRoom, UpdateRoom}
-use Rattle.layered.proofs.Columns.{scaled-at, length-part, length-gathered}
+use Rattle.machine.proofs.Places.{length-part}
+use Rattle.layered.proofs.Columns.{scaled-at, length-gathered}
 
 -- a check's columns as a list over its edges
 columns-map : (q : ℕ) (ws l : List ℕ) → columnsOf q ws l ≡ map (λ n. record { weight = getD ws n 0; costs = part l (n * q) q }) (upTo (length ws))

@@ -7,7 +7,7 @@ use lib.ListN.{length}
 use Rattle.trellis.specs.Lists.{part}
 use Rattle.machine.specs.CodeLine.{Code}
 use Rattle.machine.specs.Decoding.{lending}
-use Rattle.layered.proofs.Columns.{length-part}
+use Rattle.machine.proofs.Places.{length-part}
 use Rattle.channels.specs.inner.Layouts.{PartRoom}
 use Rattle.channels.proofs.Layouts.{symbols-inside, costs-inside, margins-inside, frame-inside, load-refused, load-asks, load-puts, load-room, frame-room, someStore, some-room}
 use Rattle.frame.proofs.Frames.{copied-is}
