@@ -23,7 +23,7 @@ use Rattle.codeline.specs.Answers.{headerNumbers}
 use Rattle.codeline.proofs.Answered.{header-refused}
 use Rattle.layered.specs.inner.Frames.{roomFaultOf}
 use Rattle.layered.proofs.Decoded.{used-is}
-use Rattle.channels.specs.declared.service.Layout.{Layout}
+use Rattle.channels.specs.declared.layout.Layout.{Layout}
 use Rattle.channels.specs.Channels.{results, refusing, roomFaultFor, under, channels}
 use Rattle.channels.specs.inner.Rounds.{Standing, standing, roundsAt, loadedTo, RoomFor, Asked, Ends, replyBy, statusAt, countAt, Serves}
 use Rattle.channels.specs.Answers.{Gives}

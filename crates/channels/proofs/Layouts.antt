@@ -23,7 +23,7 @@ use Rattle.layered.specs.inner.Frames.{frameFaultOf}
 use Rattle.layered.specs.Answers.{ends}
 use Rattle.layered.specs.inner.Stages.{stageAfter, TestRoom}
 use Rattle.layered.specs.inner.Stages.{StepRoom as IterateRoom}
-use Rattle.channels.specs.declared.service.Layout.{Layout}
+use Rattle.channels.specs.declared.layout.Layout.{Layout}
 use Rattle.channels.specs.Channels.{frameOf, ownOf}
 use Rattle.channels.specs.inner.Rounds.{lentIn, statusOf, patchAt, loadAt, stepAt}
 use Rattle.channels.specs.inner.Layouts.{Fitted, Puts, OnePart, PartRoom}

@@ -11,7 +11,7 @@ use Rattle.machine.specs.CodeLine.{Code, size}
 use Rattle.machine.specs.Machine.{used}
 use Rattle.machine.specs.Decoding.{Buffers}
 use Rattle.machine.proofs.Ranges.{column-room}
-use Rattle.channels.specs.declared.service.Layout.{Layout}
+use Rattle.channels.specs.declared.layout.Layout.{Layout}
 use Rattle.channels.specs.inner.Rounds.{Standing, standing, statusAt, countAt, stepAt, loadAt, loadedAt, loadedTo, movedAt, servingAt, roundAt, RoomFor}
 use Rattle.channels.specs.inner.Layouts.{Fitted, Puts, OnePart, AllParts, PartRoom, NextRoom, ServeRoom}
 use Rattle.channels.proofs.Serves.{serving-serves, round-serves}

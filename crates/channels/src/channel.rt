@@ -1,5 +1,5 @@
 // One channel in its parts of the buffers: its load and its next iteration.
-use crate::service::Layout;
+use crate::layout::Layout;
 use layered::answers::Stage;
 use layered::frame;
 use layered::stages;

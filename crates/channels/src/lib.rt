@@ -1,6 +1,7 @@
 // One check layer, eight channels: up to eight frames under one code line, with one allowance of iterations for all.
 pub mod answers;
 mod channel;
+mod layout;
 mod service;
 mod whole;
 

@@ -1,6 +1,6 @@
 // The channels in turn: all loaded, then rounds in which each that is running gets one iteration.
 use crate::channel;
-use codeline::answers::Numbers;
+use crate::layout::Layout;
 ghost use mathlib.Core.Path.{_≡_};
 ghost use mathlib.Core.List.{List};
 ghost use Prim.Native.Nat.{ℕ};
@@ -8,14 +8,6 @@ ghost use Rattle.machine.specs.CodeLine.{Code};
 ghost use Rattle.machine.specs.Decoding.{lending};
 ghost use Rattle.channels.specs.inner.Rounds.{standing, servingAt, loadedTo, roundAt, roundsAt};
 ghost use Rattle.channels.specs.inner.Layouts.{Fitted, AllParts, LoadsRoom, OneRoom, ServeRoom};
-
-// The numbers of the code line, and the lengths of a channel's parts: N, N times q, and the M record lengths added up.
-pub struct Layout {
-    pub numbers: Numbers,
-    pub columns: usize,
-    pub costs: usize,
-    pub store: usize,
-}
 
 // Every channel is loaded, by number.
 pub fn load_all(

@@ -1,9 +1,9 @@
 // The whole call: its refusals, the code line read once, and the service.
 use crate::answers::Served;
+use crate::layout;
+use crate::layout::Layout;
 use crate::service;
-use crate::service::Layout;
 use codeline::answers::Header;
-use codeline::answers::Numbers;
 use layered::frame;
 ghost use mathlib.Core.Path.{_≡_};
 ghost use mathlib.Core.List.{List};
@@ -12,7 +12,7 @@ ghost use Rattle.machine.specs.CodeLine.{good, Code, parse};
 ghost use Rattle.machine.specs.Decoding.{Buffers, lending};
 ghost use Rattle.channels.specs.Channels.{refusing, channels};
 ghost use Rattle.channels.specs.Answers.{Gives};
-ghost use Rattle.channels.specs.inner.Layouts.{Fitted, LaidOut, countFault, faultFor, FaultRoom, UnderRoom};
+ghost use Rattle.channels.specs.inner.Layouts.{Fitted, countFault, faultFor, FaultRoom, UnderRoom};
 
 // A refusal of the whole call.
 fn refused(k: u8) -> Served
@@ -40,21 +40,6 @@ fn count_fault(count: u8, allowance: u32) -> u8
         return 22;
     }
     0
-}
-
-// The lengths of one channel's parts.
-fn layout_of(numbers: Numbers, degrees: &[u8]) -> Layout
-    ensures { λ r. ⌜ LaidOut numbers (now (degrees .entry)) r ⌝ }
-{
-    let n = scalar::u16_to_usize(numbers.columns);
-    let q = rules::size(numbers.first);
-    let store = frame::used(numbers, degrees);
-    Layout {
-        numbers,
-        columns: n,
-        costs: n * q,
-        store,
-    }
 }
 
 // 12, 2, 3, 4 and 19 for the whole call, "each length being the count times one channel's"; 0 for none.
@@ -185,7 +170,7 @@ pub fn decode_in(
     match codeline::code_tables(code, degrees, columns, weights) {
         Header::Refused(k) => refused(k),
         Header::Read(numbers) => {
-            let z = layout_of(numbers, degrees);
+            let z = layout::layout_of(numbers, degrees);
             let count = scalar::u8_to_usize(count);
             under_code(
                 count,

@@ -20,7 +20,7 @@ use Rattle.machine.specs.inner.InRange.{Passable}
 use Rattle.layered.specs.inner.Frames.{roomFaultOf}
 use Rattle.codeline.specs.declared.answers.Numbers.{Numbers}
 use Rattle.codeline.specs.inner.Coding.{codeOf, Coded}
-use Rattle.channels.specs.declared.service.Layout.{Layout}
+use Rattle.channels.specs.declared.layout.Layout.{Layout}
 use Rattle.channels.specs.Channels.{Results, ownOf, countTests}
 use Rattle.channels.specs.inner.Rounds.{Standing, Serves, lentIn, statusOf, patchAt}
 
