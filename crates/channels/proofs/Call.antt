@@ -10,6 +10,7 @@ use lib.ListN.{length, getD, length-map}
 use lib.Seq.{ext-getD}
 use borrow.Author.Tests.{ltb-false, eqb-true, eqb-false, ne-eqb, eq-eqb}
 use Rattle.trellis.specs.Lists.{upTo, pick, allTo}
+use Rattle.trellis.specs.Refusals.{Test, refusedBy, faultBy}
 use Rattle.trellis.specs.Reply.{Reply, refusal, foundIn, notFoundIn}
 use Rattle.trellis.proofs.Lists.{of-upTo}
 use Rattle.trellis.proofs.Places.{length-count, map-ext}
@@ -17,18 +18,19 @@ use Rattle.machine.specs.CodeLine.{Read, good, bad, parse, Code, size, zeroIn, 
 use Rattle.machine.specs.Machine.{settled}
 use Rattle.machine.proofs.Lists.{at-upTo, map-after}
 use Rattle.machine.specs.inner.Accepted.{GoodCode}
-use Rattle.machine.proofs.Lines.{parse-good}
+use Rattle.machine.proofs.Lines.{Passed, parse-good}
 use Rattle.machine.specs.inner.InRange.{Below}
 use Rattle.machine.proofs.Ranges.{below-take, below-drop}
 use Rattle.machine.specs.Decoding.{Buffers}
 use Rattle.channels.specs.Serving.{countOf, sum}
-use Rattle.channels.specs.Channels.{after, finished, spentIn, answer, received, frameOf, ownOf, Results, refusing, counted, answersOf, results, roomFaultFor, under, channels}
+use Rattle.channels.specs.Channels.{after, finished, spentIn, answer, received, frameOf, ownOf, Results, refusing, counted, answersOf, results, countTests, testsFor, under, channels}
 use Rattle.channels.specs.Claims.{nothing, IsServed, answerAt, Channels-whole, Channels-found-first, Channels-fair, Channels-sum, Channels-alone, Channels-refused}
 use Rattle.channels.specs.inner.Rounds.{RoomFor}
 use Rattle.channels.proofs.Servings.{length-counts, sum-left, unfinished-before, spent-left}
 use Rattle.channels.proofs.Fairness.{fair}
 use Rattle.channels.proofs.Alone.{after-none, alone}
-use Rattle.channels.proofs.Parts.{length-part, exact-room, room-for, own-exact, own-together, received-exact, received-refused}
+use Rattle.channels.proofs.Refused.{Numbered, Told, told, count-numbered, count-passed, whole-numbered, whole-passed}
+use Rattle.channels.proofs.Parts.{length-part, exact-room, own-exact, own-together, received-exact, received-refused}
 
 -- none of the refusals of the whole call
 pub record Open (n A : ℕ) (code fs : List ℕ) (b : Buffers) (C : Code) : Type 0 where
@@ -40,24 +42,23 @@ pub record Open (n A : ℕ) (code fs : List ℕ) (b : Buffers) (C : Code) : Type
 pub open-of : (n A : ℕ) (code fs : List ℕ) (b : Buffers) (C : Code) → IsServed n A code fs b C → Open n A code fs b C
 unfolding channels
 open-of n A code fs b C I =
-    go (ltb n 1) refl (ltb 8 n) refl (eqb A 0) refl (eqb (length fs) (n * (C .columns * size C))) refl (eqb (roomFaultFor C n b) 0) refl (ap (λ r. r .number) (sym same) ∙ I .served)
-    same
+    go (told (λ k. refusing k b) (under (good C) n A fs b) (countTests n A) (count-numbered n A))
+    (told (λ k. refusing k b) (results C n A fs b) (testsFor C n fs b) (whole-numbered C n fs b))
   where
-    made : Bool → Bool → Bool → Bool → Bool → Results
-    made i j k l m = pick (i || j) (refusing 21 b) (pick k (refusing 22 b) (pick l (pick m (results C n A fs b) (refusing (roomFaultFor C n b) b)) (refusing 12 b)))
-
-    same : channels n A code fs b ≡ made (ltb n 1) (ltb 8 n) (eqb A 0) (eqb (length fs) (n * (C .columns * size C))) (eqb (roomFaultFor C n b) 0)
+    same : channels n A code fs b ≡ refusedBy (countTests n A) (λ k. refusing k b) (under (good C) n A fs b)
     same = rw (I .line)
 
-    go : (i : Bool) → ltb n 1 ≡ i → (j : Bool) → ltb 8 n ≡ j → (k : Bool) → eqb A 0 ≡ k → (l : Bool) → eqb (length fs) (n * (C .columns * size C)) ≡ l
-        → (m : Bool) → eqb (roomFaultFor C n b) 0 ≡ m → made i j k l m .number ≡ 0 → channels n A code fs b ≡ made i j k l m → Open n A code fs b C
-    go true a j c k d l e m f h s = absurd (omega arith)
-    go false a true c k d l e m f h s = absurd (omega arith)
-    go false a false c true d l e m f h s = absurd (omega arith)
-    go false a false c false d false e m f h s = absurd (omega arith)
-    go false a false c false d true e false f h s = absurd (eqb-false _ _ f h)
-    go false a false c false d true e true f h s =
-        record { some = omega (arith, ltb-false n 1 a); long = eqb-true _ _ e; room = room-for C n b (eqb-true _ _ f); are = s }
+    open-by : Passed (countTests n A) → Passed (testsFor C n fs b) → channels n A code fs b ≡ results C n A fs b → Open n A code fs b C
+    open-by P Q e = record { some = count-passed n A P .0; long = whole-passed C n fs b Q .0; room = whole-passed C n fs b Q .1; are = e }
+
+    number : (k : ℕ) → channels n A code fs b ≡ refusing k b → k ≡ 0
+    number k e = ap (λ r. r .number) (sym e) ∙ I .served
+
+    go : Told (λ k. refusing k b) (under (good C) n A fs b) (Passed (countTests n A)) (faultBy (countTests n A)) (refusedBy (countTests n A) (λ k. refusing k b) (under (good C) n A fs b))
+        → Told (λ k. refusing k b) (results C n A fs b) (Passed (testsFor C n fs b)) (faultBy (testsFor C n fs b)) (under (good C) n A fs b) → Open n A code fs b C
+    go (inr s) t = absurd (omega (arith, number _ (same ∙ s .1)))
+    go (inl s) (inr t) = absurd (omega (arith, number _ (same ∙ s .2 ∙ t .1)))
+    go (inl s) (inl t) = open-by (s .0) (t .0) (same ∙ s .2 ∙ t .2)
 
 pub fault-13 : (C : Code) (f : List ℕ) → length f ≡ C .columns * size C → frameFault C f ≢ 0 → frameFault C f ≡ 13
 unfolding frameFault
@@ -214,17 +215,17 @@ Unchanged b r = (r .spent ≡ 0) × (r .answers ≡ []) × (r .buffers ≡ b)
 
 pub channels-whole : Channels-whole
 unfolding channels results
-channels-whole n A code fs b h = go (ltb n 1 || ltb 8 n) (eqb A 0) (parse code) h
+channels-whole n A code fs b h = by (countTests n A) (count-numbered n A) (under (parse code) n A fs b) (whole (parse code)) h
   where
-    served : (C : Code) (i j : Bool) → pick i (pick j (results C n A fs b) (refusing (roomFaultFor C n b) b)) (refusing 12 b) .number ≢ 0
-        → Unchanged b (pick i (pick j (results C n A fs b) (refusing (roomFaultFor C n b) b)) (refusing 12 b))
-    served C true true h = absurd (h refl)
-    served C true false h = (refl, refl, refl)
-    served C false j h = (refl, refl, refl)
+    -- a table refuses without a change, or hands on
+    by : (l : List Test) → Numbered l → (x : Results) → (x .number ≢ 0 → Unchanged b x) → refusedBy l (λ k. refusing k b) x .number ≢ 0
+        → Unchanged b (refusedBy l (λ k. refusing k b) x)
+    by l N x g = go (refusedBy l (λ k. refusing k b) x) (told (λ k. refusing k b) x l N)
+      where
+        go : (r : Results) → Told (λ k. refusing k b) x (Passed l) (faultBy l) r → r .number ≢ 0 → Unchanged b r
+        go r (inl t) h = rw (t .2) (g (λ e. h (ap (λ (r : Results). r .number) (t .2) ∙ e)))
+        go r (inr t) h = rw (t .1) (refl, refl, refl)
 
-    go : (i j : Bool) (r : Read Code) → pick i (refusing 21 b) (pick j (refusing 22 b) (under r n A fs b)) .number ≢ 0
-        → Unchanged b (pick i (refusing 21 b) (pick j (refusing 22 b) (under r n A fs b)))
-    go true j r h = (refl, refl, refl)
-    go false true r h = (refl, refl, refl)
-    go false false (bad k) h = (refl, refl, refl)
-    go false false (good C) h = served C (eqb (length fs) (n * (C .columns * size C))) (eqb (roomFaultFor C n b) 0) h
+    whole : (r : Read Code) → under r n A fs b .number ≢ 0 → Unchanged b (under r n A fs b)
+    whole (bad k) h = (refl, refl, refl)
+    whole (good C) h = by (testsFor C n fs b) (whole-numbered C n fs b) (results C n A fs b) (λ i. absurd (i refl)) h

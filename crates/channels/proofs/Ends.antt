@@ -25,7 +25,7 @@ use Rattle.machine.proofs.Lines.{parse-good}
 use Rattle.machine.specs.inner.InRange.{Below}
 use Rattle.machine.proofs.Ranges.{below-take, below-drop}
 use Rattle.channels.specs.Serving.{countOf, serve, sum}
-use Rattle.channels.specs.Channels.{after, finished, spentIn, answer, received, frameOf, ownOf, counted, results, roomFaultFor, channels}
+use Rattle.channels.specs.Channels.{after, finished, spentIn, answer, received, frameOf, ownOf, counted, results, channels}
 use Rattle.channels.specs.Claims.{IsServed}
 use Rattle.channels.specs.inner.Rounds.{statusOf, Standing, standing, statusAt, countAt, loadedTo, roundsAt, Rooms, Asked, replyBy, Ends}
 use Rattle.channels.proofs.Servings.{length-counts, sum-left}
@@ -39,7 +39,7 @@ use Rattle.channels.proofs.Loads.{Loaded, loaded}
 
 -- with none of its refusals the call has results
 pub asked-results : (n A : ℕ) (code fs : List ℕ) (b : Buffers) (C : Code) → Asked n A code fs b C → channels n A code fs b ≡ results C n A fs b
-unfolding channels roomFaultFor
+unfolding channels
 asked-results n A code fs b C K =
     simp (
       le-ltb n 1 (K .count-low),

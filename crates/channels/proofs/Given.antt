@@ -10,6 +10,7 @@ use lib.Dec.{eqb, ltb}
 use borrow.Author.Tests.{ne-eqb, eqb-true, eqb-false, ltb-false, le-ltb}
 use lib.ListN.{length, getD, drop, replicate, length-map, getD-replicate}
 use Rattle.trellis.specs.Lists.{pick, upTo}
+use Rattle.trellis.specs.Refusals.{faultBy}
 use Rattle.trellis.specs.Reply.{Reply}
 use Rattle.trellis.proofs.Places.{length-count}
 use Rattle.machine.specs.CodeLine.{good, Code, size, numbersOf, parse}
@@ -21,14 +22,13 @@ use Rattle.codeline.specs.declared.answers.Numbers.{Numbers}
 use Rattle.codeline.specs.inner.Coding.{codeOf, Coded}
 use Rattle.codeline.specs.Answers.{headerNumbers}
 use Rattle.codeline.proofs.Answered.{header-refused}
-use Rattle.layered.specs.inner.Frames.{roomFaultOf}
 use Rattle.layered.proofs.Decoded.{used-is}
 use Rattle.channels.specs.declared.layout.Layout.{Layout}
-use Rattle.channels.specs.Channels.{results, refusing, roomFaultFor, under, channels}
+use Rattle.channels.specs.Channels.{results, refusing, countTests, testsFor, under, channels}
 use Rattle.channels.specs.inner.Rounds.{Standing, standing, roundsAt, loadedTo, RoomFor, Asked, Ends, replyBy, statusAt, countAt, Serves}
 use Rattle.channels.specs.Answers.{Gives}
 use Rattle.channels.specs.inner.Layouts.{LaidOut, Fitted, countFault, faultFor, FaultRoom, UnderRoom}
-use Rattle.channels.proofs.Parts.{room-for}
+use Rattle.channels.proofs.Refused.{told, told-none, told-some, count-numbered, count-passed, whole-numbered, whole-passed}
 use Rattle.channels.proofs.Ends.{eight-end}
 use Rattle.channels.proofs.Quiet.{round-left}
 use Rattle.channels.proofs.Serves.{serves-loaded}
@@ -43,22 +43,13 @@ drop-zeros (suc m) (suc n) h = let e : m - n ≡ suc m - suc n = omega arith in 
 module _ (n A k : ℕ) (e : k ≡ countFault n A) where
   pub count-refused : (k ≡ 0 → ⊥) → (code fs : List ℕ) (b : Buffers) → channels n A code fs b ≡ refusing k b
   unfolding channels countFault
-  count-refused h code fs b = go (ltb n 1 || ltb 8 n) refl (eqb A 0) refl
-    where
-      go : (i : Bool) → (ltb n 1 || ltb 8 n) ≡ i → (j : Bool) → eqb A 0 ≡ j → pick i (refusing 21 b) (pick j (refusing 22 b) (under (parse code) n A fs b)) ≡ refusing k b
-      go true a j d = ap (λ x. refusing x b) (sym (e ∙ rw a))
-      go false a true d = ap (λ x. refusing x b) (sym (e ∙ rw (a, d)))
-      go false a false d = absurd (h (e ∙ rw (a, d)))
+  count-refused h code fs b =
+      told-some (λ k. refusing k b) _ _ _ _ (told (λ k. refusing k b) (under (parse code) n A fs b) (countTests n A) (count-numbered n A)) (λ i. h (e ∙ i))
+      ∙ ap (λ x. refusing x b) (sym e)
 
   pub count-passes : k ≡ 0 → (1 ≤ n) × (n ≤ 8) × (0 < A)
   unfolding countFault
-  count-passes h = go (ltb n 1) refl (ltb 8 n) refl (eqb A 0) refl (sym e ∙ h)
-    where
-      go : (i : Bool) → ltb n 1 ≡ i → (j : Bool) → ltb 8 n ≡ j → (l : Bool) → eqb A 0 ≡ l → _≡_ {A = ℕ} (pick (i || j) 21 (pick l 22 0)) 0 → (1 ≤ n) × (n ≤ 8) × (0 < A)
-      go true a j d l f o = absurd (omega arith)
-      go false a true d l f o = absurd (omega arith)
-      go false a false d true f o = absurd (omega arith)
-      go false a false d false f o = (ltb-false n 1 a, ltb-false 8 n d, omega (arith, eqb-false A 0 f))
+  count-passes h = count-passed n A (told-none (λ k. k) 0 _ _ _ (told (λ k. k) 0 (countTests n A) (count-numbered n A)) (sym e ∙ h) .0)
 
 -- with these passed, the code decides
 pub passed-under : (n A : ℕ) (code fs : List ℕ) (b : Buffers) → 1 ≤ n → n ≤ 8 → 0 < A → channels n A code fs b ≡ under (parse code) n A fs b
@@ -88,8 +79,8 @@ module _ (C : Code) (z : Layout) (ds cs ws : List ℕ) (H : Fitted C z ds cs ws)
   abbrev b : Buffers
   b = lending y p s v
 
-  fault-is : k ≡ pick (eqb (length fs) (n * (C .columns * size C))) (roomFaultFor C n b) 12
-  unfolding faultFor roomFaultOf roomFaultFor
+  fault-is : k ≡ faultBy (testsFor C n fs b)
+  unfolding faultFor
   fault-is = e ∙ rw (H .columns-is, H .costs-is, H .store-is)
 
   under-is : channels n A code fs b ≡ under (good C) n A fs b
@@ -97,21 +88,14 @@ module _ (C : Code) (z : Layout) (ds cs ws : List ℕ) (H : Fitted C z ds cs ws)
 
   -- 12, 2, 3, 4, 19
   pub whole-refused : (k ≡ 0 → ⊥) → channels n A code fs b ≡ refusing k b
-  whole-refused h = under-is ∙ go (eqb (length fs) (n * (C .columns * size C))) refl (eqb (roomFaultFor C n b) 0) refl
-    where
-      go : (i : Bool) → eqb (length fs) (n * (C .columns * size C)) ≡ i → (j : Bool) → eqb (roomFaultFor C n b) 0 ≡ j
-          → pick i (pick j (results C n A fs b) (refusing (roomFaultFor C n b) b)) (refusing 12 b) ≡ refusing k b
-      go true a true d = absurd (h (fault-is ∙ rw a (eqb-true _ _ d)))
-      go true a false d = ap (λ x. refusing x b) (sym (fault-is ∙ rw a))
-      go false a j d = ap (λ x. refusing x b) (sym (fault-is ∙ rw a))
+  whole-refused h =
+      under-is
+      ∙ told-some (λ k. refusing k b) _ _ _ _ (told (λ k. refusing k b) (results C n A fs b) (testsFor C n fs b) (whole-numbered C n fs b)) (λ i. h (fault-is ∙ i))
+      ∙ ap (λ x. refusing x b) (sym fault-is)
 
   module _ (h : k ≡ 0) (bytes : (i : ℕ) → getD fs i 0 ≤ 255) where
     passes : (length fs ≡ n * (C .columns * size C)) × RoomFor C n b
-    passes = go (eqb (length fs) (n * (C .columns * size C))) refl (sym fault-is ∙ h)
-      where
-        go : (i : Bool) → eqb (length fs) (n * (C .columns * size C)) ≡ i → pick i (roomFaultFor C n b) 12 ≡ 0 → (length fs ≡ n * (C .columns * size C)) × RoomFor C n b
-        go true a o = (eqb-true _ _ a, room-for C n b o)
-        go false a o = absurd (omega arith)
+    passes = whole-passed C n fs b (told-none (λ k. k) 0 _ _ _ (told (λ k. k) 0 (testsFor C n fs b) (whole-numbered C n fs b)) (sym fault-is ∙ h) .0)
 
     pub asked : Asked n A code fs b C
     asked = record { count-low = low; count-high = high; some = some; line = line; long = passes .0; room = passes .1; bytes = bytes }

@@ -7,7 +7,7 @@ use Prim.Native.Nat.{ℕ, _+_, _-_, _*_, _≤_, _<_, min}
 use lib.Dec.{eqb, ltb}
 use lib.ListN.{length, take, replicate}
 use Rattle.trellis.specs.Lists.{pick}
-use Rattle.trellis.specs.Refusals.{unless, refusedBy, faultBy}
+use Rattle.trellis.specs.Refusals.{faultBy}
 use Rattle.trellis.specs.Rules.{sizeOf}
 use Rattle.trellis.specs.Reply.{Reply}
 use Rattle.machine.specs.CodeLine.{good, Code, size, parse}
@@ -17,11 +17,10 @@ use Rattle.machine.specs.Moments.{Moment}
 use Rattle.machine.specs.inner.Tables.{bytesBefore}
 use Rattle.machine.specs.inner.Accepted.{GoodCode}
 use Rattle.machine.specs.inner.InRange.{Passable}
-use Rattle.layered.specs.inner.Frames.{roomFaultOf}
 use Rattle.codeline.specs.declared.answers.Numbers.{Numbers}
 use Rattle.codeline.specs.inner.Coding.{codeOf, Coded}
 use Rattle.channels.specs.declared.layout.Layout.{Layout}
-use Rattle.channels.specs.Channels.{Results, ownOf, countTests}
+use Rattle.channels.specs.Channels.{ownOf, countTests, wholeTests}
 use Rattle.channels.specs.inner.Rounds.{Standing, Serves, lentIn, statusOf, patchAt}
 
 -- "21, channel count not 1 to 8, before all; 22, A is 0, after 21."; 0 for neither
@@ -37,8 +36,7 @@ pub record LaidOut (k : Numbers) (ds : List ℕ) (z : Layout) : Type 0 where
 
 -- 12, 2, 3, 4, 19 by the lengths; 0 for none
 unfoldable pub faultFor : ℕ → Layout → ℕ → ℕ → ℕ → ℕ → ℕ → ℕ
-faultFor n z f y c s v =
-    refusedBy (unless (eqb f (n * z .costs)) 12 ∷ []) (λ k. k) (roomFaultOf (n * z .columns) (n * z .costs) (n * z .store) y c s v)
+faultFor n z f y c s v = faultBy (wholeTests n (z .columns) (z .costs) (z .store) f y c s v)
 
 -- lengths whose multiples fit
 pub record FaultRoom (n : ℕ) (z : Layout) : Type 0 where
