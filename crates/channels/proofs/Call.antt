@@ -5,10 +5,10 @@ use mathlib.Core.Logic.{_≢_, _⊎_, inl, inr, ⊎-elim}
 use mathlib.Core.List.{List, [], map}
 use Prim.Native.Nat.{ℕ, zero, suc, _*_, _≤_, _<_}
 use native.Mathlib.Omega.{arith}
-use lib.Dec.{eqb, ltb}
+use lib.Dec.{eqb}
 use lib.ListN.{length, getD, length-map}
 use lib.Seq.{ext-getD}
-use borrow.Author.Tests.{ltb-false, eqb-true, eqb-false, ne-eqb, eq-eqb}
+use borrow.Author.Tests.{eqb-true, eqb-false, ne-eqb, eq-eqb}
 use Rattle.trellis.specs.Lists.{upTo, pick, allTo}
 use Rattle.trellis.specs.Refusals.{Test, refusedBy, faultBy}
 use Rattle.trellis.specs.Reply.{Reply, refusal, foundIn, notFoundIn}
@@ -93,35 +93,17 @@ as-map l =
     ext-getD 0 (map (λ c. getD l c 0) (upTo (length l))) l (length-map (upTo (length l)) (λ c. getD l c 0) ∙ length-count 0 (length l))
     (λ n h. at-upTo (λ c. getD l c 0) (length l) n 0 (omega (arith, length-map (upTo (length l)) (λ c. getD l c 0), length-count 0 (length l))))
 
-module _ (n A : ℕ) (code fs : List ℕ) (b : Buffers) (C : Code) (I : IsServed n A code fs b C) where
-  O : Open n A code fs b C
-  O = open-of n A code fs b C I
-
-  G : GoodCode C
-  G = parse-good code C (I .line)
-
+-- the channels under a code, none of the refusals of the whole call applying
+module _ (C : Code) (n A : ℕ) (fs : List ℕ) (some : 0 < n) (long : length fs ≡ n * (C .columns * size C)) where
   abbrev pub j : ℕ → ℕ
   j c = countOf (counted C n A fs) c
 
   pub long-frame : (c : ℕ) → c < n → length (frameOf C fs c) ≡ C .columns * size C
-  long-frame c h = length-part fs n (C .columns * size C) c (omega (arith, O .long)) h
-
-  pub byte-frame : (c : ℕ) → Below 255 (frameOf C fs c)
-  byte-frame c = below-take 255 (C .columns * size C) _ (below-drop 255 (c * (C .columns * size C)) fs (I .bytes))
+  long-frame c h = length-part fs n (C .columns * size C) c (omega arith) h
 
   pub before : (c i : ℕ) → i < j c → finished C (frameOf C fs c) i ≡ false
   unfolding counted
-  before c i h = unfinished-before (λ c. finished C (frameOf C fs c)) n A (O .some) (n * A) c i h
-
-  pub answer-at : (c : ℕ) → c < n → answerAt (channels n A code fs b) c ≡ answer C (frameOf C fs c) (j c)
-  unfolding results
-  answer-at c h = rw (O .are) (at-upTo (λ c. answer C (frameOf C fs c) (j c)) n c nothing h)
-
-  buffers-at : (c : ℕ) → c < n → ownOf C (channels n A code fs b .buffers) c ≡ received C (frameOf C fs c) (j c) (ownOf C b c)
-  unfolding results
-  buffers-at c h =
-      rw (O .are)
-      (own-together C n (λ c. received C (frameOf C fs c) (j c) (ownOf C b c)) b (λ m i. received-exact C G (frameOf C fs m) (byte-frame m) (j m) (ownOf C b m) (own-exact C n b (O .room) m i)) c h)
+  before c i h = unfinished-before (λ c. finished C (frameOf C fs c)) n A some (n * A) c i h
 
   -- a refused channel is finished from the start
   refused-none : (f : List ℕ) (k : ℕ) → ((i : ℕ) → i < k → finished C f i ≡ false) → frameFault C f ≢ 0 → 0 ≡ k
@@ -137,24 +119,56 @@ module _ (n A : ℕ) (code fs : List ℕ) (b : Buffers) (C : Code) (I : IsServed
   value-at c h =
       ⊎-elim (λ x. x .2) (λ x. rw (x .1) (refused-none (frameOf C fs c) (j c) (before c) (x .0))) (answer-cases C (frameOf C fs c) (j c) (long-frame c h))
 
-  sum-answers : sum (map (λ a. a .value) (answersOf C n A fs)) ≡ sum (counted C n A fs .counts)
+  pub sum-answers : sum (map (λ a. a .value) (answersOf C n A fs)) ≡ sum (counted C n A fs .counts)
   unfolding counted
   sum-answers =
       ap sum
       (map-after (λ (a : Reply). a .value) (λ c. answer C (frameOf C fs c) (j c)) (upTo n)
       ∙ map-ext (λ c i. value-at c (of-upTo i))
-      ∙ ap (λ k. map j (upTo k)) (sym (length-counts (λ c. finished C (frameOf C fs c)) n A (O .some) (n * A)))
+      ∙ ap (λ k. map j (upTo k)) (sym (length-counts (λ c. finished C (frameOf C fs c)) n A some (n * A)))
       ∙ as-map (counted C n A fs .counts))
 
-  pub spent-is : channels n A code fs b .spent ≡ sum (counted C n A fs .counts)
+module _ (n A : ℕ) (code fs : List ℕ) (b : Buffers) (C : Code) (I : IsServed n A code fs b C) where
+  O : Open n A code fs b C
+  O = open-of n A code fs b C I
+
+  G : GoodCode C
+  G = parse-good code C (I .line)
+
+  abbrev i : ℕ → ℕ
+  i c = countOf (counted C n A fs) c
+
+  frame-long : (c : ℕ) → c < n → length (frameOf C fs c) ≡ C .columns * size C
+  frame-long = long-frame C n A fs (O .some) (O .long)
+
+  unfinished : (c k : ℕ) → k < i c → finished C (frameOf C fs c) k ≡ false
+  unfinished = before C n A fs (O .some) (O .long)
+
+  value-is : (c : ℕ) → c < n → answer C (frameOf C fs c) (i c) .value ≡ i c
+  value-is = value-at C n A fs (O .some) (O .long)
+
+  byte-frame : (c : ℕ) → Below 255 (frameOf C fs c)
+  byte-frame c = below-take 255 (C .columns * size C) _ (below-drop 255 (c * (C .columns * size C)) fs (I .bytes))
+
+  answer-at : (c : ℕ) → c < n → answerAt (channels n A code fs b) c ≡ answer C (frameOf C fs c) (i c)
   unfolding results
-  spent-is = rw (O .are) sum-answers
+  answer-at c h = rw (O .are) (at-upTo (λ c. answer C (frameOf C fs c) (i c)) n c nothing h)
+
+  buffers-at : (c : ℕ) → c < n → ownOf C (channels n A code fs b .buffers) c ≡ received C (frameOf C fs c) (i c) (ownOf C b c)
+  unfolding results
+  buffers-at c h =
+      rw (O .are)
+      (own-together C n (λ c. received C (frameOf C fs c) (i c) (ownOf C b c)) b (λ m k. received-exact C G (frameOf C fs m) (byte-frame m) (i m) (ownOf C b m) (own-exact C n b (O .room) m k)) c h)
+
+  spent-is : channels n A code fs b .spent ≡ sum (counted C n A fs .counts)
+  unfolding results
+  spent-is = rw (O .are) (sum-answers C n A fs (O .some) (O .long))
 
   spent-low : channels n A code fs b .spent ≤ A
   unfolding counted
   spent-low = omega (arith, spent-is, sum-left (λ c. finished C (frameOf C fs c)) n A (O .some) (n * A))
 
-  spent-all : (c : ℕ) → c < n → finished C (frameOf C fs c) (j c) ≡ false → channels n A code fs b .spent ≡ A
+  spent-all : (c : ℕ) → c < n → finished C (frameOf C fs c) (i c) ≡ false → channels n A code fs b .spent ≡ A
   unfolding counted
   spent-all c h u = omega (arith, spent-is, sum-left (λ c. finished C (frameOf C fs c)) n A (O .some) (n * A), spent-left (λ c. finished C (frameOf C fs c)) n A (O .some) c h u)
 
@@ -166,13 +180,13 @@ pub channels-alone : Channels-alone
 unfolding answer
 channels-alone n A code fs b C I c h r =
     ⊎-elim (λ x.
-    let k = value-at n A code fs b C I c h in
+    let k = value-is n A code fs b C I c h in
     rw (answer-at n A code fs b C I c h, k, buffers-at n A code fs b C I c h)
-    (alone code (frameOf C fs c) C _ (ownOf C b c) (I .line) (x .0) (exact-room C (ownOf C b c) (own-exact C n b (O n A code fs b C I .room) c h)) (before n A code fs b C I c)))
+    (alone code (frameOf C fs c) C _ (ownOf C b c) (I .line) (x .0) (exact-room C (ownOf C b c) (own-exact C n b (O n A code fs b C I .room) c h)) (unfinished n A code fs b C I c)))
     (λ x.
     let e : true ≡ false = ap (λ (a : Reply). a .refused) (sym (x .1)) ∙ ap (λ (a : Reply). a .refused) (sym (answer-at n A code fs b C I c h)) ∙ r in
     let z : _≡_ {A = ℕ} 0 1 = cc in absurd (omega arith))
-    (answer-cases C (frameOf C fs c) (countOf (counted C n A fs) c) (long-frame n A code fs b C I c h))
+    (answer-cases C (frameOf C fs c) (countOf (counted C n A fs) c) (frame-long n A code fs b C I c h))
 
 pub channels-refused : Channels-refused
 channels-refused n A code fs b C I c h r =
@@ -180,7 +194,7 @@ channels-refused n A code fs b C I c h r =
     let e : false ≡ true = sym (x .1) ∙ ap (λ (a : Reply). a .refused) (sym (answer-at n A code fs b C I c h)) ∙ r in
     let z : _≡_ {A = ℕ} 0 1 = cc in absurd (omega arith))
     (λ x. (answer-at n A code fs b C I c h ∙ x .1, buffers-at n A code fs b C I c h ∙ untouched (frameOf C fs c) (countOf (counted C n A fs) c) (ownOf C b c) (x .0)))
-    (answer-cases C (frameOf C fs c) (countOf (counted C n A fs) c) (long-frame n A code fs b C I c h))
+    (answer-cases C (frameOf C fs c) (countOf (counted C n A fs) c) (frame-long n A code fs b C I c h))
   where
     untouched : (f : List ℕ) (j : ℕ) (own : Buffers) → frameFault C f ≢ 0 → received C f j own ≡ own
     untouched f j own x = received-refused C f j own x
@@ -192,13 +206,13 @@ channels-sum n A code fs b C I = (
   λ c h e.
       ⊎-elim (λ x. spent-all n A code fs b C I c h (x .3 (ap (λ (a : Reply). a .number) (sym (answer-at n A code fs b C I c h)) ∙ e)))
       (λ x. let z : 13 ≡ 20 = ap (λ (a : Reply). a .number) (sym (x .1)) ∙ ap (λ (a : Reply). a .number) (sym (answer-at n A code fs b C I c h)) ∙ e in absurd (omega arith))
-      (answer-cases C (frameOf C fs c) (countOf (counted C n A fs) c) (long-frame n A code fs b C I c h)),
+      (answer-cases C (frameOf C fs c) (countOf (counted C n A fs) c) (frame-long n A code fs b C I c h)),
 )
 
 pub channels-found-first : Channels-found-first
 unfolding answer finished
 channels-found-first n A code fs b C I c h e s =
-    let k : countOf (counted C n A fs) c ≡ 0 = none (countOf (counted C n A fs) c) (before n A code fs b C I c) in
+    let k : countOf (counted C n A fs) c ≡ 0 = none (countOf (counted C n A fs) c) (unfinished n A code fs b C I c) in
     answer-at n A code fs b C I c h ∙ rw (k, e, after-none C (frameOf C fs c), s) refl
   where
     none : (j : ℕ) → ((i : ℕ) → i < j → finished C (frameOf C fs c) i ≡ false) → j ≡ 0

@@ -1,17 +1,16 @@
 -- Tables of tests: none applies, or the first that does gives its number. The two tables of the whole call, by this.
-use mathlib.Core.Path.{_≡_, refl, sym, ap, _∙_}
+use mathlib.Core.Path.{_≡_, refl}
 use mathlib.Core.Bool.{Bool, true, false, _||_}
-use mathlib.Core.Logic.{_≢_, _⊎_, inl, inr, ⊎-elim}
+use mathlib.Core.Logic.{_⊎_, inl, inr}
 use mathlib.Core.List.{List, [], _∷_}
 use Prim.Native.Nat.{ℕ, _*_, _≤_, _<_}
 use native.Mathlib.Omega.{arith}
-use lib.Dec.{eqb, ltb}
+use lib.Dec.{ltb}
 use lib.ListN.{length}
 use borrow.Author.Tests.{ltb-false, eqb-true, eqb-false}
 use Rattle.trellis.specs.Lists.{pick}
 use Rattle.trellis.specs.Refusals.{Test, when, unless, refusedBy, faultBy}
 use Rattle.machine.specs.CodeLine.{Code, size}
-use Rattle.machine.specs.Machine.{used}
 use Rattle.machine.specs.Decoding.{Buffers}
 use Rattle.machine.proofs.Lines.{Passed}
 use Rattle.channels.specs.Channels.{countTests, testsFor}

@@ -2,12 +2,9 @@
 use crate::channel;
 use crate::layout::Layout;
 ghost use mathlib.Core.Path.{_≡_};
-ghost use mathlib.Core.List.{List};
-ghost use Prim.Native.Nat.{ℕ};
-ghost use Rattle.machine.specs.CodeLine.{Code};
 ghost use Rattle.machine.specs.Decoding.{lending};
-ghost use Rattle.channels.specs.inner.Rounds.{standing, servingAt, loadedTo, roundAt, roundsAt};
-ghost use Rattle.channels.specs.inner.Layouts.{Fitted, AllParts, LoadsRoom, OneRoom, ServeRoom};
+ghost use Rattle.channels.specs.inner.Rounds.{standing, loading, servingAt, loadedTo, roundAt, roundsAt};
+ghost use Rattle.channels.specs.inner.Layouts.{codeFor, LoadsRoom, OneRoom, ServeRoom};
 
 // Every channel is loaded, by number.
 pub fn load_all(
@@ -24,11 +21,9 @@ pub fn load_all(
 )
     requires { ⌜ LoadsRoom count z (now degrees) (now columns) (now weights) (now frames) (now symbols) (now costs) (now margins)
         (now status) ⌝ }
-    ensures { λ _. ⌜ ((C : Code) → Fitted C z (now (degrees .entry)) (now (columns .entry)) (now (weights .entry))
-        → (store counts : List ℕ) (left : ℕ) → AllParts C count store
-        → standing (now (status .exit)) counts left (lending (now (symbols .exit)) (now (costs .exit)) store (now (margins .exit)))
-        ≡ loadedTo C (now (frames .entry)) count (standing (now (status .entry)) counts left
-        (lending (now (symbols .entry)) (now (costs .entry)) store (now (margins .entry))))) ⌝ }
+    ensures { λ _. ⌜ loading (now (status .exit)) (now (symbols .exit)) (now (costs .exit)) (now (margins .exit))
+        ≡ loadedTo (codeFor z (now (degrees .entry)) (now (columns .entry)) (now (weights .entry))) (now (frames .entry)) count
+        (loading (now (status .entry)) (now (symbols .entry)) (now (costs .entry)) (now (margins .entry))) ⌝ }
 {
     let mut c = 0;
     while c < count {
@@ -67,11 +62,11 @@ fn serve_at(
     requires { ⌜ OneRoom c z (now degrees) (now columns) (now weights)
         (standing (now status) (now counts) left (lending (now symbols) (now costs) (now store) (now margins))) (now arrived)
         (now sent) ⌝ }
-    ensures { λ r. ⌜ ((C : Code) → Fitted C z (now (degrees .entry)) (now (columns .entry)) (now (weights .entry))
-        → standing (now (status .exit)) (now (counts .exit)) r
+    ensures { λ r. ⌜ standing (now (status .exit)) (now (counts .exit)) r
         (lending (now (symbols .exit)) (now (costs .exit)) (now (store .exit)) (now (margins .exit)))
-        ≡ servingAt C c (standing (now (status .entry)) (now (counts .entry)) left
-        (lending (now (symbols .entry)) (now (costs .entry)) (now (store .entry)) (now (margins .entry))))) ⌝ }
+        ≡ servingAt (codeFor z (now (degrees .entry)) (now (columns .entry)) (now (weights .entry))) c
+        (standing (now (status .entry)) (now (counts .entry)) left
+        (lending (now (symbols .entry)) (now (costs .entry)) (now (store .entry)) (now (margins .entry)))) ⌝ }
 {
     if status[c] != 20 {
         return left;
@@ -118,11 +113,11 @@ fn round(
     requires { ⌜ ServeRoom count z (now degrees) (now columns) (now weights)
         (standing (now status) (now counts) left (lending (now symbols) (now costs) (now store) (now margins))) (now arrived)
         (now sent) ⌝ }
-    ensures { λ r. ⌜ ((C : Code) → Fitted C z (now (degrees .entry)) (now (columns .entry)) (now (weights .entry))
-        → standing (now (status .exit)) (now (counts .exit)) r
+    ensures { λ r. ⌜ standing (now (status .exit)) (now (counts .exit)) r
         (lending (now (symbols .exit)) (now (costs .exit)) (now (store .exit)) (now (margins .exit)))
-        ≡ roundAt C count (standing (now (status .entry)) (now (counts .entry)) left
-        (lending (now (symbols .entry)) (now (costs .entry)) (now (store .entry)) (now (margins .entry))))) ⌝ }
+        ≡ roundAt (codeFor z (now (degrees .entry)) (now (columns .entry)) (now (weights .entry))) count
+        (standing (now (status .entry)) (now (counts .entry)) left
+        (lending (now (symbols .entry)) (now (costs .entry)) (now (store .entry)) (now (margins .entry)))) ⌝ }
 {
     let mut a = left;
     let mut c = 0;
@@ -168,11 +163,11 @@ pub fn serve(
     requires { ⌜ ServeRoom count z (now degrees) (now columns) (now weights)
         (standing (now status) (now counts) allowance (lending (now symbols) (now costs) (now store) (now margins))) (now arrived)
         (now sent) ⌝ }
-    ensures { λ r. ⌜ ((C : Code) → Fitted C z (now (degrees .entry)) (now (columns .entry)) (now (weights .entry))
-        → standing (now (status .exit)) (now (counts .exit)) r
+    ensures { λ r. ⌜ standing (now (status .exit)) (now (counts .exit)) r
         (lending (now (symbols .exit)) (now (costs .exit)) (now (store .exit)) (now (margins .exit)))
-        ≡ roundsAt C count allowance (standing (now (status .entry)) (now (counts .entry)) allowance
-        (lending (now (symbols .entry)) (now (costs .entry)) (now (store .entry)) (now (margins .entry))))) ⌝ }
+        ≡ roundsAt (codeFor z (now (degrees .entry)) (now (columns .entry)) (now (weights .entry))) count allowance
+        (standing (now (status .entry)) (now (counts .entry)) allowance
+        (lending (now (symbols .entry)) (now (costs .entry)) (now (store .entry)) (now (margins .entry)))) ⌝ }
 {
     let mut a = allowance;
     loop {

@@ -6,13 +6,11 @@ use crate::service;
 use codeline::answers::Header;
 use layered::frame;
 ghost use mathlib.Core.Path.{_≡_};
-ghost use mathlib.Core.List.{List};
-ghost use Prim.Native.Nat.{ℕ};
-ghost use Rattle.machine.specs.CodeLine.{good, Code, parse};
+ghost use Rattle.machine.specs.CodeLine.{good};
 ghost use Rattle.machine.specs.Decoding.{Buffers, lending};
-ghost use Rattle.channels.specs.Channels.{refusing, channels};
+ghost use Rattle.channels.specs.Channels.{refusing, under, channels};
 ghost use Rattle.channels.specs.Answers.{Gives};
-ghost use Rattle.channels.specs.inner.Layouts.{Fitted, countFault, faultFor, FaultRoom, UnderRoom};
+ghost use Rattle.channels.specs.inner.Layouts.{codeFor, countFault, faultFor, FaultRoom, UnderRoom};
 
 // A refusal of the whole call.
 fn refused(k: u8) -> Served
@@ -86,12 +84,12 @@ fn under_code(
     arrived: &mut [u8],
     sent: &mut [u8],
 ) -> Served
-    requires { ⌜ UnderRoom count allowance z (now degrees) (now columns) (now weights) (now arrived) (now sent) ⌝ }
-    ensures { λ r. ⌜ ((code : List ℕ) (C : Code) → parse code ≡ good C
-        → Fitted C z (now (degrees .entry)) (now (columns .entry)) (now (weights .entry))
-        → Gives (channels count allowance code (now (frames .entry))
-        (lending (now (symbols .entry)) (now (costs .entry)) (now (store .entry)) (now (margins .entry)))) (r .number) (r .spent)
-        (r .status) (r .iterations) (lending (now (symbols .exit)) (now (costs .exit)) (now (store .exit)) (now (margins .exit)))) ⌝ }
+    requires { ⌜ UnderRoom count z (now degrees) (now columns) (now weights) (now arrived) (now sent) ⌝ }
+    ensures { λ r. ⌜ Gives
+        (under (good (codeFor z (now (degrees .entry)) (now (columns .entry)) (now (weights .entry)))) count allowance
+        (now (frames .entry)) (lending (now (symbols .entry)) (now (costs .entry)) (now (store .entry)) (now (margins .entry))))
+        (r .number) (r .spent) (r .status) (r .iterations)
+        (lending (now (symbols .exit)) (now (costs .exit)) (now (store .exit)) (now (margins .exit))) ⌝ }
 {
     let k = fault(
         count,

@@ -1,9 +1,9 @@
 -- Skipped, or one iteration in the channel's parts.
 use native.Mathlib.Omega.{arith}
 use borrow.Author.Needs.{needs}
-use Rattle.machine.specs.CodeLine.{Code}
 use Rattle.machine.specs.Decoding.{lending}
 use Rattle.channels.specs.inner.Rounds.{standing}
+use Rattle.channels.specs.inner.Layouts.{codeFor}
 use Rattle.channels.proofs.Moves.{serve-skips, serve-spent, serve-moves, step-room, count-low}
 use Rattle.channels.proofs.service.serve_at.Statement.{statement}
 use Rattle.channels.proofs.service.serve_at.Tie as tie
@@ -15,13 +15,13 @@ returns : tie.Need-returns
 returns c =
     let s = c .before .before .before .before .before .before .before .before .before .before .before .before .before in
     let a = s .args in
-    λ (C : Code) H. serve-skips C (a .c) (standing (a .status .now) (a .counts .now) (a .left) (lending (a .symbols .now) (a .costs .now) (a .store .now) (a .margins .now))) (c .if1 .taken)
+    serve-skips (codeFor (a .z) (a .degrees .now) (a .columns .now) (a .weights .now)) (a .c) (standing (a .status .now) (a .counts .now) (a .left) (lending (a .symbols .now) (a .costs .now) (a .store .now) (a .margins .now))) (c .if1 .taken)
 
 returns-2 : tie.Need-returns-2
 returns-2 c =
     let s = c .before .before .before .before .before .before .before .before .before .before .before .before .before .before in
     let a = s .args in
-    λ (C : Code) H. serve-spent C (a .c) (standing (a .status .now) (a .counts .now) (a .left) (lending (a .symbols .now) (a .costs .now) (a .store .now) (a .margins .now))) (c .before .if1 .left) (c .if2 .taken)
+    serve-spent (codeFor (a .z) (a .degrees .now) (a .columns .now) (a .weights .now)) (a .c) (standing (a .status .now) (a .counts .now) (a .left) (lending (a .symbols .now) (a .costs .now) (a .store .now) (a .margins .now))) (c .before .if1 .left) (c .if2 .taken)
 
 slice-read-t : tie.Need-slice-read-t
 slice-read-t c = omega (arith, c .before .before .before .before .before .before .before .before .before .before .before .before .before .before .before .pre .inside, c .before .before .before .before .before .before .before .before .before .before .before .before .before .before .before .pre .room .serves .rooms .for-counts)
@@ -76,7 +76,7 @@ returns-3 c =
     let s = c .before .before .before .before .before .before .before .before .before .before .before .before .before .before .before .before .before .before .before .before .before .before .before .before .before .before .before .before .before .before .before .before .before .before in
     let a = s .args in
     let u = c .before .before .before .before .before .before .before .before .before .before .before .before .step-at in
-    λ (C : Code) H. serve-moves C (a .c) (standing (a .status .now) (a .counts .now) (a .left) (lending (a .symbols .now) (a .costs .now) (a .store .now) (a .margins .now))) (c .before .before .before .before .before .before .before .before .before .before .before .before .before .before .before .before .before .before .before .before .before .if1 .left) (c .before .before .before .before .before .before .before .before .before .before .before .before .before .before .before .before .before .before .before .before .if2 .left) (u .result) _ (u .ensures C H)
+    serve-moves (codeFor (a .z) (a .degrees .now) (a .columns .now) (a .weights .now)) (a .c) (standing (a .status .now) (a .counts .now) (a .left) (lending (a .symbols .now) (a .costs .now) (a .store .now) (a .margins .now))) (c .before .before .before .before .before .before .before .before .before .before .before .before .before .before .before .before .before .before .before .before .before .if1 .left) (c .before .before .before .before .before .before .before .before .before .before .before .before .before .before .before .before .before .before .before .before .if2 .left) (u .result) _ (u .ensures)
 
 pub serve-at-spec : {M : Type 1} → statement M
 serve-at-spec =
