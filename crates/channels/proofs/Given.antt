@@ -184,8 +184,8 @@ module _ (k : Numbers) (ds cs ws : List ℕ) (T : Coded k ds cs ws) (z : Layout)
         store-is = rw (L .numbers-is) (L .store-is ∙ used-is k ds cs ws T (k .columns) refl);
       }
 
-  pub under-room : (n : ℕ) → 1 ≤ n → n ≤ 8 → (Q S : List ℕ) → 2048 ≤ length Q → 2048 ≤ length S → UnderRoom n z ds cs ws Q S
-  under-room n u v Q S a b = record { fitted = fitted; low = u; high = v; arrived = a; sent = b }
+  pub under-room : (n : ℕ) → 1 ≤ n → n ≤ 8 → UnderRoom n z ds cs ws
+  under-room n u v = record { fitted = fitted; low = u; high = v }
 
   pub line-gives : (s₀ : List ℕ) → parse s₀ ≡ good (codeOf k ds cs ws) → (n A : ℕ) → 1 ≤ n → n ≤ 8 → 0 < A → (m : ℕ) → m ≡ n → (fs : List ℕ) (b : Buffers)
       → (x y : ℕ) (p q : List ℕ) (b′ : Buffers) → Gives (under (good (codeFor z ds cs ws)) m A fs b) x y p q b′ → Gives (channels n A s₀ fs b) x y p q b′

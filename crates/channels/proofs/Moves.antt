@@ -13,7 +13,7 @@ use Rattle.machine.specs.Decoding.{Buffers}
 use Rattle.machine.proofs.Ranges.{column-room}
 use Rattle.channels.specs.declared.layout.Layout.{Layout}
 use Rattle.channels.specs.inner.Rounds.{Standing, standing, statusAt, countAt, stepAt, loadAt, loadedAt, loadedTo, movedAt, servingAt, roundAt, RoomFor}
-use Rattle.channels.specs.inner.Layouts.{codeFor, Fitted, Puts, LoadsRoom, LoadRoom, PartRoom, NextRoom, ServeRoom}
+use Rattle.channels.specs.inner.Layouts.{codeFor, Fitted, Puts, LoadsRoom, LoadRoom, PartRoom, NextRoom, RoundRoom}
 use Rattle.channels.proofs.Serves.{serving-serves, round-serves}
 use Rattle.channels.proofs.Quiet.{less-law}
 
@@ -63,41 +63,39 @@ load-room n z ds cs ws fs y p v st R c h y′ p′ v′ i j k =
     }
 
 -- what an iteration of a running channel asks
-module _ (n : ℕ) (z : Layout) (ds cs ws : List ℕ) (l : Standing) (A S : List ℕ) (R : ServeRoom n z ds cs ws l A S) (c : ℕ) (h : c < n) (e : statusAt l c ≡ 20) where
+module _ (n : ℕ) (z : Layout) (ds cs ws : List ℕ) (l : Standing) (A S : List ℕ) (R : RoundRoom n z ds cs ws l A S) (c : ℕ) (h : c < n) (e : statusAt l c ≡ 20) where
   pub step-room : NextRoom c (countAt l c) z ds cs ws (l .buffers) A S
   step-room =
       record {
-        fitted = R .fitted;
-        room = one-room z ds cs ws (R .fitted) n (l .buffers) (R .serves .rooms .room) c h;
-        passable = R .serves .passable c h e;
+        fitted = R .serve .fitted;
+        room = one-room z ds cs ws (R .serve .fitted) n (l .buffers) (R .serve .serves .rooms .room) c h;
+        passable = R .serve .serves .passable c h e;
         arrived = R .arrived;
         sent = R .sent;
       }
 
   -- its count has room for one more
   pub count-low : countAt l c + 1 ≤ z .numbers .limit
-  count-low = omega (arith, R .serves .below c h e)
+  count-low = omega (arith, R .serve .serves .below c h e)
 
 -- after a serving there is room for the next one
-pub serve-next : (n : ℕ) (z : Layout) (ds cs ws : List ℕ) (l : Standing) (A S : List ℕ) → ServeRoom n z ds cs ws l A S → (c : ℕ) → c < n
+pub serve-next : (n : ℕ) (z : Layout) (ds cs ws : List ℕ) (l : Standing) (A S : List ℕ) → RoundRoom n z ds cs ws l A S → (c : ℕ) → c < n
     → (l′ : Standing) (A′ S′ : List ℕ) → l′ ≡ servingAt (codeFor z ds cs ws) c l → length A′ ≡ length A → length S′ ≡ length S
-    → ServeRoom n z ds cs ws l′ A′ S′
+    → RoundRoom n z ds cs ws l′ A′ S′
 serve-next n z ds cs ws l A S R c h l′ A′ S′ e i j =
     record {
-      fitted = R .fitted;
-      serves = rw e (serving-serves (codeFor z ds cs ws) (R .fitted .coded .good) n l (R .serves) c h);
+      serve = record { fitted = R .serve .fitted; serves = rw e (serving-serves (codeFor z ds cs ws) (R .serve .fitted .coded .good) n l (R .serve .serves) c h) };
       arrived = omega (arith, R .arrived);
       sent = omega (arith, R .sent);
     }
 
 -- and after a round
-pub round-next : (n : ℕ) (z : Layout) (ds cs ws : List ℕ) (l : Standing) (A S : List ℕ) → ServeRoom n z ds cs ws l A S
+pub round-next : (n : ℕ) (z : Layout) (ds cs ws : List ℕ) (l : Standing) (A S : List ℕ) → RoundRoom n z ds cs ws l A S
     → (l′ : Standing) (A′ S′ : List ℕ) → l′ ≡ roundAt (codeFor z ds cs ws) n l → length A′ ≡ length A → length S′ ≡ length S
-    → ServeRoom n z ds cs ws l′ A′ S′
+    → RoundRoom n z ds cs ws l′ A′ S′
 round-next n z ds cs ws l A S R l′ A′ S′ e i j =
     record {
-      fitted = R .fitted;
-      serves = rw e (round-serves (codeFor z ds cs ws) (R .fitted .coded .good) n l (R .serves));
+      serve = record { fitted = R .serve .fitted; serves = rw e (round-serves (codeFor z ds cs ws) (R .serve .fitted .coded .good) n l (R .serve .serves)) };
       arrived = omega (arith, R .arrived);
       sent = omega (arith, R .sent);
     }

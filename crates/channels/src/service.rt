@@ -4,7 +4,7 @@ use crate::layout::Layout;
 ghost use mathlib.Core.Path.{_≡_};
 ghost use Rattle.machine.specs.Decoding.{lending};
 ghost use Rattle.channels.specs.inner.Rounds.{standing, loading, servingAt, loadedTo, roundAt, roundsAt};
-ghost use Rattle.channels.specs.inner.Layouts.{codeFor, LoadsRoom, OneRoom, ServeRoom};
+ghost use Rattle.channels.specs.inner.Layouts.{codeFor, LoadsRoom, OneRoom, RoundRoom, ServeRoom};
 
 // Every channel is loaded, by number.
 pub fn load_all(
@@ -110,7 +110,7 @@ fn round(
     arrived: &mut [u8],
     sent: &mut [u8],
 ) -> u32
-    requires { ⌜ ServeRoom count z (now degrees) (now columns) (now weights)
+    requires { ⌜ RoundRoom count z (now degrees) (now columns) (now weights)
         (standing (now status) (now counts) left (lending (now symbols) (now costs) (now store) (now margins))) (now arrived)
         (now sent) ⌝ }
     ensures { λ r. ⌜ standing (now (status .exit)) (now (counts .exit)) r
@@ -144,7 +144,7 @@ fn round(
 }
 
 // Rounds until one serves nobody: every channel is finished, or nothing is left.
-pub fn serve(
+fn rounds(
     count: usize,
     allowance: u32,
     z: Layout,
@@ -160,7 +160,7 @@ pub fn serve(
     arrived: &mut [u8],
     sent: &mut [u8],
 ) -> u32
-    requires { ⌜ ServeRoom count z (now degrees) (now columns) (now weights)
+    requires { ⌜ RoundRoom count z (now degrees) (now columns) (now weights)
         (standing (now status) (now counts) allowance (lending (now symbols) (now costs) (now store) (now margins))) (now arrived)
         (now sent) ⌝ }
     ensures { λ r. ⌜ standing (now (status .exit)) (now (counts .exit)) r
@@ -192,4 +192,47 @@ pub fn serve(
         }
         a = b;
     }
+}
+
+// The same, with two lists to work in.
+pub fn serve(
+    count: usize,
+    allowance: u32,
+    z: Layout,
+    degrees: &[u8],
+    columns: &[u16],
+    weights: &[u8],
+    symbols: &mut [u8],
+    costs: &mut [u16],
+    store: &mut [u8],
+    margins: &mut [u16],
+    status: &mut [u8],
+    counts: &mut [u8],
+) -> u32
+    requires { ⌜ ServeRoom count z (now degrees) (now columns) (now weights)
+        (standing (now status) (now counts) allowance (lending (now symbols) (now costs) (now store) (now margins))) ⌝ }
+    ensures { λ r. ⌜ standing (now (status .exit)) (now (counts .exit)) r
+        (lending (now (symbols .exit)) (now (costs .exit)) (now (store .exit)) (now (margins .exit)))
+        ≡ roundsAt (codeFor z (now (degrees .entry)) (now (columns .entry)) (now (weights .entry))) count allowance
+        (standing (now (status .entry)) (now (counts .entry)) allowance
+        (lending (now (symbols .entry)) (now (costs .entry)) (now (store .entry)) (now (margins .entry)))) ⌝ }
+{
+    let mut arrived = [0u8; 2048];
+    let mut sent = [0u8; 2048];
+    rounds(
+        count,
+        allowance,
+        z,
+        degrees,
+        columns,
+        weights,
+        symbols,
+        costs,
+        store,
+        margins,
+        status,
+        counts,
+        &mut arrived,
+        &mut sent,
+    )
 }

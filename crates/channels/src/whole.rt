@@ -81,10 +81,8 @@ fn under_code(
     costs: &mut [u16],
     store: &mut [u8],
     margins: &mut [u16],
-    arrived: &mut [u8],
-    sent: &mut [u8],
 ) -> Served
-    requires { ⌜ UnderRoom count z (now degrees) (now columns) (now weights) (now arrived) (now sent) ⌝ }
+    requires { ⌜ UnderRoom count z (now degrees) (now columns) (now weights) ⌝ }
     ensures { λ r. ⌜ Gives
         (under (good (codeFor z (now (degrees .entry)) (now (columns .entry)) (now (weights .entry)))) count allowance
         (now (frames .entry)) (lending (now (symbols .entry)) (now (costs .entry)) (now (store .entry)) (now (margins .entry))))
@@ -130,8 +128,6 @@ fn under_code(
         margins,
         &mut status,
         &mut counts,
-        arrived,
-        sent,
     );
     Served {
         number: 0,
@@ -141,7 +137,7 @@ fn under_code(
     }
 }
 
-// Over the tables and lists of decode_channels.
+// Over the tables of decode_channels.
 pub fn decode_in(
     count: u8,
     allowance: u32,
@@ -154,8 +150,6 @@ pub fn decode_in(
     degrees: &mut [u8; 128],
     columns: &mut [u16; 1024],
     weights: &mut [u8; 1024],
-    arrived: &mut [u8; 2048],
-    sent: &mut [u8; 2048],
 ) -> Served
     ensures { λ r. ⌜ Gives (channels count allowance (now (code .entry)) (now (frames .entry))
         (lending (now (symbols .entry)) (now (costs .entry)) (now (store .entry)) (now (margins .entry)))) (r .number) (r .spent)
@@ -182,8 +176,6 @@ pub fn decode_in(
                 costs,
                 store,
                 margins,
-                arrived,
-                sent,
             )
         }
     }

@@ -87,22 +87,23 @@ pub record NextRoom (c t : ℕ) (z : Layout) (ds cs ws : List ℕ) (b : Buffers)
   pub arrived : 2048 ≤ length A
   pub sent : 2048 ≤ length S
 
--- a round of n channels, and one of its servings
-pub record ServeRoom (n : ℕ) (z : Layout) (ds cs ws : List ℕ) (l : Standing) (A S : List ℕ) : Type 0 where
+-- the service of n channels, a round with two lists to work in, and one of its servings
+pub record ServeRoom (n : ℕ) (z : Layout) (ds cs ws : List ℕ) (l : Standing) : Type 0 where
   pub fitted : Fitted z ds cs ws
   pub serves : Serves (codeFor z ds cs ws) (fitted .coded .good) n l
+
+pub record RoundRoom (n : ℕ) (z : Layout) (ds cs ws : List ℕ) (l : Standing) (A S : List ℕ) : Type 0 where
+  pub serve : ServeRoom n z ds cs ws l
   pub arrived : 2048 ≤ length A
   pub sent : 2048 ≤ length S
 
 pub record OneRoom (c : ℕ) (z : Layout) (ds cs ws : List ℕ) (l : Standing) (A S : List ℕ) : Type 0 where
   pub count : ℕ
   pub inside : c < count
-  pub room : ServeRoom count z ds cs ws l A S
+  pub room : RoundRoom count z ds cs ws l A S
 
 -- under a code that is read
-pub record UnderRoom (n : ℕ) (z : Layout) (ds cs ws Q S : List ℕ) : Type 0 where
+pub record UnderRoom (n : ℕ) (z : Layout) (ds cs ws : List ℕ) : Type 0 where
   pub fitted : Fitted z ds cs ws
   pub low : 1 ≤ n
   pub high : n ≤ 8
-  pub arrived : 2048 ≤ length Q
-  pub sent : 2048 ≤ length S

@@ -7,7 +7,7 @@ use lib.ListN.{length}
 use Rattle.trellis.specs.Lists.{upto}
 use Rattle.machine.specs.Decoding.{lending}
 use Rattle.channels.specs.inner.Rounds.{standing, servingAt}
-use Rattle.channels.specs.inner.Layouts.{codeFor, ServeRoom}
+use Rattle.channels.specs.inner.Layouts.{codeFor, RoundRoom}
 use Rattle.channels.proofs.Moves.{serve-next, round-more, round-done}
 use Rattle.channels.proofs.service.round.Statement.{statement}
 use Rattle.channels.proofs.service.round.Tie as tie
@@ -15,7 +15,7 @@ use Rattle.channels.proofs.service.round.Tie as tie
 abbrev Inv-loop : tie.InvT-loop
 Inv-loop count left z degrees columns weights symbols₀ costs₀ store₀ margins₀ status₀ counts₀ arrived₀ sent₀ a₀ c₀ symbols costs store margins status counts arrived sent a c =
     (c ≤ count)
-    × ServeRoom count z degrees columns weights (standing status counts a (lending symbols costs store margins)) arrived sent
+    × RoundRoom count z degrees columns weights (standing status counts a (lending symbols costs store margins)) arrived sent
     × (standing status counts a (lending symbols costs store margins)
     ≡ upto (servingAt (codeFor z degrees columns weights)) c (standing status₀ counts₀ left (lending symbols₀ costs₀ store₀ margins₀)))
     × ((length symbols ≡ length symbols₀) × (length costs ≡ length costs₀) × (length store ≡ length store₀) × (length margins ≡ length margins₀) × (length status ≡ length status₀) × (length counts ≡ length counts₀) × (length arrived ≡ length arrived₀) × (length sent ≡ length sent₀))

@@ -9,7 +9,7 @@ use Rattle.channels.proofs.service.serve_at.Statement.{statement}
 use Rattle.channels.proofs.service.serve_at.Tie as tie
 
 slice-read-if1 : tie.Need-slice-read-if1
-slice-read-if1 c = omega (arith, c .before .before .before .before .before .before .before .before .before .before .before .before .pre .inside, c .before .before .before .before .before .before .before .before .before .before .before .before .pre .room .serves .rooms .for-status)
+slice-read-if1 c = omega (arith, c .before .before .before .before .before .before .before .before .before .before .before .before .pre .inside, c .before .before .before .before .before .before .before .before .before .before .before .before .pre .room .serve .serves .rooms .for-status)
 
 returns : tie.Need-returns
 returns c =
@@ -24,7 +24,7 @@ returns-2 c =
     serve-spent (codeFor (a .z) (a .degrees .now) (a .columns .now) (a .weights .now)) (a .c) (standing (a .status .now) (a .counts .now) (a .left) (lending (a .symbols .now) (a .costs .now) (a .store .now) (a .margins .now))) (c .before .if1 .left) (c .if2 .taken)
 
 slice-read-t : tie.Need-slice-read-t
-slice-read-t c = omega (arith, c .before .before .before .before .before .before .before .before .before .before .before .before .before .before .before .pre .inside, c .before .before .before .before .before .before .before .before .before .before .before .before .before .before .before .pre .room .serves .rooms .for-counts)
+slice-read-t c = omega (arith, c .before .before .before .before .before .before .before .before .before .before .before .before .before .before .before .pre .inside, c .before .before .before .before .before .before .before .before .before .before .before .before .before .before .before .pre .room .serve .serves .rooms .for-counts)
 
 step-at-requires : tie.Need-step-at-requires
 step-at-requires c κs =
@@ -33,7 +33,7 @@ step-at-requires c κs =
     step-room (s .pre .count) (a .z) (a .degrees .now) (a .columns .now) (a .weights .now) (standing (a .status .now) (a .counts .now) (a .left) (lending (a .symbols .now) (a .costs .now) (a .store .now) (a .margins .now))) (a .arrived .now) (a .sent .now) (s .pre .room) (a .c) (s .pre .inside) (c .before .before .before .before .before .before .before .before .if1 .left)
 
 slice-write-status : tie.Need-slice-write-status
-slice-write-status c = omega (arith, c .before .before .before .before .before .before .before .before .before .before .before .before .before .before .before .before .before .before .before .before .before .before .before .before .before .before .before .before .before .before .before .before .before .before .pre .inside, c .before .before .before .before .before .before .before .before .before .before .before .before .before .before .before .before .before .before .before .before .before .before .before .before .before .before .before .before .before .before .before .before .before .before .pre .room .serves .rooms .for-status)
+slice-write-status c = omega (arith, c .before .before .before .before .before .before .before .before .before .before .before .before .before .before .before .before .before .before .before .before .before .before .before .before .before .before .before .before .before .before .before .before .before .before .pre .inside, c .before .before .before .before .before .before .before .before .before .before .before .before .before .before .before .before .before .before .before .before .before .before .before .before .before .before .before .before .before .before .before .before .before .before .pre .room .serve .serves .rooms .for-status)
 
 add-counts : tie.Need-add-counts
 add-counts c =
@@ -42,7 +42,7 @@ add-counts c =
     omega (arith, count-low (s .pre .count) (a .z) (a .degrees .now) (a .columns .now) (a .weights .now) (standing (a .status .now) (a .counts .now) (a .left) (lending (a .symbols .now) (a .costs .now) (a .store .now) (a .margins .now))) (a .arrived .now) (a .sent .now) (s .pre .room) (a .c) (s .pre .inside) (c .before .before .before .before .before .before .before .before .before .before .before .before .before .before .before .before .before .before .before .before .before .if1 .left), s .good)
 
 slice-write-counts : tie.Need-slice-write-counts
-slice-write-counts c = omega (arith, c .before .before .before .before .before .before .before .before .before .before .before .before .before .before .before .before .before .before .before .before .before .before .before .before .before .before .before .before .before .before .before .before .before .before .pre .inside, c .before .before .before .before .before .before .before .before .before .before .before .before .before .before .before .before .before .before .before .before .before .before .before .before .before .before .before .before .before .before .before .before .before .before .pre .room .serves .rooms .for-counts)
+slice-write-counts c = omega (arith, c .before .before .before .before .before .before .before .before .before .before .before .before .before .before .before .before .before .before .before .before .before .before .before .before .before .before .before .before .before .before .before .before .before .before .pre .inside, c .before .before .before .before .before .before .before .before .before .before .before .before .before .before .before .before .before .before .before .before .before .before .before .before .before .before .before .before .before .before .before .before .before .before .pre .room .serve .serves .rooms .for-counts)
 
 sub-result : tie.Need-sub-result
 sub-result c = search needs

@@ -4,15 +4,15 @@ use native.Mathlib.Omega.{arith}
 use lib.ListN.{length}
 use Rattle.machine.specs.Decoding.{lending}
 use Rattle.channels.specs.inner.Rounds.{standing, roundsAt}
-use Rattle.channels.specs.inner.Layouts.{codeFor, ServeRoom}
+use Rattle.channels.specs.inner.Layouts.{codeFor, RoundRoom}
 use Rattle.channels.proofs.Quiet.{end-law, more-law}
 use Rattle.channels.proofs.Moves.{round-next, round-less}
-use Rattle.channels.proofs.service.serve.Statement.{statement}
-use Rattle.channels.proofs.service.serve.Tie as tie
+use Rattle.channels.proofs.service.rounds.Statement.{statement}
+use Rattle.channels.proofs.service.rounds.Tie as tie
 
 abbrev Inv-loop : tie.InvT-loop
 Inv-loop count allowance z degrees columns weights symbols₀ costs₀ store₀ margins₀ status₀ counts₀ arrived₀ sent₀ a₀ symbols costs store margins status counts arrived sent a =
-    ServeRoom count z degrees columns weights (standing status counts a (lending symbols costs store margins)) arrived sent
+    RoundRoom count z degrees columns weights (standing status counts a (lending symbols costs store margins)) arrived sent
     × (roundsAt (codeFor z degrees columns weights) count a (standing status counts a (lending symbols costs store margins))
     ≡ roundsAt (codeFor z degrees columns weights) count allowance (standing status₀ counts₀ allowance (lending symbols₀ costs₀ store₀ margins₀)))
     × ((length symbols ≡ length symbols₀) × (length costs ≡ length costs₀) × (length store ≡ length store₀) × (length margins ≡ length margins₀) × (length status ≡ length status₀) × (length counts ≡ length counts₀) × (length arrived ≡ length arrived₀) × (length sent ≡ length sent₀))
@@ -75,8 +75,8 @@ loop-again c =
       (omega (arith, u .kept, l .inv .2), omega (arith, u .kept, l .inv .2), omega (arith, u .kept, l .inv .2), omega (arith, u .kept, l .inv .2), omega (arith, u .kept, l .inv .2), omega (arith, u .kept, l .inv .2), omega (arith, u .kept, l .inv .2), omega (arith, u .kept, l .inv .2)),
     )
 
-pub serve-spec : {M : Type 1} → statement M
-serve-spec =
+pub rounds-spec : {M : Type 1} → statement M
+rounds-spec =
     tie.close
     (tie.spec
     Inv-loop
