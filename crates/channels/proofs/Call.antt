@@ -5,11 +5,12 @@ use mathlib.Core.Logic.{_≢_, _⊎_, inl, inr, ⊎-elim}
 use mathlib.Core.List.{List, [], map}
 use Prim.Native.Nat.{ℕ, zero, suc, _*_, _≤_, _<_}
 use native.Mathlib.Omega.{arith}
-use lib.Dec.{eqb, ltb}
+use lib.Dec.{eqb}
 use lib.ListN.{length, getD, length-map}
 use lib.Seq.{ext-getD}
-use borrow.Author.Tests.{ltb-false, eqb-true, eqb-false, ne-eqb, eq-eqb}
+use borrow.Author.Tests.{eqb-true, eqb-false, ne-eqb, eq-eqb}
 use Rattle.trellis.specs.Lists.{upTo, pick, allTo}
+use Rattle.trellis.specs.Refusals.{Test, refusedBy, faultBy}
 use Rattle.trellis.specs.Reply.{Reply, refusal, foundIn, notFoundIn}
 use Rattle.trellis.proofs.Lists.{of-upTo}
 use Rattle.trellis.proofs.Places.{length-count, map-ext}
@@ -17,18 +18,20 @@ use Rattle.machine.specs.CodeLine.{Read, good, bad, parse, Code, size, zeroIn, 
 use Rattle.machine.specs.Machine.{settled}
 use Rattle.machine.proofs.Lists.{at-upTo, map-after}
 use Rattle.machine.specs.inner.Accepted.{GoodCode}
+use Rattle.trellis.proofs.Refusals.{Passed}
 use Rattle.machine.proofs.Lines.{parse-good}
 use Rattle.machine.specs.inner.InRange.{Below}
 use Rattle.machine.proofs.Ranges.{below-take, below-drop}
 use Rattle.machine.specs.Decoding.{Buffers}
 use Rattle.channels.specs.Serving.{countOf, sum}
-use Rattle.channels.specs.Channels.{after, finished, spentIn, answer, received, frameOf, ownOf, Results, refusing, counted, answersOf, results, roomFaultFor, under, channels}
+use Rattle.channels.specs.Channels.{after, finished, spentIn, answer, received, frameOf, ownOf, Results, refusing, counted, answersOf, results, countTests, testsFor, under, channels}
 use Rattle.channels.specs.Claims.{nothing, IsServed, answerAt, Channels-whole, Channels-found-first, Channels-fair, Channels-sum, Channels-alone, Channels-refused}
 use Rattle.channels.specs.inner.Rounds.{RoomFor}
 use Rattle.channels.proofs.Servings.{length-counts, sum-left, unfinished-before, spent-left}
 use Rattle.channels.proofs.Fairness.{fair}
 use Rattle.channels.proofs.Alone.{after-none, alone}
-use Rattle.channels.proofs.Parts.{length-part, exact-room, room-for, own-exact, own-together, received-exact, received-refused}
+use Rattle.channels.proofs.Refused.{Numbered, Told, told, count-numbered, count-passed, whole-numbered, whole-passed}
+use Rattle.channels.proofs.Parts.{length-part, exact-room, own-exact, own-together, received-exact, received-refused}
 
 -- none of the refusals of the whole call
 pub record Open (n A : ℕ) (code fs : List ℕ) (b : Buffers) (C : Code) : Type 0 where
@@ -40,24 +43,23 @@ pub record Open (n A : ℕ) (code fs : List ℕ) (b : Buffers) (C : Code) : Type
 pub open-of : (n A : ℕ) (code fs : List ℕ) (b : Buffers) (C : Code) → IsServed n A code fs b C → Open n A code fs b C
 unfolding channels
 open-of n A code fs b C I =
-    go (ltb n 1) refl (ltb 8 n) refl (eqb A 0) refl (eqb (length fs) (n * (C .columns * size C))) refl (eqb (roomFaultFor C n b) 0) refl (ap (λ r. r .number) (sym same) ∙ I .served)
-    same
+    go (told (λ k. refusing k b) (under (good C) n A fs b) (countTests n A) (count-numbered n A))
+    (told (λ k. refusing k b) (results C n A fs b) (testsFor C n fs b) (whole-numbered C n fs b))
   where
-    made : Bool → Bool → Bool → Bool → Bool → Results
-    made i j k l m = pick (i || j) (refusing 21 b) (pick k (refusing 22 b) (pick l (pick m (results C n A fs b) (refusing (roomFaultFor C n b) b)) (refusing 12 b)))
-
-    same : channels n A code fs b ≡ made (ltb n 1) (ltb 8 n) (eqb A 0) (eqb (length fs) (n * (C .columns * size C))) (eqb (roomFaultFor C n b) 0)
+    same : channels n A code fs b ≡ refusedBy (countTests n A) (λ k. refusing k b) (under (good C) n A fs b)
     same = rw (I .line)
 
-    go : (i : Bool) → ltb n 1 ≡ i → (j : Bool) → ltb 8 n ≡ j → (k : Bool) → eqb A 0 ≡ k → (l : Bool) → eqb (length fs) (n * (C .columns * size C)) ≡ l
-        → (m : Bool) → eqb (roomFaultFor C n b) 0 ≡ m → made i j k l m .number ≡ 0 → channels n A code fs b ≡ made i j k l m → Open n A code fs b C
-    go true a j c k d l e m f h s = absurd (omega arith)
-    go false a true c k d l e m f h s = absurd (omega arith)
-    go false a false c true d l e m f h s = absurd (omega arith)
-    go false a false c false d false e m f h s = absurd (omega arith)
-    go false a false c false d true e false f h s = absurd (eqb-false _ _ f h)
-    go false a false c false d true e true f h s =
-        record { some = omega (arith, ltb-false n 1 a); long = eqb-true _ _ e; room = room-for C n b (eqb-true _ _ f); are = s }
+    open-by : Passed (countTests n A) → Passed (testsFor C n fs b) → channels n A code fs b ≡ results C n A fs b → Open n A code fs b C
+    open-by P Q e = record { some = count-passed n A P .0; long = whole-passed C n fs b Q .0; room = whole-passed C n fs b Q .1; are = e }
+
+    number : (k : ℕ) → channels n A code fs b ≡ refusing k b → k ≡ 0
+    number k e = ap (λ r. r .number) (sym e) ∙ I .served
+
+    go : Told (λ k. refusing k b) (under (good C) n A fs b) (Passed (countTests n A)) (faultBy (countTests n A)) (refusedBy (countTests n A) (λ k. refusing k b) (under (good C) n A fs b))
+        → Told (λ k. refusing k b) (results C n A fs b) (Passed (testsFor C n fs b)) (faultBy (testsFor C n fs b)) (under (good C) n A fs b) → Open n A code fs b C
+    go (inr s) t = absurd (omega (arith, number _ (same ∙ s .1)))
+    go (inl s) (inr t) = absurd (omega (arith, number _ (same ∙ s .2 ∙ t .1)))
+    go (inl s) (inl t) = open-by (s .0) (t .0) (same ∙ s .2 ∙ t .2)
 
 pub fault-13 : (C : Code) (f : List ℕ) → length f ≡ C .columns * size C → frameFault C f ≢ 0 → frameFault C f ≡ 13
 unfolding frameFault
@@ -92,35 +94,17 @@ as-map l =
     ext-getD 0 (map (λ c. getD l c 0) (upTo (length l))) l (length-map (upTo (length l)) (λ c. getD l c 0) ∙ length-count 0 (length l))
     (λ n h. at-upTo (λ c. getD l c 0) (length l) n 0 (omega (arith, length-map (upTo (length l)) (λ c. getD l c 0), length-count 0 (length l))))
 
-module _ (n A : ℕ) (code fs : List ℕ) (b : Buffers) (C : Code) (I : IsServed n A code fs b C) where
-  O : Open n A code fs b C
-  O = open-of n A code fs b C I
-
-  G : GoodCode C
-  G = parse-good code C (I .line)
-
+-- the channels under a code, none of the refusals of the whole call applying
+module _ (C : Code) (n A : ℕ) (fs : List ℕ) (some : 0 < n) (long : length fs ≡ n * (C .columns * size C)) where
   abbrev pub j : ℕ → ℕ
   j c = countOf (counted C n A fs) c
 
   pub long-frame : (c : ℕ) → c < n → length (frameOf C fs c) ≡ C .columns * size C
-  long-frame c h = length-part fs n (C .columns * size C) c (omega (arith, O .long)) h
-
-  pub byte-frame : (c : ℕ) → Below 255 (frameOf C fs c)
-  byte-frame c = below-take 255 (C .columns * size C) _ (below-drop 255 (c * (C .columns * size C)) fs (I .bytes))
+  long-frame c h = length-part fs n (C .columns * size C) c (omega arith) h
 
   pub before : (c i : ℕ) → i < j c → finished C (frameOf C fs c) i ≡ false
   unfolding counted
-  before c i h = unfinished-before (λ c. finished C (frameOf C fs c)) n A (O .some) (n * A) c i h
-
-  pub answer-at : (c : ℕ) → c < n → answerAt (channels n A code fs b) c ≡ answer C (frameOf C fs c) (j c)
-  unfolding results
-  answer-at c h = rw (O .are) (at-upTo (λ c. answer C (frameOf C fs c) (j c)) n c nothing h)
-
-  buffers-at : (c : ℕ) → c < n → ownOf C (channels n A code fs b .buffers) c ≡ received C (frameOf C fs c) (j c) (ownOf C b c)
-  unfolding results
-  buffers-at c h =
-      rw (O .are)
-      (own-together C n (λ c. received C (frameOf C fs c) (j c) (ownOf C b c)) b (λ m i. received-exact C G (frameOf C fs m) (byte-frame m) (j m) (ownOf C b m) (own-exact C n b (O .room) m i)) c h)
+  before c i h = unfinished-before (λ c. finished C (frameOf C fs c)) n A some (n * A) c i h
 
   -- a refused channel is finished from the start
   refused-none : (f : List ℕ) (k : ℕ) → ((i : ℕ) → i < k → finished C f i ≡ false) → frameFault C f ≢ 0 → 0 ≡ k
@@ -136,24 +120,56 @@ module _ (n A : ℕ) (code fs : List ℕ) (b : Buffers) (C : Code) (I : IsServed
   value-at c h =
       ⊎-elim (λ x. x .2) (λ x. rw (x .1) (refused-none (frameOf C fs c) (j c) (before c) (x .0))) (answer-cases C (frameOf C fs c) (j c) (long-frame c h))
 
-  sum-answers : sum (map (λ a. a .value) (answersOf C n A fs)) ≡ sum (counted C n A fs .counts)
+  pub sum-answers : sum (map (λ a. a .value) (answersOf C n A fs)) ≡ sum (counted C n A fs .counts)
   unfolding counted
   sum-answers =
       ap sum
       (map-after (λ (a : Reply). a .value) (λ c. answer C (frameOf C fs c) (j c)) (upTo n)
       ∙ map-ext (λ c i. value-at c (of-upTo i))
-      ∙ ap (λ k. map j (upTo k)) (sym (length-counts (λ c. finished C (frameOf C fs c)) n A (O .some) (n * A)))
+      ∙ ap (λ k. map j (upTo k)) (sym (length-counts (λ c. finished C (frameOf C fs c)) n A some (n * A)))
       ∙ as-map (counted C n A fs .counts))
 
-  pub spent-is : channels n A code fs b .spent ≡ sum (counted C n A fs .counts)
+module _ (n A : ℕ) (code fs : List ℕ) (b : Buffers) (C : Code) (I : IsServed n A code fs b C) where
+  O : Open n A code fs b C
+  O = open-of n A code fs b C I
+
+  G : GoodCode C
+  G = parse-good code C (I .line)
+
+  abbrev i : ℕ → ℕ
+  i c = countOf (counted C n A fs) c
+
+  frame-long : (c : ℕ) → c < n → length (frameOf C fs c) ≡ C .columns * size C
+  frame-long = long-frame C n A fs (O .some) (O .long)
+
+  unfinished : (c k : ℕ) → k < i c → finished C (frameOf C fs c) k ≡ false
+  unfinished = before C n A fs (O .some) (O .long)
+
+  value-is : (c : ℕ) → c < n → answer C (frameOf C fs c) (i c) .value ≡ i c
+  value-is = value-at C n A fs (O .some) (O .long)
+
+  byte-frame : (c : ℕ) → Below 255 (frameOf C fs c)
+  byte-frame c = below-take 255 (C .columns * size C) _ (below-drop 255 (c * (C .columns * size C)) fs (I .bytes))
+
+  answer-at : (c : ℕ) → c < n → answerAt (channels n A code fs b) c ≡ answer C (frameOf C fs c) (i c)
   unfolding results
-  spent-is = rw (O .are) sum-answers
+  answer-at c h = rw (O .are) (at-upTo (λ c. answer C (frameOf C fs c) (i c)) n c nothing h)
+
+  buffers-at : (c : ℕ) → c < n → ownOf C (channels n A code fs b .buffers) c ≡ received C (frameOf C fs c) (i c) (ownOf C b c)
+  unfolding results
+  buffers-at c h =
+      rw (O .are)
+      (own-together C n (λ c. received C (frameOf C fs c) (i c) (ownOf C b c)) b (λ m k. received-exact C G (frameOf C fs m) (byte-frame m) (i m) (ownOf C b m) (own-exact C n b (O .room) m k)) c h)
+
+  spent-is : channels n A code fs b .spent ≡ sum (counted C n A fs .counts)
+  unfolding results
+  spent-is = rw (O .are) (sum-answers C n A fs (O .some) (O .long))
 
   spent-low : channels n A code fs b .spent ≤ A
   unfolding counted
   spent-low = omega (arith, spent-is, sum-left (λ c. finished C (frameOf C fs c)) n A (O .some) (n * A))
 
-  spent-all : (c : ℕ) → c < n → finished C (frameOf C fs c) (j c) ≡ false → channels n A code fs b .spent ≡ A
+  spent-all : (c : ℕ) → c < n → finished C (frameOf C fs c) (i c) ≡ false → channels n A code fs b .spent ≡ A
   unfolding counted
   spent-all c h u = omega (arith, spent-is, sum-left (λ c. finished C (frameOf C fs c)) n A (O .some) (n * A), spent-left (λ c. finished C (frameOf C fs c)) n A (O .some) c h u)
 
@@ -165,13 +181,13 @@ pub channels-alone : Channels-alone
 unfolding answer
 channels-alone n A code fs b C I c h r =
     ⊎-elim (λ x.
-    let k = value-at n A code fs b C I c h in
+    let k = value-is n A code fs b C I c h in
     rw (answer-at n A code fs b C I c h, k, buffers-at n A code fs b C I c h)
-    (alone code (frameOf C fs c) C _ (ownOf C b c) (I .line) (x .0) (exact-room C (ownOf C b c) (own-exact C n b (O n A code fs b C I .room) c h)) (before n A code fs b C I c)))
+    (alone code (frameOf C fs c) C _ (ownOf C b c) (I .line) (x .0) (exact-room C (ownOf C b c) (own-exact C n b (O n A code fs b C I .room) c h)) (unfinished n A code fs b C I c)))
     (λ x.
     let e : true ≡ false = ap (λ (a : Reply). a .refused) (sym (x .1)) ∙ ap (λ (a : Reply). a .refused) (sym (answer-at n A code fs b C I c h)) ∙ r in
     let z : _≡_ {A = ℕ} 0 1 = cc in absurd (omega arith))
-    (answer-cases C (frameOf C fs c) (countOf (counted C n A fs) c) (long-frame n A code fs b C I c h))
+    (answer-cases C (frameOf C fs c) (countOf (counted C n A fs) c) (frame-long n A code fs b C I c h))
 
 pub channels-refused : Channels-refused
 channels-refused n A code fs b C I c h r =
@@ -179,7 +195,7 @@ channels-refused n A code fs b C I c h r =
     let e : false ≡ true = sym (x .1) ∙ ap (λ (a : Reply). a .refused) (sym (answer-at n A code fs b C I c h)) ∙ r in
     let z : _≡_ {A = ℕ} 0 1 = cc in absurd (omega arith))
     (λ x. (answer-at n A code fs b C I c h ∙ x .1, buffers-at n A code fs b C I c h ∙ untouched (frameOf C fs c) (countOf (counted C n A fs) c) (ownOf C b c) (x .0)))
-    (answer-cases C (frameOf C fs c) (countOf (counted C n A fs) c) (long-frame n A code fs b C I c h))
+    (answer-cases C (frameOf C fs c) (countOf (counted C n A fs) c) (frame-long n A code fs b C I c h))
   where
     untouched : (f : List ℕ) (j : ℕ) (own : Buffers) → frameFault C f ≢ 0 → received C f j own ≡ own
     untouched f j own x = received-refused C f j own x
@@ -191,13 +207,13 @@ channels-sum n A code fs b C I = (
   λ c h e.
       ⊎-elim (λ x. spent-all n A code fs b C I c h (x .3 (ap (λ (a : Reply). a .number) (sym (answer-at n A code fs b C I c h)) ∙ e)))
       (λ x. let z : 13 ≡ 20 = ap (λ (a : Reply). a .number) (sym (x .1)) ∙ ap (λ (a : Reply). a .number) (sym (answer-at n A code fs b C I c h)) ∙ e in absurd (omega arith))
-      (answer-cases C (frameOf C fs c) (countOf (counted C n A fs) c) (long-frame n A code fs b C I c h)),
+      (answer-cases C (frameOf C fs c) (countOf (counted C n A fs) c) (frame-long n A code fs b C I c h)),
 )
 
 pub channels-found-first : Channels-found-first
 unfolding answer finished
 channels-found-first n A code fs b C I c h e s =
-    let k : countOf (counted C n A fs) c ≡ 0 = none (countOf (counted C n A fs) c) (before n A code fs b C I c) in
+    let k : countOf (counted C n A fs) c ≡ 0 = none (countOf (counted C n A fs) c) (unfinished n A code fs b C I c) in
     answer-at n A code fs b C I c h ∙ rw (k, e, after-none C (frameOf C fs c), s) refl
   where
     none : (j : ℕ) → ((i : ℕ) → i < j → finished C (frameOf C fs c) i ≡ false) → j ≡ 0
@@ -214,17 +230,17 @@ Unchanged b r = (r .spent ≡ 0) × (r .answers ≡ []) × (r .buffers ≡ b)
 
 pub channels-whole : Channels-whole
 unfolding channels results
-channels-whole n A code fs b h = go (ltb n 1 || ltb 8 n) (eqb A 0) (parse code) h
+channels-whole n A code fs b h = by (countTests n A) (count-numbered n A) (under (parse code) n A fs b) (whole (parse code)) h
   where
-    served : (C : Code) (i j : Bool) → pick i (pick j (results C n A fs b) (refusing (roomFaultFor C n b) b)) (refusing 12 b) .number ≢ 0
-        → Unchanged b (pick i (pick j (results C n A fs b) (refusing (roomFaultFor C n b) b)) (refusing 12 b))
-    served C true true h = absurd (h refl)
-    served C true false h = (refl, refl, refl)
-    served C false j h = (refl, refl, refl)
+    -- a table refuses without a change, or hands on
+    by : (l : List Test) → Numbered l → (x : Results) → (x .number ≢ 0 → Unchanged b x) → refusedBy l (λ k. refusing k b) x .number ≢ 0
+        → Unchanged b (refusedBy l (λ k. refusing k b) x)
+    by l N x g = go (refusedBy l (λ k. refusing k b) x) (told (λ k. refusing k b) x l N)
+      where
+        go : (r : Results) → Told (λ k. refusing k b) x (Passed l) (faultBy l) r → r .number ≢ 0 → Unchanged b r
+        go r (inl t) h = rw (t .2) (g (λ e. h (ap (λ (r : Results). r .number) (t .2) ∙ e)))
+        go r (inr t) h = rw (t .1) (refl, refl, refl)
 
-    go : (i j : Bool) (r : Read Code) → pick i (refusing 21 b) (pick j (refusing 22 b) (under r n A fs b)) .number ≢ 0
-        → Unchanged b (pick i (refusing 21 b) (pick j (refusing 22 b) (under r n A fs b)))
-    go true j r h = (refl, refl, refl)
-    go false true r h = (refl, refl, refl)
-    go false false (bad k) h = (refl, refl, refl)
-    go false false (good C) h = served C (eqb (length fs) (n * (C .columns * size C))) (eqb (roomFaultFor C n b) 0) h
+    whole : (r : Read Code) → under r n A fs b .number ≢ 0 → Unchanged b (under r n A fs b)
+    whole (bad k) h = (refl, refl, refl)
+    whole (good C) h = by (testsFor C n fs b) (whole-numbered C n fs b) (results C n A fs b) (λ i. absurd (i refl)) h

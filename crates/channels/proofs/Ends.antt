@@ -10,55 +10,30 @@ use native.Mathlib.Omega.{arith}
 use lib.Dec.{eqb}
 use lib.ListN.{length, getD, take, drop, replicate, length-map, length-replicate, getD-replicate, take-append-drop}
 use lib.Seq.{length-take-le, getD-take, ext-getD}
-use borrow.Author.Tests.{eq-eqb, ne-eqb, le-ltb}
+use borrow.Author.Tests.{eq-eqb, ne-eqb}
 use Rattle.trellis.specs.Lists.{upTo, pick}
 use Rattle.trellis.specs.Reply.{Reply, foundIn, notFoundIn}
 use Rattle.trellis.proofs.Lists.{of-upTo}
 use Rattle.trellis.proofs.Places.{length-count, map-ext}
 use Rattle.machine.specs.CodeLine.{Code, size, frameFault}
-use Rattle.machine.specs.Machine.{settled, used}
+use Rattle.machine.specs.Machine.{settled}
 use Rattle.machine.specs.Decoding.{Buffers}
 use Rattle.machine.specs.Moments.{Stage, Moment, moment}
 use Rattle.machine.proofs.Lists.{at-upTo, map-after}
 use Rattle.machine.specs.inner.Accepted.{GoodCode}
-use Rattle.machine.proofs.Lines.{parse-good}
 use Rattle.machine.specs.inner.InRange.{Below}
 use Rattle.machine.proofs.Ranges.{below-take, below-drop}
 use Rattle.channels.specs.Serving.{countOf, serve, sum}
-use Rattle.channels.specs.Channels.{after, finished, spentIn, answer, received, frameOf, ownOf, counted, results, roomFaultFor, channels}
-use Rattle.channels.specs.Claims.{IsServed}
+use Rattle.channels.specs.Channels.{after, finished, spentIn, answer, received, frameOf, ownOf, counted, results}
 use Rattle.channels.specs.inner.Rounds.{statusOf, Standing, standing, statusAt, countAt, loadedTo, roundsAt, Rooms, Asked, replyBy, Ends}
 use Rattle.channels.proofs.Servings.{length-counts, sum-left}
 use Rattle.channels.proofs.Rounds.{begin}
 use Rattle.channels.proofs.Parts.{length-part, Exact, exact-room, own-exact, received-exact, received-refused}
-use Rattle.channels.proofs.Call.{fault-13, value-at, spent-is}
+use Rattle.channels.proofs.Call.{fault-13, value-at, sum-answers}
 use Rattle.channels.proofs.Patches.{all-parts}
 use Rattle.channels.proofs.Bridge.{ran, ran-at, ran-buffers, ran-ended, ran-status, ran-refused}
 use Rattle.channels.proofs.Stands.{Runs, Stands, serve-stands}
 use Rattle.channels.proofs.Loads.{Loaded, loaded}
-
--- with none of its refusals the call has results
-pub asked-results : (n A : ℕ) (code fs : List ℕ) (b : Buffers) (C : Code) → Asked n A code fs b C → channels n A code fs b ≡ results C n A fs b
-unfolding channels roomFaultFor
-asked-results n A code fs b C K =
-    simp (
-      le-ltb n 1 (K .count-low),
-      le-ltb 8 n (K .count-high),
-      ne-eqb A 0 (positive A (K .some)),
-      K .line,
-      eq-eqb (length fs) (n * (C .columns * size C)) (K .long),
-      le-ltb (length (b .symbols)) (n * C .columns) (K .room .for-symbols),
-      le-ltb (length (b .costs)) (n * (C .columns * size C)) (K .room .for-costs),
-      le-ltb (length (b .store)) (n * used C) (K .room .for-store),
-      le-ltb (length (b .margins)) (n * C .columns) (K .room .for-margins),
-    )
-  where
-    positive : (x : ℕ) → 0 < x → x ≢ 0
-    positive x h e = omega arith
-
-asked-served : (n A : ℕ) (code fs : List ℕ) (b : Buffers) (C : Code) → Asked n A code fs b C → IsServed n A code fs b C
-unfolding results
-asked-served n A code fs b C K = record { line = K .line; bytes = K .bytes; served = ap (λ r. r .number) (asked-results n A code fs b C K) }
 
 -- a status is 20 only while running
 twenty-of : (s : Stage) → s .number ≢ 20 → eqb (statusOf s) 20 ≡ eqb (s .state) 1
@@ -106,7 +81,7 @@ sum-low : (l : List ℕ) (m : ℕ) → ((c : ℕ) → c < length l → getD l c 
 sum-low [] m h = omega arith
 sum-low (x ∷ l) m h = omega (arith, h 0 (omega arith), sum-low l m (λ c i. h (suc c) (omega arith)), suc-mul (length l) m)
 
-module _ (n A : ℕ) (code fs : List ℕ) (b : Buffers) (C : Code) (K : Asked n A code fs b C) (s₀ t₀ : List ℕ) (for-status : n ≤ length s₀) (for-counts : n ≤ length t₀)
+module _ (C : Code) (n A : ℕ) (fs : List ℕ) (b : Buffers) (K : Asked C n fs b) (s₀ t₀ : List ℕ) (for-status : n ≤ length s₀) (for-counts : n ≤ length t₀)
     (none : (c : ℕ) → c < n → getD t₀ c 0 ≡ 0) where
   abbrev f : ℕ → List ℕ
   f c = frameOf C fs c
@@ -124,7 +99,7 @@ module _ (n A : ℕ) (code fs : List ℕ) (b : Buffers) (C : Code) (K : Asked n 
   l₀ = standing s₀ t₀ A b
 
   G : GoodCode C
-  G = parse-good code C (K .line)
+  G = K .good
 
   byte-frame : (c : ℕ) → Below 255 (f c)
   byte-frame c = below-take 255 (C .columns * size C) _ (below-drop 255 (c * (C .columns * size C)) fs (K .bytes))
@@ -232,15 +207,15 @@ module _ (n A : ℕ) (code fs : List ℕ) (b : Buffers) (C : Code) (K : Asked n 
 
   pub counts-are : (c : ℕ) → c < n → countAt end c ≡ answer C (f c) (j c) .value
   unfolding counted
-  counts-are c h = S .counts c h ∙ sym (value-at n A code fs b C (asked-served n A code fs b C K) c h)
+  counts-are c h = S .counts c h ∙ sym (value-at C n A fs (K .count-low) (K .long) c h)
 
-  answers-are : channels n A code fs b .answers ≡ map (λ c. answer C (f c) (j c)) (upTo n)
+  answers-are : results C n A fs b .answers ≡ map (λ c. answer C (f c) (j c)) (upTo n)
   unfolding results counted
-  answers-are = ap (λ r. r .answers) (asked-results n A code fs b C K)
+  answers-are = refl
 
-  spent-sum : channels n A code fs b .spent ≡ sum (serve fin n A .counts)
-  unfolding counted
-  spent-sum = spent-is n A code fs b C (asked-served n A code fs b C K)
+  spent-sum : results C n A fs b .spent ≡ sum (serve fin n A .counts)
+  unfolding results counted
+  spent-sum = sum-answers C n A fs (K .count-low) (K .long)
 
   few : (c : ℕ) → c < n → j c ≤ C .limit
   few c h = elim (decLt (C .limit) (j c)) [
@@ -248,11 +223,10 @@ module _ (n A : ℕ) (code fs : List ℕ) (b : Buffers) (C : Code) (K : Asked n 
     | no k ↦ omega arith
   ]
 
-  pub service-ends : Ends n A code fs b C l₀ end
+  pub service-ends : Ends C n A fs b l₀ end
   unfolding results counted
   service-ends =
       record {
-        number = asked-served n A code fs b C K .served;
         spent = omega (arith, spent-sum, sum-left fin n A (K .count-low) (n * A), S .left);
         spent-most = omega (
           arith,
@@ -270,8 +244,7 @@ module _ (n A : ℕ) (code fs : List ℕ) (b : Buffers) (C : Code) (K : Asked n 
             by-front (end .counts) t₀ n (λ c. answer C (f c) (j c) .value) (S .rooms .for-counts) counts-are (S .untouched .counts)
             ∙ ap (λ l. l ++ drop n t₀) (sym (ap (map (λ (a : Reply). a .value)) answers-are ∙ map-after (λ (a : Reply). a .value) (λ c. answer C (f c) (j c)) (upTo n)));
         buffers =
-            all-parts C n b (end .buffers) (λ c. received C (f c) (j c) (own c)) (S .untouched .buffers) parts-are
-            ∙ sym (ap (λ r. r .buffers) (asked-results n A code fs b C K));
+            all-parts C n b (end .buffers) (λ c. received C (f c) (j c) (own c)) (S .untouched .buffers) parts-are;
       }
     where
       most : sum (serve fin n A .counts) ≤ n * C .limit
@@ -280,7 +253,7 @@ module _ (n A : ℕ) (code fs : List ℕ) (b : Buffers) (C : Code) (K : Asked n 
           rw e at (sum-low (serve fin n A .counts) (C .limit) (λ c i. few c (omega arith)))
 
 -- with lists of eight zeros
-pub eight-end : (n A : ℕ) (code fs : List ℕ) (b : Buffers) (C : Code) → Asked n A code fs b C
-    → Ends n A code fs b C (standing (replicate 8 0) (replicate 8 0) A b) (roundsAt C n A (loadedTo C fs n (standing (replicate 8 0) (replicate 8 0) A b)))
-eight-end n A code fs b C K =
-    service-ends n A code fs b C K (replicate 8 0) (replicate 8 0) (K .count-high) (K .count-high) (λ c h. getD-replicate 8 c 0 0 (omega (arith, K .count-high)))
+pub eight-end : (C : Code) (n A : ℕ) (fs : List ℕ) (b : Buffers) → Asked C n fs b
+    → Ends C n A fs b (standing (replicate 8 0) (replicate 8 0) A b) (roundsAt C n A (loadedTo C fs n (standing (replicate 8 0) (replicate 8 0) A b)))
+eight-end C n A fs b K =
+    service-ends C n A fs b K (replicate 8 0) (replicate 8 0) (K .count-high) (K .count-high) (λ c h. getD-replicate 8 c 0 0 (omega (arith, K .count-high)))

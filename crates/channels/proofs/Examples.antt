@@ -12,7 +12,7 @@ use Rattle.machine.specs.CodeLine.{parse, checks, checkAt, edges, readEdge, fra
 use Rattle.machine.specs.Machine.{iteration, update, message, spread, arriving, outgoing, incoming, settled, symbols, margins, place, records}
 use Rattle.machine.specs.Decoding.{Buffers}
 use Rattle.channels.specs.Serving.{serving, servings}
-use Rattle.channels.specs.Channels.{after, finished, spentIn, answer, received, Results, counted, results, roomFaultFor, channels}
+use Rattle.channels.specs.Channels.{after, finished, spentIn, answer, received, Results, counted, results, channels}
 
 abbrev line : List ℕ
 line = 2 ∷ 0 ∷ 3 ∷ 1 ∷ 16 ∷ 1 ∷ 3 ∷ 0 ∷ 0 ∷ 1 ∷ 0 ∷ 1 ∷ 1 ∷ 0 ∷ 2 ∷ 1 ∷ []
@@ -31,26 +31,26 @@ abbrev served : Results
 served = channels 4 1 line (replicate 12 1 ++ (settled-frame ++ (frame ++ frame))) lent
 
 pub answers : served .answers ≡ refusal 13 ∷ foundIn 0 ∷ foundIn 1 ∷ spentIn 0 ∷ []
-unfolding channels results counted servings serving after finished answer roomFaultFor iteration update message sent parse firstOk checks checkAt edges readEdge frameFault place spread arriving outgoing incoming settled symbols margins marginOf choices leastCost xor
+unfolding channels results counted servings serving after finished answer iteration update message sent parse firstOk checks checkAt edges readEdge frameFault place spread arriving outgoing incoming settled symbols margins marginOf choices leastCost xor
 answers = refl
 
 pub spent : served .spent ≡ 1
-unfolding channels results counted servings serving after finished answer roomFaultFor iteration update message sent parse firstOk checks checkAt edges readEdge frameFault place spread arriving outgoing incoming settled symbols margins marginOf choices leastCost xor
+unfolding channels results counted servings serving after finished answer iteration update message sent parse firstOk checks checkAt edges readEdge frameFault place spread arriving outgoing incoming settled symbols margins marginOf choices leastCost xor
 spent = refl
 
 pub decisions : served .buffers .symbols ≡ 7 ∷ 7 ∷ 7 ∷ 0 ∷ 0 ∷ 0 ∷ 1 ∷ 1 ∷ 0 ∷ 1 ∷ 0 ∷ 0 ∷ []
-unfolding channels results counted servings serving after finished received roomFaultFor iteration update message sent parse firstOk checks checkAt edges readEdge frameFault place spread arriving outgoing incoming settled symbols margins marginOf choices leastCost xor
+unfolding channels results counted servings serving after finished received iteration update message sent parse firstOk checks checkAt edges readEdge frameFault place spread arriving outgoing incoming settled symbols margins marginOf choices leastCost xor
 decisions = refl
 
 -- margins of the first decisions for the frames found at t = 0 and spent, of the last ones for the one found by its iteration
 pub margins-then : served .buffers .margins ≡ 7 ∷ 7 ∷ 7 ∷ 5 ∷ 3 ∷ 2 ∷ 1 ∷ 1 ∷ 1 ∷ 5 ∷ 3 ∷ 2 ∷ []
-unfolding channels results counted servings serving after finished received roomFaultFor iteration update message sent parse firstOk checks checkAt edges readEdge frameFault place spread arriving outgoing incoming settled symbols margins marginOf choices leastCost xor
+unfolding channels results counted servings serving after finished received iteration update message sent parse firstOk checks checkAt edges readEdge frameFault place spread arriving outgoing incoming settled symbols margins marginOf choices leastCost xor
 margins-then = refl
 
 -- only the served channel's store is written
 pub store-then : served .buffers .store
     ≡ replicate 36 7 ++ (0 ∷ 1 ∷ 1 ∷ 4 ∷ 1 ∷ 5 ∷ 255 ∷ 0 ∷ 2 ∷ 2 ∷ 7 ∷ 255 ∷ 0 ∷ 3 ∷ 1 ∷ 7 ∷ 255 ∷ 0 ∷ replicate 18 7)
-unfolding channels results counted servings serving after finished received roomFaultFor iteration update message sent parse firstOk checks checkAt edges readEdge frameFault place records spread arriving outgoing incoming settled symbols margins marginOf choices leastCost xor recordOf shifts group above extra sentAt shift decided
+unfolding channels results counted servings serving after finished received iteration update message sent parse firstOk checks checkAt edges readEdge frameFault place records spread arriving outgoing incoming settled symbols margins marginOf choices leastCost xor recordOf shifts group above extra sentAt shift decided
 store-then = refl
 
 -- Two checks on four columns, at most I iterations, and a frame that is found after two iterations and not after one
@@ -68,12 +68,12 @@ two I A = channels 2 A (line-2 I) (frame-2 ++ frame-2) (record { symbols = repli
 
 -- I = 2: of three iterations channel 0 gets the first and the last, channel 1 is spent after the second
 pub in-turn : two 2 3 .answers ≡ foundIn 2 ∷ spentIn 1 ∷ []
-unfolding channels results counted servings serving after finished answer roomFaultFor iteration update message sent parse firstOk checks checkAt edges readEdge frameFault place spread arriving outgoing incoming settled symbols margins marginOf choices leastCost xor
+unfolding channels results counted servings serving after finished answer iteration update message sent parse firstOk checks checkAt edges readEdge frameFault place spread arriving outgoing incoming settled symbols margins marginOf choices leastCost xor
 in-turn = refl
 
 -- I = 1: both are at I iterations, and one of A is left
 pub at-limit : (two 1 3 .answers ≡ notFoundIn 1 ∷ notFoundIn 1 ∷ []) × (two 1 3 .spent ≡ 2)
-unfolding channels results counted servings serving after finished answer roomFaultFor iteration update message sent parse firstOk checks checkAt edges readEdge frameFault place spread arriving outgoing incoming settled symbols margins marginOf choices leastCost xor
+unfolding channels results counted servings serving after finished answer iteration update message sent parse firstOk checks checkAt edges readEdge frameFault place spread arriving outgoing incoming settled symbols margins marginOf choices leastCost xor
 at-limit = (refl, refl)
 
 -- the order of refusals
@@ -101,17 +101,17 @@ abbrev five : List ℕ
 five = frame ++ (frame ++ (frame ++ (frame ++ frame)))
 
 pub no-symbols : channels 5 1 line five lent .number ≡ 2
-unfolding channels parse firstOk checks checkAt edges readEdge roomFaultFor
+unfolding channels parse firstOk checks checkAt edges readEdge
 no-symbols = refl
 
 pub no-costs : channels 5 1 line five (record { symbols = replicate 15 7; costs = replicate 59 7; store = []; margins = [] }) .number ≡ 3
-unfolding channels parse firstOk checks checkAt edges readEdge roomFaultFor
+unfolding channels parse firstOk checks checkAt edges readEdge
 no-costs = refl
 
 pub no-store : channels 5 1 line five (record { symbols = replicate 15 7; costs = replicate 60 7; store = replicate 89 7; margins = [] }) .number ≡ 4
-unfolding channels parse firstOk checks checkAt edges readEdge roomFaultFor place
+unfolding channels parse firstOk checks checkAt edges readEdge place
 no-store = refl
 
 pub no-margins : channels 5 1 line five (record { symbols = replicate 15 7; costs = replicate 60 7; store = replicate 90 7; margins = replicate 14 7 }) .number ≡ 19
-unfolding channels parse firstOk checks checkAt edges readEdge roomFaultFor place
+unfolding channels parse firstOk checks checkAt edges readEdge place
 no-margins = refl

@@ -1,19 +1,19 @@
 -- From the tests of the whole call and from where the channels stand at the end to the struct that it answers by.
-use mathlib.Core.Path.{_≡_, refl, sym, ap, ap₂, _∙_}
-use mathlib.Core.Bool.{Bool, true, false, _||_}
+use mathlib.Core.Path.{_≡_, refl, sym, ap, ap₂, subst, _∙_}
 use mathlib.Core.Logic.{⊎-elim}
 use mathlib.Core.List.{List, map, _++_}
 use Prim.Native.Nat.{ℕ, zero, suc, _-_, _*_, _≤_, _<_}
 use native.Mathlib.Nat.{mul-le-mul, not-suc-le-zero, le-of-suc-le-suc}
 use native.Mathlib.Omega.{arith}
-use lib.Dec.{eqb, ltb}
-use borrow.Author.Tests.{ne-eqb, eqb-true, eqb-false, ltb-false, le-ltb}
+use borrow.Author.Tests.{ne-eqb, le-ltb}
 use lib.ListN.{length, getD, drop, replicate, length-map, getD-replicate}
-use Rattle.trellis.specs.Lists.{pick, upTo}
+use Rattle.trellis.specs.Lists.{upTo}
+use Rattle.trellis.specs.Refusals.{faultBy}
 use Rattle.trellis.specs.Reply.{Reply}
 use Rattle.trellis.proofs.Places.{length-count}
 use Rattle.machine.specs.CodeLine.{good, Code, size, numbersOf, parse}
 use Rattle.machine.specs.Decoding.{Buffers, lending}
+use Rattle.trellis.proofs.Refusals.{Passed}
 use Rattle.machine.proofs.Rooms.{used-high, costs-high}
 use Rattle.codeline.specs.declared.answers.Header.{Header}
 use Rattle.codeline.specs.declared.answers.Header.the-variants.{Refused as HeaderRefused}
@@ -21,16 +21,17 @@ use Rattle.codeline.specs.declared.answers.Numbers.{Numbers}
 use Rattle.codeline.specs.inner.Coding.{codeOf, Coded}
 use Rattle.codeline.specs.Answers.{headerNumbers}
 use Rattle.codeline.proofs.Answered.{header-refused}
-use Rattle.frame.specs.Answers.{roomFaultOf}
 use Rattle.layered.proofs.Decoded.{used-is}
-use Rattle.channels.specs.declared.service.Layout.{Layout}
-use Rattle.channels.specs.Channels.{results, refusing, roomFaultFor, under, channels}
-use Rattle.channels.specs.inner.Rounds.{Standing, standing, roundsAt, loadedTo, RoomFor, Asked, Ends, replyBy, statusAt, countAt, Serves}
+use Rattle.channels.specs.declared.layout.Layout.{Layout}
+use Rattle.channels.specs.Channels.{Results, results, refusing, countTests, testsFor, under, channels}
+use Rattle.channels.specs.inner.Rounds.{Standing, standing, loading, roundsAt, loadedTo, RoomFor, Asked, Ends, replyBy, statusAt, countAt, Serves}
 use Rattle.channels.specs.Answers.{Gives}
-use Rattle.channels.specs.inner.Layouts.{LaidOut, Fitted, countFault, faultFor, FaultRoom, UnderRoom}
-use Rattle.channels.proofs.Parts.{room-for}
+use Rattle.channels.specs.inner.Layouts.{codeFor, LaidOut, Fitted, countFault, faultFor, FaultRoom, LoadsRoom, UnderRoom}
+use Rattle.trellis.proofs.Refusals.{refused-by, passed-by, none-applies}
+use Rattle.channels.proofs.Refused.{count-numbered, count-passed, whole-numbered, whole-passed}
 use Rattle.channels.proofs.Ends.{eight-end}
 use Rattle.channels.proofs.Quiet.{round-left}
+use Rattle.channels.proofs.Loads.{beside, loads-beside}
 use Rattle.channels.proofs.Serves.{serves-loaded}
 
 -- what is left of eight zeros
@@ -43,22 +44,12 @@ drop-zeros (suc m) (suc n) h = let e : m - n ≡ suc m - suc n = omega arith in 
 module _ (n A k : ℕ) (e : k ≡ countFault n A) where
   pub count-refused : (k ≡ 0 → ⊥) → (code fs : List ℕ) (b : Buffers) → channels n A code fs b ≡ refusing k b
   unfolding channels countFault
-  count-refused h code fs b = go (ltb n 1 || ltb 8 n) refl (eqb A 0) refl
-    where
-      go : (i : Bool) → (ltb n 1 || ltb 8 n) ≡ i → (j : Bool) → eqb A 0 ≡ j → pick i (refusing 21 b) (pick j (refusing 22 b) (under (parse code) n A fs b)) ≡ refusing k b
-      go true a j d = ap (λ x. refusing x b) (sym (e ∙ rw a))
-      go false a true d = ap (λ x. refusing x b) (sym (e ∙ rw (a, d)))
-      go false a false d = absurd (h (e ∙ rw (a, d)))
+  count-refused h code fs b =
+      refused-by (countTests n A) (count-numbered n A) k e h (λ k. refusing k b) (under (parse code) n A fs b)
 
   pub count-passes : k ≡ 0 → (1 ≤ n) × (n ≤ 8) × (0 < A)
   unfolding countFault
-  count-passes h = go (ltb n 1) refl (ltb 8 n) refl (eqb A 0) refl (sym e ∙ h)
-    where
-      go : (i : Bool) → ltb n 1 ≡ i → (j : Bool) → ltb 8 n ≡ j → (l : Bool) → eqb A 0 ≡ l → _≡_ {A = ℕ} (pick (i || j) 21 (pick l 22 0)) 0 → (1 ≤ n) × (n ≤ 8) × (0 < A)
-      go true a j d l f o = absurd (omega arith)
-      go false a true d l f o = absurd (omega arith)
-      go false a false d true f o = absurd (omega arith)
-      go false a false d false f o = (ltb-false n 1 a, ltb-false 8 n d, omega (arith, eqb-false A 0 f))
+  count-passes h = count-passed n A (none-applies (countTests n A) (count-numbered n A) (sym e ∙ h))
 
 -- with these passed, the code decides
 pub passed-under : (n A : ℕ) (code fs : List ℕ) (b : Buffers) → 1 ≤ n → n ≤ 8 → 0 < A → channels n A code fs b ≡ under (parse code) n A fs b
@@ -74,127 +65,132 @@ rounds-left C n k l l′ e = rw e (go k)
     go (suc k) = ⊎-elim (λ o. rw o (go k)) (λ o. omega (arith, go k)) (round-left C n (roundsAt C n k l))
 
 -- lengths whose multiples fit
-pub fault-room : (C : Code) (z : Layout) (ds cs ws : List ℕ) → Fitted C z ds cs ws → (n : ℕ) → n ≤ 8 → FaultRoom n z
-fault-room C z ds cs ws H n h =
+pub fault-room : (z : Layout) (ds cs ws : List ℕ) → Fitted z ds cs ws → (n : ℕ) → n ≤ 8 → FaultRoom n z
+fault-room z ds cs ws H n h =
+    let C : Code = codeFor z ds cs ws in
     record {
       few = h;
-      columns = rw (H .columns-is) (H .good .columns-high);
-      costs = rw (H .costs-is) (costs-high C (H .good));
-      store = omega (arith, H .store-is, used-high C (H .good));
+      columns = rw (H .columns-is) (H .coded .good .columns-high);
+      costs = rw (H .costs-is) (costs-high C (H .coded .good));
+      store = omega (arith, H .store-is, used-high C (H .coded .good));
     }
 
-module _ (C : Code) (z : Layout) (ds cs ws : List ℕ) (H : Fitted C z ds cs ws) (n A : ℕ) (low : 1 ≤ n) (high : n ≤ 8) (some : 0 < A) (code : List ℕ) (line : parse code ≡ good C)
+module _ (z : Layout) (ds cs ws : List ℕ) (H : Fitted z ds cs ws) (n A : ℕ) (low : 1 ≤ n) (high : n ≤ 8)
     (fs y p s v : List ℕ) (k : ℕ) (e : k ≡ faultFor n z (length fs) (length y) (length p) (length s) (length v)) where
+  abbrev C : Code
+  C = codeFor z ds cs ws
+
   abbrev b : Buffers
   b = lending y p s v
 
-  fault-is : k ≡ pick (eqb (length fs) (n * (C .columns * size C))) (roomFaultFor C n b) 12
-  unfolding faultFor roomFaultOf roomFaultFor
+  fault-is : k ≡ faultBy (testsFor C n fs b)
+  unfolding faultFor
   fault-is = e ∙ rw (H .columns-is, H .costs-is, H .store-is)
 
-  under-is : channels n A code fs b ≡ under (good C) n A fs b
-  under-is = passed-under n A code fs b low high some ∙ ap (λ r. under r n A fs b) line
-
   -- 12, 2, 3, 4, 19
-  pub whole-refused : (k ≡ 0 → ⊥) → channels n A code fs b ≡ refusing k b
-  whole-refused h = under-is ∙ go (eqb (length fs) (n * (C .columns * size C))) refl (eqb (roomFaultFor C n b) 0) refl
-    where
-      go : (i : Bool) → eqb (length fs) (n * (C .columns * size C)) ≡ i → (j : Bool) → eqb (roomFaultFor C n b) 0 ≡ j
-          → pick i (pick j (results C n A fs b) (refusing (roomFaultFor C n b) b)) (refusing 12 b) ≡ refusing k b
-      go true a true d = absurd (h (fault-is ∙ rw a (eqb-true _ _ d)))
-      go true a false d = ap (λ x. refusing x b) (sym (fault-is ∙ rw a))
-      go false a j d = ap (λ x. refusing x b) (sym (fault-is ∙ rw a))
+  pub whole-refused : (k ≡ 0 → ⊥) → under (good C) n A fs b ≡ refusing k b
+  whole-refused h =
+      refused-by (testsFor C n fs b) (whole-numbered C n fs b) k fault-is h (λ k. refusing k b) (results C n A fs b)
 
   module _ (h : k ≡ 0) (bytes : (i : ℕ) → getD fs i 0 ≤ 255) where
-    passes : (length fs ≡ n * (C .columns * size C)) × RoomFor C n b
-    passes = go (eqb (length fs) (n * (C .columns * size C))) refl (sym fault-is ∙ h)
-      where
-        go : (i : Bool) → eqb (length fs) (n * (C .columns * size C)) ≡ i → pick i (roomFaultFor C n b) 12 ≡ 0 → (length fs ≡ n * (C .columns * size C)) × RoomFor C n b
-        go true a o = (eqb-true _ _ a, room-for C n b o)
-        go false a o = absurd (omega arith)
+    passes : Passed (testsFor C n fs b) × (under (good C) n A fs b ≡ results C n A fs b)
+    passes =
+        (none-applies (testsFor C n fs b) (whole-numbered C n fs b) (sym fault-is ∙ h), passed-by (testsFor C n fs b) (whole-numbered C n fs b) k fault-is h (λ k. refusing k b) (results C n A fs b))
 
-    pub asked : Asked n A code fs b C
-    asked = record { count-low = low; count-high = high; some = some; line = line; long = passes .0; room = passes .1; bytes = bytes }
+    long : length fs ≡ n * (C .columns * size C)
+    long = whole-passed C n fs b (passes .0) .0
 
-    pub long-is : length fs ≡ n * (C .columns * size C)
-    long-is = passes .0
+    room : RoomFor C n b
+    room = whole-passed C n fs b (passes .0) .1
 
-    pub room-is : RoomFor C n b
-    room-is = passes .1
+    asked : Asked C n fs b
+    asked = record { good = H .coded .good; count-low = low; count-high = high; long = long; room = room; bytes = bytes }
+
+    -- the channels may be loaded
+    pub loads-room : (st : List ℕ) → n ≤ length st → LoadsRoom n z ds cs ws fs y p v st
+    loads-room st i =
+        record {
+          fitted = H;
+          frames = rw (H .costs-is) long;
+          symbols = rw (H .columns-is) (room .for-symbols);
+          costs = rw (H .costs-is) (room .for-costs);
+          margins = rw (H .columns-is) (room .for-margins);
+          for-status = i;
+        }
+
+    abbrev l₀ : Standing
+    l₀ = standing (replicate 8 0) (replicate 8 0) A b
+
+    -- the loads, with what they are not lent
+    pub loads-with : (st y′ p′ v′ : List ℕ) → loading st y′ p′ v′ ≡ loadedTo C fs n (loading (replicate 8 0) y p v)
+        → standing st (replicate 8 0) A (lending y′ p′ s v′) ≡ loadedTo C fs n l₀
+    loads-with st y′ p′ v′ o = ap (beside s (replicate 8 0) A) o ∙ sym (loads-beside C fs s (replicate 8 0) A (loading (replicate 8 0) y p v) n)
 
     -- the service may begin
-    pub begins : (l : Standing) → l ≡ loadedTo C fs n (standing (replicate 8 0) (replicate 8 0) A b) → Serves C (H .good) n l
+    pub begins : (l : Standing) → l ≡ loadedTo C fs n l₀ → Serves C (H .coded .good) n l
     begins l o =
         rw o
-        (serves-loaded C (H .good) n fs (standing (replicate 8 0) (replicate 8 0) A b)
-        (record { for-status = high; for-counts = high; room = room-is }) long-is bytes (λ c i. getD-replicate 8 c 0 0 (omega arith)))
+        (serves-loaded C (H .coded .good) n fs l₀ (record { for-status = high; for-counts = high; room = room }) long bytes
+        (λ c i. getD-replicate 8 c 0 0 (omega arith)))
 
     -- and what it gives at its end
-    module _ (l : Standing) (o : l ≡ roundsAt C n A (loadedTo C fs n (standing (replicate 8 0) (replicate 8 0) A b))) where
-      E : Ends n A code fs b C (standing (replicate 8 0) (replicate 8 0) A b) l
-      E = rw o (eight-end n A code fs b C asked)
+    module _ (l : Standing) (o : l ≡ roundsAt C n A (loadedTo C fs n l₀)) where
+      E : Ends C n A fs b l₀ l
+      E = rw o (eight-end C n A fs b asked)
 
       pub spent-small : z .numbers .limit ≤ 255 → A - l .left ≤ 2040
-      spent-small d =
-          let j : z .numbers .limit ≡ C .limit = ap (λ (D : Code). D .limit) (H .code-is) in
-          let i : C .limit ≤ 255 = omega arith in
-          let m : n * C .limit ≤ 8 * 255 = mul-le-mul high i in
-          omega (arith, E .spent-most)
+      spent-small d = let m : n * C .limit ≤ 8 * 255 = mul-le-mul high d in omega (arith, E .spent-most)
 
-      count-answers : length (channels n A code fs b .answers) ≡ n
+      count-answers : length (results C n A fs b .answers) ≡ n
       count-answers = ap length (E .answers) ∙ length-map (upTo n) (λ c. replyBy (statusAt l c) (countAt l c)) ∙ length-count 0 n
 
-      zeros-left : drop n (replicate {A = ℕ} 8 0) ≡ replicate (8 - length (channels n A code fs b .answers)) 0
+      zeros-left : drop n (replicate {A = ℕ} 8 0) ≡ replicate (8 - length (results C n A fs b .answers)) 0
       zeros-left = drop-zeros 8 n high ∙ ap (λ k. replicate (8 - k) 0) (sym count-answers)
 
-      pub gives : (y′ p′ s′ v′ : List ℕ) → lending y′ p′ s′ v′ ≡ l .buffers → Gives (channels n A code fs b) 0 (A - l .left) (l .status) (l .counts) (lending y′ p′ s′ v′)
+      results-number : results C n A fs b .number ≡ 0
+      unfolding results
+      results-number = refl
+
+      pub gives : (y′ p′ s′ v′ : List ℕ) → lending y′ p′ s′ v′ ≡ l .buffers
+          → Gives (under (good C) n A fs b) 0 (A - l .left) (l .status) (l .counts) (lending y′ p′ s′ v′)
       gives y′ p′ s′ v′ i =
-          let x : lending y′ p′ s′ v′ ≡ channels n A code fs b .buffers = i ∙ E .buffers in
+          let x : lending y′ p′ s′ v′ ≡ results C n A fs b .buffers = i ∙ E .buffers in
+          rw (passes .1)
           record {
-            number-is = sym (E .number);
+            number-is = sym results-number;
             spent-is = sym (E .spent);
-            status-is = E .status ∙ ap (λ r. map (λ (a : Reply). a .number) (channels n A code fs b .answers) ++ r) zeros-left;
-            iterations-is = E .counts ∙ ap (λ r. map (λ (a : Reply). a .value) (channels n A code fs b .answers) ++ r) zeros-left;
+            status-is = E .status ∙ ap (λ r. map (λ (a : Reply). a .number) (results C n A fs b .answers) ++ r) zeros-left;
+            iterations-is = E .counts ∙ ap (λ r. map (λ (a : Reply). a .value) (results C n A fs b .answers) ++ r) zeros-left;
             symbols-then = ap (λ (w : Buffers). w .symbols) x;
             costs-then = ap (λ (w : Buffers). w .costs) x;
             store-then = ap (λ (w : Buffers). w .store) x;
             margins-then = ap (λ (w : Buffers). w .margins) x;
           }
 
--- the layout of a code that is read
-shaped-of : (k : Numbers) (ds cs ws : List ℕ) → Coded k ds cs ws → (z : Layout) → LaidOut k ds z → Fitted (codeOf k ds cs ws) z ds cs ws
-shaped-of k ds cs ws T z L =
-    record {
-      coded = rw (L .numbers-is) T;
-      code-is = ap (λ k. codeOf k ds cs ws) (L .numbers-is);
-      good = T .good;
-      columns-is = L .columns-is;
-      costs-is = L .costs-is;
-      store-is = L .store-is ∙ used-is k ds cs ws T (k .columns) refl;
-    }
-
 -- a line that is refused
 pub line-refused : (s₀ : List ℕ) (h : Header) → headerNumbers h ≡ numbersOf (parse s₀) → (n A : ℕ) → 1 ≤ n → n ≤ 8 → 0 < A → (k : ℕ) → h ≡ HeaderRefused k
     → (fs : List ℕ) (b : Buffers) → channels n A s₀ fs b ≡ refusing k b
 line-refused s₀ h e n A i j l k o fs b = passed-under n A s₀ fs b i j l ∙ ap (λ r. under r n A fs b) (header-refused s₀ h e k o)
 
--- and one that says a code
-module _ (s₀ : List ℕ) (k : Numbers) (ds cs ws : List ℕ) (T : Coded k ds cs ws) (e : parse s₀ ≡ good (codeOf k ds cs ws)) (z : Layout) (L : LaidOut k ds z) where
-  pub under-room : (c A : ℕ) → 1 ≤ c → c ≤ 8 → 0 < A → (Q S : List ℕ) → 2048 ≤ length Q → 2048 ≤ length S → UnderRoom c A z ds cs ws Q S
-  under-room c A u v w Q S a b =
+-- and one that says a code, with its layout
+module _ (k : Numbers) (ds cs ws : List ℕ) (T : Coded k ds cs ws) (z : Layout) (L : LaidOut k ds z) where
+  fitted : Fitted z ds cs ws
+  fitted =
       record {
-        code = codeOf k ds cs ws;
-        line = s₀;
-        parsed = e;
-        shaped = shaped-of k ds cs ws T z L;
-        low = u;
-        high = v;
-        some = w;
-        arrived = a;
-        sent = b;
+        coded = rw (L .numbers-is) T;
+        columns-is = rw (L .numbers-is) (L .columns-is);
+        costs-is = rw (L .numbers-is) (L .costs-is);
+        store-is = rw (L .numbers-is) (L .store-is ∙ used-is k ds cs ws T (k .columns) refl);
       }
 
-  pub line-gives : (c A : ℕ) (fs : List ℕ) (b : Buffers) (x y : ℕ) (p q : List ℕ) (b′ : Buffers)
-      → ((code : List ℕ) (C : Code) → parse code ≡ good C → Fitted C z ds cs ws → Gives (channels c A code fs b) x y p q b′)
-      → Gives (channels c A s₀ fs b) x y p q b′
-  line-gives c A fs b x y p q b′ W = W s₀ (codeOf k ds cs ws) e (shaped-of k ds cs ws T z L)
+  pub under-room : (n : ℕ) → 1 ≤ n → n ≤ 8 → UnderRoom n z ds cs ws
+  under-room n u v = record { fitted = fitted; low = u; high = v }
+
+  pub line-gives : (s₀ : List ℕ) → parse s₀ ≡ good (codeOf k ds cs ws) → (n A : ℕ) → 1 ≤ n → n ≤ 8 → 0 < A → (m : ℕ) → m ≡ n → (fs : List ℕ) (b : Buffers)
+      → (x y : ℕ) (p q : List ℕ) (b′ : Buffers) → Gives (under (good (codeFor z ds cs ws)) m A fs b) x y p q b′ → Gives (channels n A s₀ fs b) x y p q b′
+  line-gives s₀ e n A i j l m o fs b x y p q b′ W = subst (λ (r : Results). Gives r x y p q b′) same W
+    where
+      same : under (good (codeFor z ds cs ws)) m A fs b ≡ channels n A s₀ fs b
+      same =
+          ap₂ (λ k m. under (good (codeOf k ds cs ws)) m A fs b) (L .numbers-is) o
+          ∙ sym (passed-under n A s₀ fs b i j l ∙ ap (λ r. under r n A fs b) e)

@@ -7,18 +7,18 @@ use native.Mathlib.Nat.{not-suc-le-zero}
 use native.Mathlib.Decide.{ℕ-discrete}
 use native.Mathlib.Omega.{arith}
 use lib.Dec.{eqb}
-use lib.ListN.{length, length-set, length-append, length-drop}
+use lib.ListN.{length, set, length-set, length-append, length-drop}
 use lib.Seq.{getD-set-same, getD-set-other, drop-set-lt}
 use Rattle.trellis.specs.Lists.{pick, upto}
 use Rattle.machine.specs.CodeLine.{Code, size, frameFault}
-use Rattle.machine.specs.Machine.{settled}
-use Rattle.machine.specs.Decoding.{Buffers, holding}
+use Rattle.machine.specs.Machine.{settled, used}
+use Rattle.machine.specs.Decoding.{Buffers, lending, holding}
 use Rattle.machine.specs.Moments.{Moment, moment}
 use Rattle.machine.proofs.Buffers.{length-symbols, length-margins}
 use Rattle.channels.specs.Channels.{frameOf, ownOf}
-use Rattle.channels.specs.inner.Rounds.{opened, loadAt, statusOf, Standing, statusAt, loadedAt, loadedTo, Rooms}
+use Rattle.channels.specs.inner.Rounds.{opened, loadAt, patchAt, statusOf, Standing, standing, statusAt, loadedAt, loadedTo, Rooms}
 use Rattle.channels.proofs.Parts.{length-part, Exact, own-exact}
-use Rattle.channels.proofs.Patches.{patch-room, patch-own, patch-other, patch-beyond}
+use Rattle.channels.proofs.Patches.{patch-same, patch-room, patch-own, patch-other, patch-beyond}
 use Rattle.channels.proofs.Stands.{Untouched}
 
 -- a load keeps the lengths of a channel's parts
@@ -103,8 +103,26 @@ module _ (C : Code) (fs : List ℕ) (n : ℕ) (l₀ : Standing) (W : Rooms C n l
   unfolding loadedTo
   loaded = loads n (omega arith)
 
--- a load spends nothing
-pub loads-left : (C : Code) (fs : List ℕ) (l : Standing) (k : ℕ) → loadedTo C fs k l .left ≡ l .left
-unfolding loadedTo loadedAt
-loads-left C fs l zero = refl
-loads-left C fs l (suc k) = loads-left C fs l k
+-- a load sees no store, no counts and no allowance: with these beside it leaves the same
+abbrev pub beside : List ℕ → List ℕ → ℕ → Standing → Standing
+beside s t a l = standing (l .status) t a (lending (l .buffers .symbols) (l .buffers .costs) s (l .buffers .margins))
+
+-- where the test of channel c's frame decides
+abbrev leave : Code → List ℕ → ℕ → Bool → Standing → Standing
+leave C f c i l =
+    let own : Buffers = ownOf C (l .buffers) c in
+    let m : Moment = pick i (moment (pick (settled C f) 2 1) 0 0 (holding C f (own .store) own)) (moment 4 (frameFault C f) 0 own) in
+    standing (set (l .status) c (statusOf (m .stage))) (l .counts) (l .left) (patchAt C c (l .buffers) (m .buffers))
+
+load-beside : (C : Code) (fs : List ℕ) (c : ℕ) (s t : List ℕ) (a : ℕ) (l : Standing) → loadedAt C fs c (beside s t a l) ≡ beside s t a (loadedAt C fs c l)
+unfolding loadedAt loadAt
+load-beside C fs c s t a l = go (eqb (frameFault C (frameOf C fs c)) 0)
+  where
+    go : (i : Bool) → leave C (frameOf C fs c) c i (beside s t a l) ≡ beside s t a (leave C (frameOf C fs c) c i l)
+    go true = rw (patch-same s (c * used C) (used C)) refl
+    go false = rw (patch-same s (c * used C) (used C)) refl
+
+pub loads-beside : (C : Code) (fs : List ℕ) (s t : List ℕ) (a : ℕ) (l : Standing) (n : ℕ) → loadedTo C fs n (beside s t a l) ≡ beside s t a (loadedTo C fs n l)
+unfolding loadedTo
+loads-beside C fs s t a l zero = refl
+loads-beside C fs s t a l (suc n) = ap (loadedAt C fs n) (loads-beside C fs s t a l n) ∙ load-beside C fs n s t a (upto (loadedAt C fs) n l)

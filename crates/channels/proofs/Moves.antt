@@ -11,24 +11,22 @@ use Rattle.machine.specs.CodeLine.{Code, size}
 use Rattle.machine.specs.Machine.{used}
 use Rattle.machine.specs.Decoding.{Buffers}
 use Rattle.machine.proofs.Ranges.{column-room}
-use Rattle.channels.specs.declared.service.Layout.{Layout}
+use Rattle.channels.specs.declared.layout.Layout.{Layout}
 use Rattle.channels.specs.inner.Rounds.{Standing, standing, statusAt, countAt, stepAt, loadAt, loadedAt, loadedTo, movedAt, servingAt, roundAt, RoomFor}
-use Rattle.channels.specs.inner.Layouts.{Fitted, Puts, OnePart, AllParts, PartRoom, NextRoom, ServeRoom}
+use Rattle.channels.specs.inner.Layouts.{codeFor, Fitted, Puts, LoadsRoom, LoadRoom, PartRoom, NextRoom, RoundRoom}
 use Rattle.channels.proofs.Serves.{serving-serves, round-serves}
 use Rattle.channels.proofs.Quiet.{less-law}
 
 -- room for n channels is room for each of them
-pub one-room : (C : Code) (n : ℕ) (b : Buffers) → RoomFor C n b → (c : ℕ) → c < n → PartRoom C c b
-one-room C n b W c h =
+pub one-room : (z : Layout) (ds cs ws : List ℕ) → Fitted z ds cs ws → (n : ℕ) (b : Buffers) → RoomFor (codeFor z ds cs ws) n b → (c : ℕ) → c < n → PartRoom z c b
+one-room z ds cs ws H n b W c h =
+    let C : Code = codeFor z ds cs ws in
     record {
-      for-symbols = omega (arith, W .for-symbols, column-room c n (C .columns) h);
-      for-costs = omega (arith, W .for-costs, column-room c n (C .columns * size C) h);
-      for-store = omega (arith, W .for-store, column-room c n (used C) h);
-      for-margins = omega (arith, W .for-margins, column-room c n (C .columns) h);
+      for-symbols = rw (H .columns-is) (omega (arith, W .for-symbols, column-room c n (C .columns) h));
+      for-costs = rw (H .costs-is) (omega (arith, W .for-costs, column-room c n (C .columns * size C) h));
+      for-store = rw (H .store-is) (omega (arith, W .for-store, column-room c n (used C) h));
+      for-margins = rw (H .columns-is) (omega (arith, W .for-margins, column-room c n (C .columns) h));
     }
-
-pub one-part : (C : Code) (n : ℕ) (s : List ℕ) → AllParts C n s → (c : ℕ) → c < n → OnePart C c s
-one-part C n s W c h = omega (arith, column-room c n (used C) h)
 
 module _ (C : Code) (c : ℕ) (l : Standing) where
   -- skipped
@@ -52,47 +50,52 @@ module _ (C : Code) (c : ℕ) (l : Standing) where
   unfolding loadedAt
   load-moves fs r b′ P = rw (P .status-is, P .buffers-are)
 
+-- a load is lent its part of each buffer
+pub load-room : (n : ℕ) (z : Layout) (ds cs ws fs y p v st : List ℕ) → LoadsRoom n z ds cs ws fs y p v st → (c : ℕ) → c < n → (y′ p′ v′ : List ℕ)
+    → length y′ ≡ length y → length p′ ≡ length p → length v′ ≡ length v → LoadRoom c z ds cs ws fs y′ p′ v′
+load-room n z ds cs ws fs y p v st R c h y′ p′ v′ i j k =
+    record {
+      fitted = R .fitted;
+      frames = omega (arith, R .frames, column-room c n (z .costs) h);
+      symbols = omega (arith, R .symbols, column-room c n (z .columns) h);
+      costs = omega (arith, R .costs, column-room c n (z .costs) h);
+      margins = omega (arith, R .margins, column-room c n (z .columns) h);
+    }
+
 -- what an iteration of a running channel asks
-module _ (n : ℕ) (z : Layout) (ds cs ws : List ℕ) (l : Standing) (A S : List ℕ) (R : ServeRoom n z ds cs ws l A S) (c : ℕ) (h : c < n) (e : statusAt l c ≡ 20) where
+module _ (n : ℕ) (z : Layout) (ds cs ws : List ℕ) (l : Standing) (A S : List ℕ) (R : RoundRoom n z ds cs ws l A S) (c : ℕ) (h : c < n) (e : statusAt l c ≡ 20) where
   pub step-room : NextRoom c (countAt l c) z ds cs ws (l .buffers) A S
   step-room =
       record {
-        code = R .code;
-        shaped = R .shaped;
-        room = one-room (R .code) n (l .buffers) (R .serves .rooms .room) c h;
-        passable = R .serves .passable c h e;
+        fitted = R .serve .fitted;
+        room = one-room z ds cs ws (R .serve .fitted) n (l .buffers) (R .serve .serves .rooms .room) c h;
+        passable = R .serve .serves .passable c h e;
         arrived = R .arrived;
         sent = R .sent;
       }
 
   -- its count has room for one more
   pub count-low : countAt l c + 1 ≤ z .numbers .limit
-  count-low =
-      let i : z .numbers .limit ≡ R .code .limit = ap (λ (D : Code). D .limit) (R .shaped .code-is) in
-      rw i (omega (arith, R .serves .below c h e))
+  count-low = omega (arith, R .serve .serves .below c h e)
 
 -- after a serving there is room for the next one
-pub serve-next : (n : ℕ) (z : Layout) (ds cs ws : List ℕ) (l : Standing) (A S : List ℕ) → ServeRoom n z ds cs ws l A S → (c : ℕ) → c < n
-    → (l′ : Standing) (A′ S′ : List ℕ) → ((C : Code) → Fitted C z ds cs ws → l′ ≡ servingAt C c l) → length A′ ≡ length A → length S′ ≡ length S
-    → ServeRoom n z ds cs ws l′ A′ S′
+pub serve-next : (n : ℕ) (z : Layout) (ds cs ws : List ℕ) (l : Standing) (A S : List ℕ) → RoundRoom n z ds cs ws l A S → (c : ℕ) → c < n
+    → (l′ : Standing) (A′ S′ : List ℕ) → l′ ≡ servingAt (codeFor z ds cs ws) c l → length A′ ≡ length A → length S′ ≡ length S
+    → RoundRoom n z ds cs ws l′ A′ S′
 serve-next n z ds cs ws l A S R c h l′ A′ S′ e i j =
     record {
-      code = R .code;
-      shaped = R .shaped;
-      serves = rw (e (R .code) (R .shaped)) (serving-serves (R .code) (R .shaped .good) n l (R .serves) c h);
+      serve = record { fitted = R .serve .fitted; serves = rw e (serving-serves (codeFor z ds cs ws) (R .serve .fitted .coded .good) n l (R .serve .serves) c h) };
       arrived = omega (arith, R .arrived);
       sent = omega (arith, R .sent);
     }
 
 -- and after a round
-pub round-next : (n : ℕ) (z : Layout) (ds cs ws : List ℕ) (l : Standing) (A S : List ℕ) → ServeRoom n z ds cs ws l A S
-    → (l′ : Standing) (A′ S′ : List ℕ) → ((C : Code) → Fitted C z ds cs ws → l′ ≡ roundAt C n l) → length A′ ≡ length A → length S′ ≡ length S
-    → ServeRoom n z ds cs ws l′ A′ S′
+pub round-next : (n : ℕ) (z : Layout) (ds cs ws : List ℕ) (l : Standing) (A S : List ℕ) → RoundRoom n z ds cs ws l A S
+    → (l′ : Standing) (A′ S′ : List ℕ) → l′ ≡ roundAt (codeFor z ds cs ws) n l → length A′ ≡ length A → length S′ ≡ length S
+    → RoundRoom n z ds cs ws l′ A′ S′
 round-next n z ds cs ws l A S R l′ A′ S′ e i j =
     record {
-      code = R .code;
-      shaped = R .shaped;
-      serves = rw (e (R .code) (R .shaped)) (round-serves (R .code) (R .shaped .good) n l (R .serves));
+      serve = record { fitted = R .serve .fitted; serves = rw e (round-serves (codeFor z ds cs ws) (R .serve .fitted .coded .good) n l (R .serve .serves)) };
       arrived = omega (arith, R .arrived);
       sent = omega (arith, R .sent);
     }

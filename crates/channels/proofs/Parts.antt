@@ -7,10 +7,10 @@ use Prim.Native.Nat.{ℕ, zero, suc, _+_, _*_, _≤_, _<_}
 use native.Mathlib.Nat.{not-suc-le-zero, suc-mul, zero-mul}
 use native.Mathlib.Decide.{ℕ-discrete}
 use native.Mathlib.Omega.{arith}
-use lib.Dec.{eqb, ltb}
+use lib.Dec.{eqb}
 use lib.ListN.{length, drop, length-append, length-take, length-drop, length-replicate, getD-replicate}
 use lib.Seq.{take-at, drop-at}
-use borrow.Author.Tests.{ltb-false, eqb-true, eqb-false, ne-eqb}
+use borrow.Author.Tests.{eqb-true, eqb-false, ne-eqb}
 use Rattle.trellis.specs.Lists.{pick, part, blocks}
 use Rattle.machine.specs.CodeLine.{Code, size, frameFault}
 use Rattle.machine.specs.Machine.{none, records, used}
@@ -20,7 +20,7 @@ use Rattle.machine.proofs.Updates.{Reached, iteration-kept, length-records}
 use Rattle.machine.proofs.Ranges.{column-room, frame-ranged, iteration-ranged}
 use Rattle.machine.specs.Decoding.{Buffers, holding, Room}
 use Rattle.machine.proofs.Buffers.{length-symbols, length-margins}
-use Rattle.channels.specs.Channels.{after, received, ownOf, together, roomFaultFor}
+use Rattle.channels.specs.Channels.{after, received, ownOf, together}
 use Rattle.channels.specs.inner.Rounds.{RoomFor}
 use Rattle.channels.proofs.Alone.{after-t}
 
@@ -70,20 +70,6 @@ pub record Exact (C : Code) (b : Buffers) : Type 0 where
 
 pub exact-room : (C : Code) (b : Buffers) → Exact C b → Room C b
 exact-room C b E = record { for-symbols = omega (arith, E .symbols); for-costs = omega (arith, E .costs); for-store = omega (arith, E .store); for-margins = omega (arith, E .margins) }
-
-pub room-for : (C : Code) (n : ℕ) (b : Buffers) → roomFaultFor C n b ≡ 0 → RoomFor C n b
-unfolding roomFaultFor
-room-for C n b h =
-    go (ltb (length (b .symbols)) (n * C .columns)) refl (ltb (length (b .costs)) (n * (C .columns * size C))) refl (ltb (length (b .store)) (n * used C)) refl (ltb (length (b .margins)) (n * C .columns)) refl h
-  where
-    go : (i : Bool) → ltb (length (b .symbols)) (n * C .columns) ≡ i → (j : Bool) → ltb (length (b .costs)) (n * (C .columns * size C)) ≡ j
-        → (k : Bool) → ltb (length (b .store)) (n * used C) ≡ k → (l : Bool) → ltb (length (b .margins)) (n * C .columns) ≡ l
-        → _≡_ {A = ℕ} (pick i 2 (pick j 3 (pick k 4 (pick l 19 0)))) 0 → RoomFor C n b
-    go true a j c k d l e h = absurd (omega arith)
-    go false a true c k d l e h = absurd (omega arith)
-    go false a false c true d l e h = absurd (omega arith)
-    go false a false c false d true e h = absurd (omega arith)
-    go false a false c false d false e h = record { for-symbols = ltb-false _ _ a; for-costs = ltb-false _ _ c; for-store = ltb-false _ _ d; for-margins = ltb-false _ _ e }
 
 pub own-exact : (C : Code) (n : ℕ) (b : Buffers) → RoomFor C n b → (c : ℕ) → c < n → Exact C (ownOf C b c)
 own-exact C n b R c h =

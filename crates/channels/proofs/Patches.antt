@@ -58,6 +58,10 @@ by-parts l l₀ g w n h e =
     sym (take-append-drop (n * w) l)
     ∙ ap₂ (λ x y. x ++ y) (sym (front-blocks l w n) ∙ blocks-ext (λ c. part l (c * w) w) g n h) e
 
+-- a part put back where it stood
+pub patch-same : (l : List ℕ) (a n : ℕ) → patch l a n (part l a n) ≡ l
+patch-same l a n = ap (λ r. take a l ++ r) (take-append-drop n (drop a l)) ∙ take-append-drop a l
+
 -- what follows the parts of n channels is as it was
 pub record Beyond (C : Code) (n : ℕ) (b₀ b : Buffers) : Type 0 where
   pub symbols : drop (n * C .columns) (b .symbols) ≡ drop (n * C .columns) (b₀ .symbols)

@@ -5,7 +5,7 @@ use Prim.Native.Nat.{ℕ, _*_}
 use lib.Dec.{eqb, ltb}
 use lib.ListN.{length, drop}
 use Rattle.trellis.specs.Lists.{upTo, pick, upto, part, blocks}
-use Rattle.trellis.specs.Refusals.{Test, when, refusedBy, faultBy}
+use Rattle.trellis.specs.Refusals.{Test, when, unless, refusedBy}
 use Rattle.trellis.specs.Reply.{Reply, refusal, foundIn, notFoundIn}
 use Rattle.machine.specs.CodeLine.{Read, good, bad, Code, size, parse, frameFault}
 use Rattle.machine.specs.Machine.{State, start, iteration, settled, records, used}
@@ -91,20 +91,22 @@ results C n A fs b =
 abbrev pub refusing : ℕ → Buffers → Results
 refusing k b = record { number = k; spent = 0; answers = []; buffers = b }
 
--- "2, 3, 4 and 19 .. each length being the count times one channel's"; 0 for none
-unfoldable pub roomFaultFor : Code → ℕ → Buffers → ℕ
-roomFaultFor C n b =
-    faultBy
-    (roomTests (n * C .columns) (n * (C .columns * size C)) (n * used C) (length (b .symbols)) (length (b .costs)) (length (b .store))
-    (length (b .margins)))
+-- "12, 2, 3, 4 and 19 .. each length being the count times one channel's": n channels of k symbols and margins, w costs and u bytes each
+abbrev pub wholeTests : ℕ → ℕ → ℕ → ℕ → ℕ → ℕ → ℕ → ℕ → ℕ → List Test
+wholeTests n k w u frames symbols costs store margins =
+    unless (eqb frames (n * w)) 12
+    ∷ roomTests (n * k) (n * w) (n * u) symbols costs store margins
+
+-- for n channels under a code
+abbrev pub testsFor : Code → ℕ → List ℕ → Buffers → List Test
+testsFor C n fs b =
+    wholeTests n (C .columns) (C .columns * size C) (used C) (length fs) (length (b .symbols)) (length (b .costs)) (length (b .store))
+    (length (b .margins))
 
 -- "Then the code's, 12, 2, 3, 4 and 19 refuse the whole call"
 abbrev pub under : Read Code → ℕ → ℕ → List ℕ → Buffers → Results
 under (bad k) n A fs b = refusing k b
-under (good C) n A fs b =
-    pick (eqb (length fs) (n * (C .columns * size C)))
-    (pick (eqb (roomFaultFor C n b) 0) (results C n A fs b) (refusing (roomFaultFor C n b) b))
-    (refusing 12 b)
+under (good C) n A fs b = refusedBy (testsFor C n fs b) (λ k. refusing k b) (results C n A fs b)
 
 -- "21, channel count not 1 to 8, before all; 22, A is 0, after 21."
 abbrev pub countTests : ℕ → ℕ → List Test

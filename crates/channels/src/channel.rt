@@ -1,15 +1,12 @@
 // One channel in its parts of the buffers: its load and its next iteration.
-use crate::service::Layout;
+use crate::layout::Layout;
 use layered::answers::Stage;
 use layered::stages;
 ghost use mathlib.Core.Path.{_≡_};
-ghost use mathlib.Core.List.{List};
-ghost use Prim.Native.Nat.{ℕ};
-ghost use Rattle.machine.specs.CodeLine.{Code};
 ghost use Rattle.machine.specs.Decoding.{lending};
 ghost use Rattle.layered.specs.Answers.{stageOf};
-ghost use Rattle.channels.specs.inner.Rounds.{statusOf, loadAt, stepAt};
-ghost use Rattle.channels.specs.inner.Layouts.{Fitted, OnePart, LoadRoom, NextRoom, Puts};
+ghost use Rattle.channels.specs.inner.Rounds.{statusOf, loadAt, stepAt, unstored};
+ghost use Rattle.channels.specs.inner.Layouts.{codeFor, LoadRoom, NextRoom, Puts};
 
 // 20 while running: at the end it is the channel's status.
 fn status_of(s: Stage) -> u8
@@ -37,10 +34,11 @@ pub fn load_at(
     margins: &mut [u16],
 ) -> u8
     requires { ⌜ LoadRoom c z (now degrees) (now columns) (now weights) (now frames) (now symbols) (now costs) (now margins) ⌝ }
-    ensures { λ r. ⌜ ((C : Code) → Fitted C z (now (degrees .entry)) (now (columns .entry)) (now (weights .entry)) → (store : List ℕ)
-        → OnePart C c store → Puts C c (lending (now (symbols .entry)) (now (costs .entry)) store (now (margins .entry)))
-        (loadAt C (now (frames .entry)) c (lending (now (symbols .entry)) (now (costs .entry)) store (now (margins .entry)))) r
-        (lending (now (symbols .exit)) (now (costs .exit)) store (now (margins .exit)))) ⌝ }
+    ensures { λ r. ⌜ Puts (codeFor z (now (degrees .entry)) (now (columns .entry)) (now (weights .entry))) c
+        (unstored (now (symbols .entry)) (now (costs .entry)) (now (margins .entry)))
+        (loadAt (codeFor z (now (degrees .entry)) (now (columns .entry)) (now (weights .entry))) (now (frames .entry)) c
+        (unstored (now (symbols .entry)) (now (costs .entry)) (now (margins .entry)))) r
+        (unstored (now (symbols .exit)) (now (costs .exit)) (now (margins .exit))) ⌝ }
 {
     let a = c * z.columns;
     let b = a + z.columns;
@@ -80,10 +78,11 @@ pub fn step_at(
 ) -> u8
     requires { ⌜ NextRoom c t z (now degrees) (now columns) (now weights) (lending (now symbols) (now costs) (now store) (now margins))
         (now arrived) (now sent) ⌝ }
-    ensures { λ r. ⌜ ((C : Code) → Fitted C z (now (degrees .entry)) (now (columns .entry)) (now (weights .entry))
-        → Puts C c (lending (now (symbols .entry)) (now (costs .entry)) (now (store .entry)) (now (margins .entry)))
-        (stepAt C c t (lending (now (symbols .entry)) (now (costs .entry)) (now (store .entry)) (now (margins .entry)))) r
-        (lending (now (symbols .exit)) (now (costs .exit)) (now (store .exit)) (now (margins .exit)))) ⌝ }
+    ensures { λ r. ⌜ Puts (codeFor z (now (degrees .entry)) (now (columns .entry)) (now (weights .entry))) c
+        (lending (now (symbols .entry)) (now (costs .entry)) (now (store .entry)) (now (margins .entry)))
+        (stepAt (codeFor z (now (degrees .entry)) (now (columns .entry)) (now (weights .entry))) c t
+        (lending (now (symbols .entry)) (now (costs .entry)) (now (store .entry)) (now (margins .entry)))) r
+        (lending (now (symbols .exit)) (now (costs .exit)) (now (store .exit)) (now (margins .exit))) ⌝ }
 {
     let a = c * z.columns;
     let b = a + z.columns;

@@ -1,6 +1,7 @@
 // One check layer, eight channels: up to eight frames under one code line, with one allowance of iterations for all.
 pub mod answers;
 mod channel;
+mod layout;
 mod service;
 mod whole;
 
@@ -30,8 +31,6 @@ pub fn decode_channels(
     let mut degrees = [0u8; 128];
     let mut columns = [0u16; 1024];
     let mut weights = [0u8; 1024];
-    let mut arrived = [0u8; 2048];
-    let mut sent = [0u8; 2048];
     whole::decode_in(
         count,
         allowance,
@@ -44,7 +43,5 @@ pub fn decode_channels(
         &mut degrees,
         &mut columns,
         &mut weights,
-        &mut arrived,
-        &mut sent,
     )
 }

@@ -1,21 +1,10 @@
 // The channels in turn: all loaded, then rounds in which each that is running gets one iteration.
 use crate::channel;
-use codeline::answers::Numbers;
+use crate::layout::Layout;
 ghost use mathlib.Core.Path.{_≡_};
-ghost use mathlib.Core.List.{List};
-ghost use Prim.Native.Nat.{ℕ};
-ghost use Rattle.machine.specs.CodeLine.{Code};
 ghost use Rattle.machine.specs.Decoding.{lending};
-ghost use Rattle.channels.specs.inner.Rounds.{standing, servingAt, loadedTo, roundAt, roundsAt};
-ghost use Rattle.channels.specs.inner.Layouts.{Fitted, AllParts, LoadsRoom, OneRoom, ServeRoom};
-
-// The numbers of the code line, and the lengths of a channel's parts: N, N times q, and the M record lengths added up.
-pub struct Layout {
-    pub numbers: Numbers,
-    pub columns: usize,
-    pub costs: usize,
-    pub store: usize,
-}
+ghost use Rattle.channels.specs.inner.Rounds.{standing, loading, servingAt, loadedTo, roundAt, roundsAt};
+ghost use Rattle.channels.specs.inner.Layouts.{codeFor, LoadsRoom, OneRoom, RoundRoom, ServeRoom};
 
 // Every channel is loaded, by number.
 pub fn load_all(
@@ -32,11 +21,9 @@ pub fn load_all(
 )
     requires { ⌜ LoadsRoom count z (now degrees) (now columns) (now weights) (now frames) (now symbols) (now costs) (now margins)
         (now status) ⌝ }
-    ensures { λ _. ⌜ ((C : Code) → Fitted C z (now (degrees .entry)) (now (columns .entry)) (now (weights .entry))
-        → (store counts : List ℕ) (left : ℕ) → AllParts C count store
-        → standing (now (status .exit)) counts left (lending (now (symbols .exit)) (now (costs .exit)) store (now (margins .exit)))
-        ≡ loadedTo C (now (frames .entry)) count (standing (now (status .entry)) counts left
-        (lending (now (symbols .entry)) (now (costs .entry)) store (now (margins .entry))))) ⌝ }
+    ensures { λ _. ⌜ loading (now (status .exit)) (now (symbols .exit)) (now (costs .exit)) (now (margins .exit))
+        ≡ loadedTo (codeFor z (now (degrees .entry)) (now (columns .entry)) (now (weights .entry))) (now (frames .entry)) count
+        (loading (now (status .entry)) (now (symbols .entry)) (now (costs .entry)) (now (margins .entry))) ⌝ }
 {
     let mut c = 0;
     while c < count {
@@ -75,11 +62,11 @@ fn serve_at(
     requires { ⌜ OneRoom c z (now degrees) (now columns) (now weights)
         (standing (now status) (now counts) left (lending (now symbols) (now costs) (now store) (now margins))) (now arrived)
         (now sent) ⌝ }
-    ensures { λ r. ⌜ ((C : Code) → Fitted C z (now (degrees .entry)) (now (columns .entry)) (now (weights .entry))
-        → standing (now (status .exit)) (now (counts .exit)) r
+    ensures { λ r. ⌜ standing (now (status .exit)) (now (counts .exit)) r
         (lending (now (symbols .exit)) (now (costs .exit)) (now (store .exit)) (now (margins .exit)))
-        ≡ servingAt C c (standing (now (status .entry)) (now (counts .entry)) left
-        (lending (now (symbols .entry)) (now (costs .entry)) (now (store .entry)) (now (margins .entry))))) ⌝ }
+        ≡ servingAt (codeFor z (now (degrees .entry)) (now (columns .entry)) (now (weights .entry))) c
+        (standing (now (status .entry)) (now (counts .entry)) left
+        (lending (now (symbols .entry)) (now (costs .entry)) (now (store .entry)) (now (margins .entry)))) ⌝ }
 {
     if status[c] != 20 {
         return left;
@@ -123,14 +110,14 @@ fn round(
     arrived: &mut [u8],
     sent: &mut [u8],
 ) -> u32
-    requires { ⌜ ServeRoom count z (now degrees) (now columns) (now weights)
+    requires { ⌜ RoundRoom count z (now degrees) (now columns) (now weights)
         (standing (now status) (now counts) left (lending (now symbols) (now costs) (now store) (now margins))) (now arrived)
         (now sent) ⌝ }
-    ensures { λ r. ⌜ ((C : Code) → Fitted C z (now (degrees .entry)) (now (columns .entry)) (now (weights .entry))
-        → standing (now (status .exit)) (now (counts .exit)) r
+    ensures { λ r. ⌜ standing (now (status .exit)) (now (counts .exit)) r
         (lending (now (symbols .exit)) (now (costs .exit)) (now (store .exit)) (now (margins .exit)))
-        ≡ roundAt C count (standing (now (status .entry)) (now (counts .entry)) left
-        (lending (now (symbols .entry)) (now (costs .entry)) (now (store .entry)) (now (margins .entry))))) ⌝ }
+        ≡ roundAt (codeFor z (now (degrees .entry)) (now (columns .entry)) (now (weights .entry))) count
+        (standing (now (status .entry)) (now (counts .entry)) left
+        (lending (now (symbols .entry)) (now (costs .entry)) (now (store .entry)) (now (margins .entry)))) ⌝ }
 {
     let mut a = left;
     let mut c = 0;
@@ -157,7 +144,7 @@ fn round(
 }
 
 // Rounds until one serves nobody: every channel is finished, or nothing is left.
-pub fn serve(
+fn rounds(
     count: usize,
     allowance: u32,
     z: Layout,
@@ -173,14 +160,14 @@ pub fn serve(
     arrived: &mut [u8],
     sent: &mut [u8],
 ) -> u32
-    requires { ⌜ ServeRoom count z (now degrees) (now columns) (now weights)
+    requires { ⌜ RoundRoom count z (now degrees) (now columns) (now weights)
         (standing (now status) (now counts) allowance (lending (now symbols) (now costs) (now store) (now margins))) (now arrived)
         (now sent) ⌝ }
-    ensures { λ r. ⌜ ((C : Code) → Fitted C z (now (degrees .entry)) (now (columns .entry)) (now (weights .entry))
-        → standing (now (status .exit)) (now (counts .exit)) r
+    ensures { λ r. ⌜ standing (now (status .exit)) (now (counts .exit)) r
         (lending (now (symbols .exit)) (now (costs .exit)) (now (store .exit)) (now (margins .exit)))
-        ≡ roundsAt C count allowance (standing (now (status .entry)) (now (counts .entry)) allowance
-        (lending (now (symbols .entry)) (now (costs .entry)) (now (store .entry)) (now (margins .entry))))) ⌝ }
+        ≡ roundsAt (codeFor z (now (degrees .entry)) (now (columns .entry)) (now (weights .entry))) count allowance
+        (standing (now (status .entry)) (now (counts .entry)) allowance
+        (lending (now (symbols .entry)) (now (costs .entry)) (now (store .entry)) (now (margins .entry)))) ⌝ }
 {
     let mut a = allowance;
     loop {
@@ -205,4 +192,47 @@ pub fn serve(
         }
         a = b;
     }
+}
+
+// The same, with two lists to work in.
+pub fn serve(
+    count: usize,
+    allowance: u32,
+    z: Layout,
+    degrees: &[u8],
+    columns: &[u16],
+    weights: &[u8],
+    symbols: &mut [u8],
+    costs: &mut [u16],
+    store: &mut [u8],
+    margins: &mut [u16],
+    status: &mut [u8],
+    counts: &mut [u8],
+) -> u32
+    requires { ⌜ ServeRoom count z (now degrees) (now columns) (now weights)
+        (standing (now status) (now counts) allowance (lending (now symbols) (now costs) (now store) (now margins))) ⌝ }
+    ensures { λ r. ⌜ standing (now (status .exit)) (now (counts .exit)) r
+        (lending (now (symbols .exit)) (now (costs .exit)) (now (store .exit)) (now (margins .exit)))
+        ≡ roundsAt (codeFor z (now (degrees .entry)) (now (columns .entry)) (now (weights .entry))) count allowance
+        (standing (now (status .entry)) (now (counts .entry)) allowance
+        (lending (now (symbols .entry)) (now (costs .entry)) (now (store .entry)) (now (margins .entry)))) ⌝ }
+{
+    let mut arrived = [0u8; 2048];
+    let mut sent = [0u8; 2048];
+    rounds(
+        count,
+        allowance,
+        z,
+        degrees,
+        columns,
+        weights,
+        symbols,
+        costs,
+        store,
+        margins,
+        status,
+        counts,
+        &mut arrived,
+        &mut sent,
+    )
 }

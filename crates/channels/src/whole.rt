@@ -1,17 +1,15 @@
 // The whole call: its refusals, the code line read once, and the service.
 use crate::answers::Served;
+use crate::layout;
+use crate::layout::Layout;
 use crate::service;
-use crate::service::Layout;
 use codeline::answers::Header;
-use codeline::answers::Numbers;
 ghost use mathlib.Core.Path.{_≡_};
-ghost use mathlib.Core.List.{List};
-ghost use Prim.Native.Nat.{ℕ};
-ghost use Rattle.machine.specs.CodeLine.{good, Code, parse};
+ghost use Rattle.machine.specs.CodeLine.{good};
 ghost use Rattle.machine.specs.Decoding.{Buffers, lending};
-ghost use Rattle.channels.specs.Channels.{refusing, channels};
+ghost use Rattle.channels.specs.Channels.{refusing, under, channels};
 ghost use Rattle.channels.specs.Answers.{Gives};
-ghost use Rattle.channels.specs.inner.Layouts.{Fitted, LaidOut, countFault, faultFor, FaultRoom, UnderRoom};
+ghost use Rattle.channels.specs.inner.Layouts.{codeFor, countFault, faultFor, FaultRoom, UnderRoom};
 
 // A refusal of the whole call.
 fn refused(k: u8) -> Served
@@ -39,21 +37,6 @@ fn count_fault(count: u8, allowance: u32) -> u8
         return 22;
     }
     0
-}
-
-// The lengths of one channel's parts.
-fn layout_of(numbers: Numbers, degrees: &[u8]) -> Layout
-    ensures { λ r. ⌜ LaidOut numbers (now (degrees .entry)) r ⌝ }
-{
-    let n = scalar::u16_to_usize(numbers.columns);
-    let q = rules::size(numbers.first);
-    let store = frame::used(numbers, degrees);
-    Layout {
-        numbers,
-        columns: n,
-        costs: n * q,
-        store,
-    }
 }
 
 // 12, 2, 3, 4 and 19 for the whole call, "each length being the count times one channel's"; 0 for none.
@@ -97,15 +80,13 @@ fn under_code(
     costs: &mut [u16],
     store: &mut [u8],
     margins: &mut [u16],
-    arrived: &mut [u8],
-    sent: &mut [u8],
 ) -> Served
-    requires { ⌜ UnderRoom count allowance z (now degrees) (now columns) (now weights) (now arrived) (now sent) ⌝ }
-    ensures { λ r. ⌜ ((code : List ℕ) (C : Code) → parse code ≡ good C
-        → Fitted C z (now (degrees .entry)) (now (columns .entry)) (now (weights .entry))
-        → Gives (channels count allowance code (now (frames .entry))
-        (lending (now (symbols .entry)) (now (costs .entry)) (now (store .entry)) (now (margins .entry)))) (r .number) (r .spent)
-        (r .status) (r .iterations) (lending (now (symbols .exit)) (now (costs .exit)) (now (store .exit)) (now (margins .exit)))) ⌝ }
+    requires { ⌜ UnderRoom count z (now degrees) (now columns) (now weights) ⌝ }
+    ensures { λ r. ⌜ Gives
+        (under (good (codeFor z (now (degrees .entry)) (now (columns .entry)) (now (weights .entry)))) count allowance
+        (now (frames .entry)) (lending (now (symbols .entry)) (now (costs .entry)) (now (store .entry)) (now (margins .entry))))
+        (r .number) (r .spent) (r .status) (r .iterations)
+        (lending (now (symbols .exit)) (now (costs .exit)) (now (store .exit)) (now (margins .exit))) ⌝ }
 {
     let k = fault(
         count,
@@ -146,8 +127,6 @@ fn under_code(
         margins,
         &mut status,
         &mut counts,
-        arrived,
-        sent,
     );
     Served {
         number: 0,
@@ -157,7 +136,7 @@ fn under_code(
     }
 }
 
-// Over the tables and lists of decode_channels.
+// Over the tables of decode_channels.
 pub fn decode_in(
     count: u8,
     allowance: u32,
@@ -170,8 +149,6 @@ pub fn decode_in(
     degrees: &mut [u8; 128],
     columns: &mut [u16; 1024],
     weights: &mut [u8; 1024],
-    arrived: &mut [u8; 2048],
-    sent: &mut [u8; 2048],
 ) -> Served
     ensures { λ r. ⌜ Gives (channels count allowance (now (code .entry)) (now (frames .entry))
         (lending (now (symbols .entry)) (now (costs .entry)) (now (store .entry)) (now (margins .entry)))) (r .number) (r .spent)
@@ -184,7 +161,7 @@ pub fn decode_in(
     match codeline::code_tables(code, degrees, columns, weights) {
         Header::Refused(k) => refused(k),
         Header::Read(numbers) => {
-            let z = layout_of(numbers, degrees);
+            let z = layout::layout_of(numbers, degrees);
             let count = scalar::u8_to_usize(count);
             under_code(
                 count,
@@ -198,8 +175,6 @@ pub fn decode_in(
                 costs,
                 store,
                 margins,
-                arrived,
-                sent,
             )
         }
     }

@@ -11,16 +11,11 @@ use lib.ListN.{length, getD}
 use borrow.Author.Tests.{ltb-false, leb-false, eqb-false, not-false}
 use Rattle.trellis.specs.Lists.{pick}
 use Rattle.trellis.specs.Refusals.{Test, when, unless, refusedBy}
+use Rattle.trellis.proofs.Refusals.{Passed}
 use Rattle.trellis.specs.Rules.{sizeOf, firstOk}
 use Rattle.trellis.proofs.Rules.{first-power}
 use Rattle.machine.specs.CodeLine.{Read, good, bad, then, Edge, Code, edge, wordAt, readEdge, edges, checkAt, checks, parse, power, size, check, edgeAt, Numbers, numbersOf, edgeTests, checkTests, headTests}
 use Rattle.machine.specs.inner.Accepted.{GoodEdge, GoodCheck, edgeTotal, GoodCode}
-
--- none of the tests of a table applies
-abbrev pub Passed : List Test → Type 0
-Passed [] = Unit {0}
-Passed (when b k ∷ l) = (b ≡ false) × Passed l
-Passed (unless b k ∷ l) = (b ≡ true) × Passed l
 
 -- what is read passed them all
 pub passed : {A : Type 0} (l : List Test) (y : Read A) (a : A) → refusedBy l bad y ≡ good a → Passed l × (y ≡ good a)

@@ -5,7 +5,7 @@ use mathlib.Core.Logic.{_≢_}
 use mathlib.Core.List.{List, [], _∷_, _++_}
 use Prim.Native.Nat.{ℕ}
 use lib.Dec.{eqb}
-use borrow.Author.Tests.{ne-eqb}
+use borrow.Author.Tests.{eq-eqb, ne-eqb}
 use Rattle.trellis.specs.Lists.{pick}
 use Rattle.trellis.specs.Refusals.{Test, when, unless, refusedBy, faultBy}
 
@@ -51,3 +51,30 @@ by-number (unless b k ∷ l) n bad good = go b (by-number l (n .1) bad good)
         → pick c (refusedBy l bad good) (bad k) ≡ pick (eqb (pick c (faultBy l) k) 0) good (bad (pick c (faultBy l) k))
     go true e = e
     go false e = rw (ne-eqb k 0 (n .0))
+
+-- a table of which k is the first number that applies, 0 for none
+module _ (l : List Test) (n : Numbered l) (k : ℕ) (e : k ≡ faultBy l) where
+  pub refused-by : (k ≡ 0 → ⊥) → {A : Type 0} (bad : ℕ → A) (good : A) → refusedBy l bad good ≡ bad k
+  refused-by h bad good = by-number l n bad good ∙ rw (← e, ne-eqb k 0 h)
+
+  pub passed-by : k ≡ 0 → {A : Type 0} (bad : ℕ → A) (good : A) → refusedBy l bad good ≡ good
+  passed-by h bad good = by-number l n bad good ∙ rw (← e, eq-eqb k 0 h)
+
+-- none of the tests of a table applies
+abbrev pub Passed : List Test → Type 0
+Passed [] = Unit {0}
+Passed (when b k ∷ l) = (b ≡ false) × Passed l
+Passed (unless b k ∷ l) = (b ≡ true) × Passed l
+
+pub none-applies : (l : List Test) → Numbered l → faultBy l ≡ 0 → Passed l
+none-applies [] n e = tt
+none-applies (when b k ∷ l) n e = go b refl e
+  where
+    go : (c : Bool) → b ≡ c → pick c k (faultBy l) ≡ 0 → Passed (when b k ∷ l)
+    go true i e = absurd (n .0 e)
+    go false i e = (i, none-applies l (n .1) e)
+none-applies (unless b k ∷ l) n e = go b refl e
+  where
+    go : (c : Bool) → b ≡ c → pick c (faultBy l) k ≡ 0 → Passed (unless b k ∷ l)
+    go true i e = (i, none-applies l (n .1) e)
+    go false i e = absurd (n .0 e)

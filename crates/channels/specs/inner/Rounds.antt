@@ -2,20 +2,20 @@
 -- since nobody else writes there an iteration tests no refusals. proofs/Ends.antt shows that this is the call of Channels.antt.
 use mathlib.Core.Path.{_≡_}
 use mathlib.Core.Bool.{Bool, not, _||_}
-use mathlib.Core.List.{List, map, _++_}
+use mathlib.Core.List.{List, [], map, _++_}
 use Prim.Native.Nat.{ℕ, _+_, _-_, _*_, _≤_, _<_}
 use lib.Dec.{eqb}
 use lib.ListN.{length, getD, set, drop}
 use Rattle.trellis.specs.Lists.{upTo, pick, upto, patch}
 use Rattle.trellis.specs.Reply.{Reply}
-use Rattle.machine.specs.CodeLine.{good, Code, size, parse, frameFault}
+use Rattle.machine.specs.CodeLine.{Code, size, frameFault}
 use Rattle.machine.specs.Machine.{settled, used}
 use Rattle.machine.specs.Lent.{Lent}
-use Rattle.machine.specs.Decoding.{Buffers, holding}
+use Rattle.machine.specs.Decoding.{Buffers, lending, holding}
 use Rattle.machine.specs.Moments.{Stage, Moment, moment, further, gone}
 use Rattle.machine.specs.inner.Accepted.{GoodCode}
 use Rattle.machine.specs.inner.InRange.{Passable}
-use Rattle.channels.specs.Channels.{frameOf, ownOf, channels}
+use Rattle.channels.specs.Channels.{frameOf, ownOf, results}
 
 -- a load of one channel in its own parts; the lengths are the call's, so that 13 alone can refuse it
 abbrev pub opened : Code → List ℕ → Buffers → Moment
@@ -44,6 +44,10 @@ patchAt C c b o =
       margins = patch (b .margins) (c * C .columns) (C .columns) (o .margins);
     }
 
+-- the buffers that a load is lent: it touches no store
+abbrev pub unstored : List ℕ → List ℕ → List ℕ → Buffers
+unstored y p v = lending y p [] v
+
 -- 20 while running, 0 found, 1 not found, else the refusal's number: at the end it is the channel's status
 unfoldable pub statusOf : Stage → ℕ
 statusOf s = pick (eqb (s .state) 1) 20 (pick (eqb (s .state) 2) 0 (pick (eqb (s .state) 3) 1 (s .number)))
@@ -57,6 +61,10 @@ pub record Standing : Type 0 where
 
 abbrev pub standing : List ℕ → List ℕ → ℕ → Buffers → Standing
 standing s t a b = record { status = s; counts = t; left = a; buffers = b }
+
+-- what the loads see of it: they are lent no store, no iterations and no allowance
+abbrev pub loading : List ℕ → List ℕ → List ℕ → List ℕ → Standing
+loading s y p v = standing s [] 0 (unstored y p v)
 
 abbrev pub statusAt : Standing → ℕ → ℕ
 statusAt l c = getD (l .status) c 0
@@ -117,11 +125,10 @@ pub record Serves (C : Code) (G : GoodCode C) (n : ℕ) (l : Standing) : Type 0 
   pub below : (c : ℕ) → c < n → statusAt l c ≡ 20 → countAt l c < C .limit
 
 -- what the code knows when no refusal of the whole call applies; the frames are bytes
-pub record Asked (n A : ℕ) (code fs : List ℕ) (b : Buffers) (C : Code) : Type 0 where
+pub record Asked (C : Code) (n : ℕ) (fs : List ℕ) (b : Buffers) : Type 0 where
+  pub good : GoodCode C
   pub count-low : 1 ≤ n
   pub count-high : n ≤ 8
-  pub some : 0 < A
-  pub line : parse code ≡ good C
   pub long : length fs ≡ n * (C .columns * size C)
   pub room : RoomFor C n b
   pub bytes : (i : ℕ) → getD fs i 0 ≤ 255
@@ -131,11 +138,10 @@ abbrev pub replyBy : ℕ → ℕ → Reply
 replyBy s t = record { refused = not (eqb s 0 || (eqb s 1 || eqb s 20)); number = s; value = t }
 
 -- where the channels stand at the end, l, is what the call gives, l₀ having been the start
-pub record Ends (n A : ℕ) (code fs : List ℕ) (b : Buffers) (C : Code) (l₀ l : Standing) : Type 0 where
-  pub number : channels n A code fs b .number ≡ 0
-  pub spent : channels n A code fs b .spent ≡ A - l .left
+pub record Ends (C : Code) (n A : ℕ) (fs : List ℕ) (b : Buffers) (l₀ l : Standing) : Type 0 where
+  pub spent : results C n A fs b .spent ≡ A - l .left
   pub spent-most : A - l .left ≤ n * C .limit
-  pub answers : channels n A code fs b .answers ≡ map (λ c. replyBy (statusAt l c) (countAt l c)) (upTo n)
-  pub status : l .status ≡ map (λ a. a .number) (channels n A code fs b .answers) ++ drop n (l₀ .status)
-  pub counts : l .counts ≡ map (λ a. a .value) (channels n A code fs b .answers) ++ drop n (l₀ .counts)
-  pub buffers : l .buffers ≡ channels n A code fs b .buffers
+  pub answers : results C n A fs b .answers ≡ map (λ c. replyBy (statusAt l c) (countAt l c)) (upTo n)
+  pub status : l .status ≡ map (λ a. a .number) (results C n A fs b .answers) ++ drop n (l₀ .status)
+  pub counts : l .counts ≡ map (λ a. a .value) (results C n A fs b .answers) ++ drop n (l₀ .counts)
+  pub buffers : l .buffers ≡ results C n A fs b .buffers

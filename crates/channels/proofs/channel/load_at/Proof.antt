@@ -1,34 +1,16 @@
 -- Refused by 13, or the copied frame is tested in the channel's parts, which are put back.
 use mathlib.Core.Path.{_≡_, sym, ap, _∙_}
-use Prim.Native.Nat.{_+_, _-_, _*_, _≤_}
+use Prim.Native.Nat.{_+_, _-_, _*_}
 use native.Mathlib.Omega.{arith}
 use borrow.Author.Needs.{needs}
 use lib.ListN.{length}
 use Rattle.trellis.specs.Lists.{part}
-use Rattle.machine.specs.CodeLine.{Code}
-use Rattle.machine.specs.Decoding.{lending}
 use Rattle.machine.proofs.Places.{length-part}
-use Rattle.channels.specs.inner.Layouts.{PartRoom}
-use Rattle.channels.proofs.Layouts.{symbols-inside, costs-inside, margins-inside, frame-inside, load-refused, load-asks, load-puts, load-room, frame-room, someStore, some-room}
+use Rattle.channels.specs.inner.Rounds.{unstored}
+use Rattle.channels.proofs.Layouts.{load-refused, load-asks, load-puts}
 use Rattle.frame.proofs.Frames.{copied-is}
 use Rattle.channels.proofs.channel.load_at.Statement.{statement}
 use Rattle.channels.proofs.channel.load_at.Tie as tie
-
--- the channel's parts, beside a store that is not touched
-own-room : (s : tie.Start) → let a = s .args in PartRoom (s .pre .code) (a .c) (lending (a .symbols .now) (a .costs .now) (someStore (s .pre .code) (a .c)) (a .margins .now))
-own-room s = let a = s .args in some-room (s .pre .code) (a .z) (a .degrees .now) (a .columns .now) (a .weights .now) (s .pre .shaped) (a .c) (a .symbols .now) (a .costs .now) (a .margins .now) (s .pre .symbols) (s .pre .costs) (s .pre .margins)
-
--- they are inside
-inside : (s : tie.Start) → let a = s .args in
-    (a .c * a .z .columns + a .z .columns ≤ length (a .symbols .now)) × (a .c * a .z .costs + a .z .costs ≤ length (a .costs .now)) × (a .c * a .z .costs + a .z .costs ≤ length (a .frames .now)) × (a .c * a .z .columns + a .z .columns ≤ length (a .margins .now))
-inside s =
-    let a = s .args in
-    let b = lending (a .symbols .now) (a .costs .now) (someStore (s .pre .code) (a .c)) (a .margins .now) in (
-      symbols-inside (s .pre .code) (a .z) (a .degrees .now) (a .columns .now) (a .weights .now) (s .pre .shaped) (a .c) b (own-room s),
-      costs-inside (s .pre .code) (a .z) (a .degrees .now) (a .columns .now) (a .weights .now) (s .pre .shaped) (a .c) b (own-room s),
-      frame-inside (s .pre .code) (a .z) (a .degrees .now) (a .columns .now) (a .weights .now) (s .pre .shaped) (a .c) b (own-room s) (a .frames .now) (s .pre .frames),
-      margins-inside (s .pre .code) (a .z) (a .degrees .now) (a .columns .now) (a .weights .now) (s .pre .shaped) (a .c) b (own-room s),
-    )
 
 -- the frame's part is as long as that of the costs
 same : (s : tie.Start) → let a = s .args in
@@ -36,28 +18,28 @@ same : (s : tie.Start) → let a = s .args in
 same s =
     let a = s .args in
     let d : a .c * a .z .costs + a .z .costs - a .c * a .z .costs ≡ a .z .costs = omega arith in
-    ap length (ap (part (a .frames .now) (a .c * a .z .costs)) d) ∙ length-part (a .frames .now) (a .c * a .z .costs) (a .z .costs) (inside s .2) ∙ sym (ap length (ap (part (a .costs .now) (a .c * a .z .costs)) d) ∙ length-part (a .costs .now) (a .c * a .z .costs) (a .z .costs) (inside s .1))
+    ap length (ap (part (a .frames .now) (a .c * a .z .costs)) d) ∙ length-part (a .frames .now) (a .c * a .z .costs) (a .z .costs) (s .pre .frames) ∙ sym (ap length (ap (part (a .costs .now) (a .c * a .z .costs)) d) ∙ length-part (a .costs .now) (a .c * a .z .costs) (a .z .costs) (s .pre .costs))
 
 mul-a : tie.Need-mul-a
-mul-a c = omega (arith, inside (c .before .before .before .before .before .before .before .before), c .before .before .before .before .before .before .before .before .good)
+mul-a c = omega (arith, c .before .before .before .before .before .before .before .before .pre, c .before .before .before .before .before .before .before .before .good)
 
 add-b : tie.Need-add-b
-add-b c = omega (arith, inside (c .before .before .before .before .before .before .before .before .before), c .before .before .before .before .before .before .before .before .before .good)
+add-b c = omega (arith, c .before .before .before .before .before .before .before .before .before .pre, c .before .before .before .before .before .before .before .before .before .good)
 
 mul-d : tie.Need-mul-d
-mul-d c = omega (arith, inside (c .before .before .before .before .before .before .before .before .before .before), c .before .before .before .before .before .before .before .before .before .before .good)
+mul-d c = omega (arith, c .before .before .before .before .before .before .before .before .before .before .pre, c .before .before .before .before .before .before .before .before .before .before .good)
 
 add-e : tie.Need-add-e
-add-e c = omega (arith, inside (c .before .before .before .before .before .before .before .before .before .before .before), c .before .before .before .before .before .before .before .before .before .before .before .good)
+add-e c = omega (arith, c .before .before .before .before .before .before .before .before .before .before .before .pre, c .before .before .before .before .before .before .before .before .before .before .before .good)
 
 sub-frame-fault : tie.Need-sub-frame-fault
-sub-frame-fault c = omega (arith, inside (c .before .before .before .before .before .before .before .before .before .before .before), c .before .before .before .before .before .before .before .before .before .before .before .good)
+sub-frame-fault c = omega (arith, c .before .before .before .before .before .before .before .before .before .before .before .pre, c .before .before .before .before .before .before .before .before .before .before .before .good)
 
 part-frame-fault-start : tie.Need-part-frame-fault-start
 part-frame-fault-start c = search needs
 
 part-frame-fault-end : tie.Need-part-frame-fault-end
-part-frame-fault-end c = omega (arith, inside (c .before .before .before .before .before .before .before .before .before .before .before), c .before .before .before .before .before .before .before .before .before .before .before .good)
+part-frame-fault-end c = omega (arith, c .before .before .before .before .before .before .before .before .before .before .before .pre, c .before .before .before .before .before .before .before .before .before .before .before .good)
 
 frame-fault-requires : tie.Need-frame-fault-requires
 frame-fault-requires c κs = search needs
@@ -67,73 +49,72 @@ returns c =
     let s = c .before .before .before .before .before .before .before .before .before .before .before .before .before .before in
     let a = s .args in
     let k = c .before .frame-fault in
-    λ (C : Code) H store o. load-refused C (a .z) (a .degrees .now) (a .columns .now) (a .weights .now) H (a .c) (lending (a .symbols .now) (a .costs .now) store (a .margins .now)) (load-room C (s .pre .code) (a .z) (a .degrees .now) (a .columns .now) (a .weights .now) H (s .pre .shaped) (a .c) (a .symbols .now) (a .costs .now) store (a .margins .now) (s .pre .symbols) (s .pre .costs) (s .pre .margins) o) (a .frames .now) (frame-room C (s .pre .code) (a .z) (a .degrees .now) (a .columns .now) (a .weights .now) H (s .pre .shaped) (a .c) (a .frames .now) (s .pre .frames)) (k .result) (k .ensures) (c .if1 .taken)
+    load-refused (a .z) (a .degrees .now) (a .columns .now) (a .weights .now) (s .pre .fitted) (a .c) (unstored (a .symbols .now) (a .costs .now) (a .margins .now)) (s .pre .symbols) (s .pre .costs) (s .pre .margins) (a .frames .now) (s .pre .frames) (k .result) (k .ensures) (c .if1 .taken)
 
 sub-copy : tie.Need-sub-copy
-sub-copy c = omega (arith, inside (c .before .before .before .before .before .before .before .before .before .before .before .before .before .before), c .before .before .before .before .before .before .before .before .before .before .before .before .before .before .good)
+sub-copy c = omega (arith, c .before .before .before .before .before .before .before .before .before .before .before .before .before .before .pre, c .before .before .before .before .before .before .before .before .before .before .before .before .before .before .good)
 
 part-copy-start : tie.Need-part-copy-start
 part-copy-start c = search needs
 
 part-copy-end : tie.Need-part-copy-end
-part-copy-end c = omega (arith, inside (c .before .before .before .before .before .before .before .before .before .before .before .before .before .before), c .before .before .before .before .before .before .before .before .before .before .before .before .before .before .good)
+part-copy-end c = omega (arith, c .before .before .before .before .before .before .before .before .before .before .before .before .before .before .pre, c .before .before .before .before .before .before .before .before .before .before .before .before .before .before .good)
 
 mul-copy : tie.Need-mul-copy
-mul-copy c = omega (arith, inside (c .before .before .before .before .before .before .before .before .before .before .before .before .before .before .before), c .before .before .before .before .before .before .before .before .before .before .before .before .before .before .before .good)
+mul-copy c = omega (arith, c .before .before .before .before .before .before .before .before .before .before .before .before .before .before .before .pre, c .before .before .before .before .before .before .before .before .before .before .before .before .before .before .before .good)
 
 sub-copy-2 : tie.Need-sub-copy-2
-sub-copy-2 c = omega (arith, inside (c .before .before .before .before .before .before .before .before .before .before .before .before .before .before .before), c .before .before .before .before .before .before .before .before .before .before .before .before .before .before .before .good)
+sub-copy-2 c = omega (arith, c .before .before .before .before .before .before .before .before .before .before .before .before .before .before .before .pre, c .before .before .before .before .before .before .before .before .before .before .before .before .before .before .before .good)
 
 part-copy-start-2 : tie.Need-part-copy-start-2
 part-copy-start-2 c = search needs
 
 part-copy-end-2 : tie.Need-part-copy-end-2
-part-copy-end-2 c = omega (arith, inside (c .before .before .before .before .before .before .before .before .before .before .before .before .before .before .before), c .before .before .before .before .before .before .before .before .before .before .before .before .before .before .before .good)
+part-copy-end-2 c = omega (arith, c .before .before .before .before .before .before .before .before .before .before .before .before .before .before .before .pre, c .before .before .before .before .before .before .before .before .before .before .before .before .before .before .before .good)
 
 copy-requires : tie.Need-copy-requires
 copy-requires c κs = search needs
 
 mul-tested : tie.Need-mul-tested
-mul-tested c = omega (arith, inside (c .before .before .before .before .before .before .before .before .before .before .before .before .before .before .before .before .before .before .before), c .before .before .before .before .before .before .before .before .before .before .before .before .before .before .before .before .before .before .before .good)
+mul-tested c = omega (arith, c .before .before .before .before .before .before .before .before .before .before .before .before .before .before .before .before .before .before .before .pre, c .before .before .before .before .before .before .before .before .before .before .before .before .before .before .before .before .before .before .before .good)
 
 sub-tested : tie.Need-sub-tested
-sub-tested c = omega (arith, inside (c .before .before .before .before .before .before .before .before .before .before .before .before .before .before .before .before .before .before .before), c .before .before .before .before .before .before .before .before .before .before .before .before .before .before .before .before .before .before .before .good)
+sub-tested c = omega (arith, c .before .before .before .before .before .before .before .before .before .before .before .before .before .before .before .before .before .before .before .pre, c .before .before .before .before .before .before .before .before .before .before .before .before .before .before .before .before .before .before .before .good)
 
 part-tested-start : tie.Need-part-tested-start
 part-tested-start c = search needs
 
 part-tested-end : tie.Need-part-tested-end
-part-tested-end c = omega (arith, inside (c .before .before .before .before .before .before .before .before .before .before .before .before .before .before .before .before .before .before .before .before), c .before .before .before .before .before .before .before .before .before .before .before .before .before .before .before .before .before .before .before .before .good)
+part-tested-end c = omega (arith, c .before .before .before .before .before .before .before .before .before .before .before .before .before .before .before .before .before .before .before .before .pre, c .before .before .before .before .before .before .before .before .before .before .before .before .before .before .before .before .before .before .before .before .good)
 
 sub-tested-2 : tie.Need-sub-tested-2
-sub-tested-2 c = omega (arith, inside (c .before .before .before .before .before .before .before .before .before .before .before .before .before .before .before .before .before .before .before .before .before), c .before .before .before .before .before .before .before .before .before .before .before .before .before .before .before .before .before .before .before .before .before .good)
+sub-tested-2 c = omega (arith, c .before .before .before .before .before .before .before .before .before .before .before .before .before .before .before .before .before .before .before .before .before .pre, c .before .before .before .before .before .before .before .before .before .before .before .before .before .before .before .before .before .before .before .before .before .good)
 
 part-tested-start-2 : tie.Need-part-tested-start-2
 part-tested-start-2 c = search needs
 
 part-tested-end-2 : tie.Need-part-tested-end-2
-part-tested-end-2 c = omega (arith, inside (c .before .before .before .before .before .before .before .before .before .before .before .before .before .before .before .before .before .before .before .before .before), c .before .before .before .before .before .before .before .before .before .before .before .before .before .before .before .before .before .before .before .before .before .good)
+part-tested-end-2 c = omega (arith, c .before .before .before .before .before .before .before .before .before .before .before .before .before .before .before .before .before .before .before .before .before .pre, c .before .before .before .before .before .before .before .before .before .before .before .before .before .before .before .before .before .before .before .before .before .good)
 
 mul-tested-2 : tie.Need-mul-tested-2
-mul-tested-2 c = omega (arith, inside (c .before .before .before .before .before .before .before .before .before .before .before .before .before .before .before .before .before .before .before .before .before .before), c .before .before .before .before .before .before .before .before .before .before .before .before .before .before .before .before .before .before .before .before .before .before .good)
+mul-tested-2 c = omega (arith, c .before .before .before .before .before .before .before .before .before .before .before .before .before .before .before .before .before .before .before .before .before .before .pre, c .before .before .before .before .before .before .before .before .before .before .before .before .before .before .before .before .before .before .before .before .before .before .good)
 
 sub-tested-3 : tie.Need-sub-tested-3
-sub-tested-3 c = omega (arith, inside (c .before .before .before .before .before .before .before .before .before .before .before .before .before .before .before .before .before .before .before .before .before .before), c .before .before .before .before .before .before .before .before .before .before .before .before .before .before .before .before .before .before .before .before .before .before .good)
+sub-tested-3 c = omega (arith, c .before .before .before .before .before .before .before .before .before .before .before .before .before .before .before .before .before .before .before .before .before .before .pre, c .before .before .before .before .before .before .before .before .before .before .before .before .before .before .before .before .before .before .before .before .before .before .good)
 
 part-tested-start-3 : tie.Need-part-tested-start-3
 part-tested-start-3 c = search needs
 
 part-tested-end-3 : tie.Need-part-tested-end-3
-part-tested-end-3 c = omega (arith, inside (c .before .before .before .before .before .before .before .before .before .before .before .before .before .before .before .before .before .before .before .before .before .before), c .before .before .before .before .before .before .before .before .before .before .before .before .before .before .before .before .before .before .before .before .before .before .good)
+part-tested-end-3 c = omega (arith, c .before .before .before .before .before .before .before .before .before .before .before .before .before .before .before .before .before .before .before .before .before .before .pre, c .before .before .before .before .before .before .before .before .before .before .before .before .before .before .before .before .before .before .before .before .before .before .good)
 
 tested-requires : tie.Need-tested-requires
 tested-requires c κs =
     let s = c .before .before .before .before .before .before .before .before .before .before .before .before .before .before .before .before .before .before .before .before .before .before .before in
     let a = s .args in
-    let b = lending (a .symbols .now) (a .costs .now) (someStore (s .pre .code) (a .c)) (a .margins .now) in
     let k = c .before .before .before .before .before .before .before .before .before .before .frame-fault in
     let o = c .before .before .before .before .before .before .copy in
-    load-asks (s .pre .code) (a .z) (a .degrees .now) (a .columns .now) (a .weights .now) (s .pre .shaped) (a .c) b (own-room s) (a .frames .now) (s .pre .frames) (k .result) (k .ensures) (c .before .before .before .before .before .before .before .before .before .if1 .left) (o .last .1 .0) (copied-is (part (a .frames .now) (a .c * a .z .costs) (a .c * a .z .costs + a .z .costs - a .c * a .z .costs)) (part (a .costs .now) (a .c * a .z .costs) (a .c * a .z .costs + a .z .costs - a .c * a .z .costs)) (o .last .1 .0) (same s) (o .ensures)) (λ x. omega (arith, c .before .before .before .before .before .before .before .before .before .before .before .before .before .before .before .before .before .before .before .shared-slice-known4 .given x))
+    load-asks (a .z) (a .degrees .now) (a .columns .now) (a .weights .now) (s .pre .fitted) (a .c) (unstored (a .symbols .now) (a .costs .now) (a .margins .now)) (s .pre .symbols) (s .pre .costs) (s .pre .margins) (a .frames .now) (s .pre .frames) (k .result) (k .ensures) (c .before .before .before .before .before .before .before .before .before .if1 .left) (o .last .1 .0) (copied-is (part (a .frames .now) (a .c * a .z .costs) (a .c * a .z .costs + a .z .costs - a .c * a .z .costs)) (part (a .costs .now) (a .c * a .z .costs) (a .c * a .z .costs + a .z .costs - a .c * a .z .costs)) (o .last .1 .0) (same s) (o .ensures)) (λ x. omega (arith, c .before .before .before .before .before .before .before .before .before .before .before .before .before .before .before .before .before .before .before .shared-slice-known4 .given x))
 
 stage-after-requires : tie.Need-stage-after-requires
 stage-after-requires c κs = search needs
@@ -157,7 +138,7 @@ returns-2 c =
     let k = c .before .before .before .before .before .before .before .before .before .before .before .before .before .before .before .before .before .frame-fault in
     let f = c .before .before .before .before .before .before .before .before .before .before .before .before .before .copy in
     let u = c .before .before .before .before .before .before .tested in
-    λ (C : Code) H store o. load-puts C (a .z) (a .degrees .now) (a .columns .now) (a .weights .now) H (a .c) (lending (a .symbols .now) (a .costs .now) store (a .margins .now)) (load-room C (s .pre .code) (a .z) (a .degrees .now) (a .columns .now) (a .weights .now) H (s .pre .shaped) (a .c) (a .symbols .now) (a .costs .now) store (a .margins .now) (s .pre .symbols) (s .pre .costs) (s .pre .margins) o) (a .frames .now) (frame-room C (s .pre .code) (a .z) (a .degrees .now) (a .columns .now) (a .weights .now) H (s .pre .shaped) (a .c) (a .frames .now) (s .pre .frames)) (k .result) (k .ensures) (c .before .before .before .before .before .before .before .before .before .before .before .before .before .before .before .before .if1 .left) (f .last .1 .0) (copied-is (part (a .frames .now) (a .c * a .z .costs) (a .c * a .z .costs + a .z .costs - a .c * a .z .costs)) (part (a .costs .now) (a .c * a .z .costs) (a .c * a .z .costs + a .z .costs - a .c * a .z .costs)) (f .last .1 .0) (same s) (f .ensures)) (u .result) _ _ (u .ensures .0) (u .ensures .1 .0) (u .ensures .1 .1) _ (c .before .stage-after .ensures) _ (c .status-of .ensures)
+    load-puts (a .z) (a .degrees .now) (a .columns .now) (a .weights .now) (s .pre .fitted) (a .c) (unstored (a .symbols .now) (a .costs .now) (a .margins .now)) (s .pre .symbols) (s .pre .costs) (s .pre .margins) (a .frames .now) (s .pre .frames) (k .result) (k .ensures) (c .before .before .before .before .before .before .before .before .before .before .before .before .before .before .before .before .if1 .left) (f .last .1 .0) (copied-is (part (a .frames .now) (a .c * a .z .costs) (a .c * a .z .costs + a .z .costs - a .c * a .z .costs)) (part (a .costs .now) (a .c * a .z .costs) (a .c * a .z .costs + a .z .costs - a .c * a .z .costs)) (f .last .1 .0) (same s) (f .ensures)) (u .result) _ _ (u .ensures .0) (u .ensures .1 .0) (u .ensures .1 .1) _ (c .before .stage-after .ensures) _ (c .status-of .ensures)
 
 pub load-at-spec : {M : Type 1} → statement M
 load-at-spec =

@@ -1,92 +1,77 @@
 -- The iteration in the channel's parts gives its stage, and the parts are put back.
-use Prim.Native.Nat.{_+_, _*_, _≤_}
 use native.Mathlib.Omega.{arith}
 use borrow.Author.Needs.{needs}
-use lib.ListN.{length}
-use Rattle.machine.specs.CodeLine.{Code}
 use Rattle.machine.specs.Decoding.{lending}
-use Rattle.channels.proofs.Layouts.{symbols-inside, costs-inside, store-inside, margins-inside, part-room, step-asks, step-puts}
+use Rattle.channels.proofs.Layouts.{step-asks, step-puts}
 use Rattle.channels.proofs.channel.step_at.Statement.{statement}
 use Rattle.channels.proofs.channel.step_at.Tie as tie
 
--- the channel's parts are inside
-inside : (s : tie.Start) → let a = s .args in
-    (a .c * a .z .columns + a .z .columns ≤ length (a .symbols .now)) × (a .c * a .z .costs + a .z .costs ≤ length (a .costs .now)) × (a .c * a .z .store + a .z .store ≤ length (a .store .now)) × (a .c * a .z .columns + a .z .columns ≤ length (a .margins .now))
-inside s =
-    let a = s .args in
-    let b = lending (a .symbols .now) (a .costs .now) (a .store .now) (a .margins .now) in (
-      symbols-inside (s .pre .code) (a .z) (a .degrees .now) (a .columns .now) (a .weights .now) (s .pre .shaped) (a .c) b (s .pre .room),
-      costs-inside (s .pre .code) (a .z) (a .degrees .now) (a .columns .now) (a .weights .now) (s .pre .shaped) (a .c) b (s .pre .room),
-      store-inside (s .pre .code) (a .z) (a .degrees .now) (a .columns .now) (a .weights .now) (s .pre .shaped) (a .c) b (s .pre .room),
-      margins-inside (s .pre .code) (a .z) (a .degrees .now) (a .columns .now) (a .weights .now) (s .pre .shaped) (a .c) b (s .pre .room),
-    )
-
 mul-a : tie.Need-mul-a
-mul-a c = omega (arith, inside (c .before .before .before .before .before .before .before .before .before .before), c .before .before .before .before .before .before .before .before .before .before .good)
+mul-a c = omega (arith, c .before .before .before .before .before .before .before .before .before .before .pre .room, c .before .before .before .before .before .before .before .before .before .before .good)
 
 add-b : tie.Need-add-b
-add-b c = omega (arith, inside (c .before .before .before .before .before .before .before .before .before .before .before), c .before .before .before .before .before .before .before .before .before .before .before .good)
+add-b c = omega (arith, c .before .before .before .before .before .before .before .before .before .before .before .pre .room, c .before .before .before .before .before .before .before .before .before .before .before .good)
 
 mul-d : tie.Need-mul-d
-mul-d c = omega (arith, inside (c .before .before .before .before .before .before .before .before .before .before .before .before), c .before .before .before .before .before .before .before .before .before .before .before .before .good)
+mul-d c = omega (arith, c .before .before .before .before .before .before .before .before .before .before .before .before .pre .room, c .before .before .before .before .before .before .before .before .before .before .before .before .good)
 
 add-e : tie.Need-add-e
-add-e c = omega (arith, inside (c .before .before .before .before .before .before .before .before .before .before .before .before .before), c .before .before .before .before .before .before .before .before .before .before .before .before .before .good)
+add-e c = omega (arith, c .before .before .before .before .before .before .before .before .before .before .before .before .before .pre .room, c .before .before .before .before .before .before .before .before .before .before .before .before .before .good)
 
 mul-f : tie.Need-mul-f
-mul-f c = omega (arith, inside (c .before .before .before .before .before .before .before .before .before .before .before .before .before .before), c .before .before .before .before .before .before .before .before .before .before .before .before .before .before .good)
+mul-f c = omega (arith, c .before .before .before .before .before .before .before .before .before .before .before .before .before .before .pre .room, c .before .before .before .before .before .before .before .before .before .before .before .before .before .before .good)
 
 add-g : tie.Need-add-g
-add-g c = omega (arith, inside (c .before .before .before .before .before .before .before .before .before .before .before .before .before .before .before), c .before .before .before .before .before .before .before .before .before .before .before .before .before .before .before .good)
+add-g c = omega (arith, c .before .before .before .before .before .before .before .before .before .before .before .before .before .before .before .pre .room, c .before .before .before .before .before .before .before .before .before .before .before .before .before .before .before .good)
 
 sub-iterated : tie.Need-sub-iterated
-sub-iterated c = omega (arith, inside (c .before .before .before .before .before .before .before .before .before .before .before .before .before .before .before), c .before .before .before .before .before .before .before .before .before .before .before .before .before .before .before .good)
+sub-iterated c = omega (arith, c .before .before .before .before .before .before .before .before .before .before .before .before .before .before .before .pre .room, c .before .before .before .before .before .before .before .before .before .before .before .before .before .before .before .good)
 
 part-iterated-start : tie.Need-part-iterated-start
 part-iterated-start c = search needs
 
 part-iterated-end : tie.Need-part-iterated-end
-part-iterated-end c = omega (arith, inside (c .before .before .before .before .before .before .before .before .before .before .before .before .before .before .before), c .before .before .before .before .before .before .before .before .before .before .before .before .before .before .before .good)
+part-iterated-end c = omega (arith, c .before .before .before .before .before .before .before .before .before .before .before .before .before .before .before .pre .room, c .before .before .before .before .before .before .before .before .before .before .before .before .before .before .before .good)
 
 mul-iterated : tie.Need-mul-iterated
-mul-iterated c = omega (arith, inside (c .before .before .before .before .before .before .before .before .before .before .before .before .before .before .before .before), c .before .before .before .before .before .before .before .before .before .before .before .before .before .before .before .before .good)
+mul-iterated c = omega (arith, c .before .before .before .before .before .before .before .before .before .before .before .before .before .before .before .before .pre .room, c .before .before .before .before .before .before .before .before .before .before .before .before .before .before .before .before .good)
 
 sub-iterated-2 : tie.Need-sub-iterated-2
-sub-iterated-2 c = omega (arith, inside (c .before .before .before .before .before .before .before .before .before .before .before .before .before .before .before .before), c .before .before .before .before .before .before .before .before .before .before .before .before .before .before .before .before .good)
+sub-iterated-2 c = omega (arith, c .before .before .before .before .before .before .before .before .before .before .before .before .before .before .before .before .pre .room, c .before .before .before .before .before .before .before .before .before .before .before .before .before .before .before .before .good)
 
 part-iterated-start-2 : tie.Need-part-iterated-start-2
 part-iterated-start-2 c = search needs
 
 part-iterated-end-2 : tie.Need-part-iterated-end-2
-part-iterated-end-2 c = omega (arith, inside (c .before .before .before .before .before .before .before .before .before .before .before .before .before .before .before .before), c .before .before .before .before .before .before .before .before .before .before .before .before .before .before .before .before .good)
+part-iterated-end-2 c = omega (arith, c .before .before .before .before .before .before .before .before .before .before .before .before .before .before .before .before .pre .room, c .before .before .before .before .before .before .before .before .before .before .before .before .before .before .before .before .good)
 
 sub-iterated-3 : tie.Need-sub-iterated-3
-sub-iterated-3 c = omega (arith, inside (c .before .before .before .before .before .before .before .before .before .before .before .before .before .before .before .before .before), c .before .before .before .before .before .before .before .before .before .before .before .before .before .before .before .before .before .good)
+sub-iterated-3 c = omega (arith, c .before .before .before .before .before .before .before .before .before .before .before .before .before .before .before .before .before .pre .room, c .before .before .before .before .before .before .before .before .before .before .before .before .before .before .before .before .before .good)
 
 part-iterated-start-3 : tie.Need-part-iterated-start-3
 part-iterated-start-3 c = search needs
 
 part-iterated-end-3 : tie.Need-part-iterated-end-3
-part-iterated-end-3 c = omega (arith, inside (c .before .before .before .before .before .before .before .before .before .before .before .before .before .before .before .before .before), c .before .before .before .before .before .before .before .before .before .before .before .before .before .before .before .before .before .good)
+part-iterated-end-3 c = omega (arith, c .before .before .before .before .before .before .before .before .before .before .before .before .before .before .before .before .before .pre .room, c .before .before .before .before .before .before .before .before .before .before .before .before .before .before .before .before .before .good)
 
 mul-iterated-2 : tie.Need-mul-iterated-2
-mul-iterated-2 c = omega (arith, inside (c .before .before .before .before .before .before .before .before .before .before .before .before .before .before .before .before .before .before), c .before .before .before .before .before .before .before .before .before .before .before .before .before .before .before .before .before .before .good)
+mul-iterated-2 c = omega (arith, c .before .before .before .before .before .before .before .before .before .before .before .before .before .before .before .before .before .before .pre .room, c .before .before .before .before .before .before .before .before .before .before .before .before .before .before .before .before .before .before .good)
 
 sub-iterated-4 : tie.Need-sub-iterated-4
-sub-iterated-4 c = omega (arith, inside (c .before .before .before .before .before .before .before .before .before .before .before .before .before .before .before .before .before .before), c .before .before .before .before .before .before .before .before .before .before .before .before .before .before .before .before .before .before .good)
+sub-iterated-4 c = omega (arith, c .before .before .before .before .before .before .before .before .before .before .before .before .before .before .before .before .before .before .pre .room, c .before .before .before .before .before .before .before .before .before .before .before .before .before .before .before .before .before .before .good)
 
 part-iterated-start-4 : tie.Need-part-iterated-start-4
 part-iterated-start-4 c = search needs
 
 part-iterated-end-4 : tie.Need-part-iterated-end-4
-part-iterated-end-4 c = omega (arith, inside (c .before .before .before .before .before .before .before .before .before .before .before .before .before .before .before .before .before .before), c .before .before .before .before .before .before .before .before .before .before .before .before .before .before .before .before .before .before .good)
+part-iterated-end-4 c = omega (arith, c .before .before .before .before .before .before .before .before .before .before .before .before .before .before .before .before .before .before .pre .room, c .before .before .before .before .before .before .before .before .before .before .before .before .before .before .before .before .before .before .good)
 
 iterated-requires : tie.Need-iterated-requires
 iterated-requires c κs =
     let s = c .before .before .before .before .before .before .before .before .before .before .before .before .before .before .before .before .before .before .before .before .before in
     let a = s .args in
     let b = lending (a .symbols .now) (a .costs .now) (a .store .now) (a .margins .now) in
-    step-asks (s .pre .code) (a .z) (a .degrees .now) (a .columns .now) (a .weights .now) (s .pre .shaped) (a .c) b (s .pre .room) (a .t) (s .pre .passable) (a .arrived .now) (a .sent .now) (s .pre .arrived) (s .pre .sent)
+    step-asks (a .z) (a .degrees .now) (a .columns .now) (a .weights .now) (s .pre .fitted) (a .c) b (s .pre .room .for-symbols) (s .pre .room .for-costs) (s .pre .room .for-margins) (s .pre .room .for-store) (a .t) (s .pre .passable) (a .arrived .now) (a .sent .now) (s .pre .arrived) (s .pre .sent)
 
 u8-to-u16-requires : tie.Need-u8-to-u16-requires
 u8-to-u16-requires c κs = search needs
@@ -125,7 +110,7 @@ returns c =
     let b = lending (a .symbols .now) (a .costs .now) (a .store .now) (a .margins .now) in
     let u = c .before .before .before .before .before .before .before .before .before .before .before .before .before .before .before .iterated in
     let e = rw (c .before .before .u8-to-u16 .ensures .0) at (c .before .stage-after .ensures) in
-    λ (C : Code) H. step-puts C (a .z) (a .degrees .now) (a .columns .now) (a .weights .now) H (a .c) b (part-room C (s .pre .code) (a .z) (a .degrees .now) (a .columns .now) (a .weights .now) H (s .pre .shaped) (a .c) b (s .pre .room)) (a .t) (u .result) _ _ _ _ (u .ensures .0) (u .ensures .1 .0) (u .ensures .1 .1 .0) (u .ensures .1 .1 .1) _ e _ (c .status-of .ensures)
+    step-puts (a .z) (a .degrees .now) (a .columns .now) (a .weights .now) (s .pre .fitted) (a .c) b (s .pre .room .for-symbols) (s .pre .room .for-costs) (s .pre .room .for-margins) (s .pre .room .for-store) (a .t) (u .result) _ _ _ _ (u .ensures .0) (u .ensures .1 .0) (u .ensures .1 .1 .0) (u .ensures .1 .1 .1) _ e _ (c .status-of .ensures)
 
 pub step-at-spec : {M : Type 1} → statement M
 step-at-spec =

@@ -5,10 +5,9 @@ use native.Mathlib.Omega.{arith}
 use borrow.Author.Needs.{needs}
 use lib.ListN.{length}
 use Rattle.trellis.specs.Lists.{upto}
-use Rattle.machine.specs.CodeLine.{Code}
 use Rattle.machine.specs.Decoding.{lending}
 use Rattle.channels.specs.inner.Rounds.{standing, servingAt}
-use Rattle.channels.specs.inner.Layouts.{Fitted, ServeRoom}
+use Rattle.channels.specs.inner.Layouts.{codeFor, RoundRoom}
 use Rattle.channels.proofs.Moves.{serve-next, round-more, round-done}
 use Rattle.channels.proofs.service.round.Statement.{statement}
 use Rattle.channels.proofs.service.round.Tie as tie
@@ -16,10 +15,9 @@ use Rattle.channels.proofs.service.round.Tie as tie
 abbrev Inv-loop : tie.InvT-loop
 Inv-loop count left z degrees columns weights symbols₀ costs₀ store₀ margins₀ status₀ counts₀ arrived₀ sent₀ a₀ c₀ symbols costs store margins status counts arrived sent a c =
     (c ≤ count)
-    × ServeRoom count z degrees columns weights (standing status counts a (lending symbols costs store margins)) arrived sent
-    × ((C : Code) → Fitted C z degrees columns weights
-    → standing status counts a (lending symbols costs store margins)
-    ≡ upto (servingAt C) c (standing status₀ counts₀ left (lending symbols₀ costs₀ store₀ margins₀)))
+    × RoundRoom count z degrees columns weights (standing status counts a (lending symbols costs store margins)) arrived sent
+    × (standing status counts a (lending symbols costs store margins)
+    ≡ upto (servingAt (codeFor z degrees columns weights)) c (standing status₀ counts₀ left (lending symbols₀ costs₀ store₀ margins₀)))
     × ((length symbols ≡ length symbols₀) × (length costs ≡ length costs₀) × (length store ≡ length store₀) × (length margins ≡ length margins₀) × (length status ≡ length status₀) × (length counts ≡ length counts₀) × (length arrived ≡ length arrived₀) × (length sent ≡ length sent₀))
 
 abbrev μ-loop : tie.MeasureT-loop
@@ -27,7 +25,7 @@ abbrev μ-loop : tie.MeasureT-loop
     count - c
 
 loop-holds : tie.Need-loop-holds Inv-loop μ-loop
-loop-holds c = (omega arith, c .before .before .before .before .before .before .before .before .before .before .before .pre, (λ C H. refl), (refl, refl, refl, refl, refl, refl, refl, refl))
+loop-holds c = (omega arith, c .before .before .before .before .before .before .before .before .before .before .before .pre, refl, (refl, refl, refl, refl, refl, refl, refl, refl))
 
 serve-at-requires : tie.Need-serve-at-requires Inv-loop μ-loop
 serve-at-requires c κs = record { count = c .before .before .before .before .before .before .before .before .before .before .before .before .before .before .before .before .before .before .before .before .before .args .count; inside = omega arith; room = c .before .before .before .before .before .before .before .before .before .loop .inv .1 }
@@ -47,7 +45,7 @@ loop-again c =
     let u = c .before .before .before .before .before .before .before .before .before .before .before .before .before .before .before .before .serve-at in (
       omega (arith, t),
       serve-next (a .count) (a .z) (a .degrees .now) (a .columns .now) (a .weights .now) _ _ _ (l .inv .1) (l .c) (omega (arith, t)) _ _ _ (u .ensures) (omega (arith, u .kept)) (omega (arith, u .kept)),
-      (λ C H. round-more C (l .c) _ _ _ (u .ensures C H) (l .inv .2 C H)),
+      round-more (codeFor (a .z) (a .degrees .now) (a .columns .now) (a .weights .now)) (l .c) _ _ _ (u .ensures) (l .inv .2),
       (omega (arith, u .kept, l .inv .3), omega (arith, u .kept, l .inv .3), omega (arith, u .kept, l .inv .3), omega (arith, u .kept, l .inv .3), omega (arith, u .kept, l .inv .3), omega (arith, u .kept, l .inv .3), omega (arith, u .kept, l .inv .3), omega (arith, u .kept, l .inv .3)),
     )
 
@@ -79,7 +77,7 @@ returns : tie.Need-returns Inv-loop μ-loop
 returns c =
     let a = c .before .before .before .before .before .before .before .before .before .before .before .before .before .args in
     let l = c .before .loop in
-    λ (C : Code) H. round-done C (a .count) (l .c) _ _ (omega arith) (l .inv .2 C H)
+    round-done (codeFor (a .z) (a .degrees .now) (a .columns .now) (a .weights .now)) (a .count) (l .c) _ _ (omega arith) (l .inv .2)
 
 pub round-spec : {M : Type 1} → statement M
 round-spec =

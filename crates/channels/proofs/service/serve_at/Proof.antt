@@ -1,30 +1,30 @@
 -- Skipped, or one iteration in the channel's parts.
 use native.Mathlib.Omega.{arith}
 use borrow.Author.Needs.{needs}
-use Rattle.machine.specs.CodeLine.{Code}
 use Rattle.machine.specs.Decoding.{lending}
 use Rattle.channels.specs.inner.Rounds.{standing}
+use Rattle.channels.specs.inner.Layouts.{codeFor}
 use Rattle.channels.proofs.Moves.{serve-skips, serve-spent, serve-moves, step-room, count-low}
 use Rattle.channels.proofs.service.serve_at.Statement.{statement}
 use Rattle.channels.proofs.service.serve_at.Tie as tie
 
 slice-read-if1 : tie.Need-slice-read-if1
-slice-read-if1 c = omega (arith, c .before .before .before .before .before .before .before .before .before .before .before .before .pre .inside, c .before .before .before .before .before .before .before .before .before .before .before .before .pre .room .serves .rooms .for-status)
+slice-read-if1 c = omega (arith, c .before .before .before .before .before .before .before .before .before .before .before .before .pre .inside, c .before .before .before .before .before .before .before .before .before .before .before .before .pre .room .serve .serves .rooms .for-status)
 
 returns : tie.Need-returns
 returns c =
     let s = c .before .before .before .before .before .before .before .before .before .before .before .before .before in
     let a = s .args in
-    λ (C : Code) H. serve-skips C (a .c) (standing (a .status .now) (a .counts .now) (a .left) (lending (a .symbols .now) (a .costs .now) (a .store .now) (a .margins .now))) (c .if1 .taken)
+    serve-skips (codeFor (a .z) (a .degrees .now) (a .columns .now) (a .weights .now)) (a .c) (standing (a .status .now) (a .counts .now) (a .left) (lending (a .symbols .now) (a .costs .now) (a .store .now) (a .margins .now))) (c .if1 .taken)
 
 returns-2 : tie.Need-returns-2
 returns-2 c =
     let s = c .before .before .before .before .before .before .before .before .before .before .before .before .before .before in
     let a = s .args in
-    λ (C : Code) H. serve-spent C (a .c) (standing (a .status .now) (a .counts .now) (a .left) (lending (a .symbols .now) (a .costs .now) (a .store .now) (a .margins .now))) (c .before .if1 .left) (c .if2 .taken)
+    serve-spent (codeFor (a .z) (a .degrees .now) (a .columns .now) (a .weights .now)) (a .c) (standing (a .status .now) (a .counts .now) (a .left) (lending (a .symbols .now) (a .costs .now) (a .store .now) (a .margins .now))) (c .before .if1 .left) (c .if2 .taken)
 
 slice-read-t : tie.Need-slice-read-t
-slice-read-t c = omega (arith, c .before .before .before .before .before .before .before .before .before .before .before .before .before .before .before .pre .inside, c .before .before .before .before .before .before .before .before .before .before .before .before .before .before .before .pre .room .serves .rooms .for-counts)
+slice-read-t c = omega (arith, c .before .before .before .before .before .before .before .before .before .before .before .before .before .before .before .pre .inside, c .before .before .before .before .before .before .before .before .before .before .before .before .before .before .before .pre .room .serve .serves .rooms .for-counts)
 
 step-at-requires : tie.Need-step-at-requires
 step-at-requires c κs =
@@ -33,7 +33,7 @@ step-at-requires c κs =
     step-room (s .pre .count) (a .z) (a .degrees .now) (a .columns .now) (a .weights .now) (standing (a .status .now) (a .counts .now) (a .left) (lending (a .symbols .now) (a .costs .now) (a .store .now) (a .margins .now))) (a .arrived .now) (a .sent .now) (s .pre .room) (a .c) (s .pre .inside) (c .before .before .before .before .before .before .before .before .if1 .left)
 
 slice-write-status : tie.Need-slice-write-status
-slice-write-status c = omega (arith, c .before .before .before .before .before .before .before .before .before .before .before .before .before .before .before .before .before .before .before .before .before .before .before .before .before .before .before .before .before .before .before .before .before .before .pre .inside, c .before .before .before .before .before .before .before .before .before .before .before .before .before .before .before .before .before .before .before .before .before .before .before .before .before .before .before .before .before .before .before .before .before .before .pre .room .serves .rooms .for-status)
+slice-write-status c = omega (arith, c .before .before .before .before .before .before .before .before .before .before .before .before .before .before .before .before .before .before .before .before .before .before .before .before .before .before .before .before .before .before .before .before .before .before .pre .inside, c .before .before .before .before .before .before .before .before .before .before .before .before .before .before .before .before .before .before .before .before .before .before .before .before .before .before .before .before .before .before .before .before .before .before .pre .room .serve .serves .rooms .for-status)
 
 add-counts : tie.Need-add-counts
 add-counts c =
@@ -42,7 +42,7 @@ add-counts c =
     omega (arith, count-low (s .pre .count) (a .z) (a .degrees .now) (a .columns .now) (a .weights .now) (standing (a .status .now) (a .counts .now) (a .left) (lending (a .symbols .now) (a .costs .now) (a .store .now) (a .margins .now))) (a .arrived .now) (a .sent .now) (s .pre .room) (a .c) (s .pre .inside) (c .before .before .before .before .before .before .before .before .before .before .before .before .before .before .before .before .before .before .before .before .before .if1 .left), s .good)
 
 slice-write-counts : tie.Need-slice-write-counts
-slice-write-counts c = omega (arith, c .before .before .before .before .before .before .before .before .before .before .before .before .before .before .before .before .before .before .before .before .before .before .before .before .before .before .before .before .before .before .before .before .before .before .pre .inside, c .before .before .before .before .before .before .before .before .before .before .before .before .before .before .before .before .before .before .before .before .before .before .before .before .before .before .before .before .before .before .before .before .before .before .pre .room .serves .rooms .for-counts)
+slice-write-counts c = omega (arith, c .before .before .before .before .before .before .before .before .before .before .before .before .before .before .before .before .before .before .before .before .before .before .before .before .before .before .before .before .before .before .before .before .before .before .pre .inside, c .before .before .before .before .before .before .before .before .before .before .before .before .before .before .before .before .before .before .before .before .before .before .before .before .before .before .before .before .before .before .before .before .before .before .pre .room .serve .serves .rooms .for-counts)
 
 sub-result : tie.Need-sub-result
 sub-result c = search needs
@@ -76,7 +76,7 @@ returns-3 c =
     let s = c .before .before .before .before .before .before .before .before .before .before .before .before .before .before .before .before .before .before .before .before .before .before .before .before .before .before .before .before .before .before .before .before .before .before in
     let a = s .args in
     let u = c .before .before .before .before .before .before .before .before .before .before .before .before .step-at in
-    λ (C : Code) H. serve-moves C (a .c) (standing (a .status .now) (a .counts .now) (a .left) (lending (a .symbols .now) (a .costs .now) (a .store .now) (a .margins .now))) (c .before .before .before .before .before .before .before .before .before .before .before .before .before .before .before .before .before .before .before .before .before .if1 .left) (c .before .before .before .before .before .before .before .before .before .before .before .before .before .before .before .before .before .before .before .before .if2 .left) (u .result) _ (u .ensures C H)
+    serve-moves (codeFor (a .z) (a .degrees .now) (a .columns .now) (a .weights .now)) (a .c) (standing (a .status .now) (a .counts .now) (a .left) (lending (a .symbols .now) (a .costs .now) (a .store .now) (a .margins .now))) (c .before .before .before .before .before .before .before .before .before .before .before .before .before .before .before .before .before .before .before .before .before .if1 .left) (c .before .before .before .before .before .before .before .before .before .before .before .before .before .before .before .before .before .before .before .before .if2 .left) (u .result) _ (u .ensures)
 
 pub serve-at-spec : {M : Type 1} → statement M
 serve-at-spec =

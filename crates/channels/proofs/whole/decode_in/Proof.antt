@@ -1,5 +1,4 @@
 -- The count and the allowance, then the reader's answer: the line's refusal, or the numbers and tables of its code.
-use native.Mathlib.Omega.{arith}
 use borrow.Author.Needs.{needs}
 use Rattle.machine.specs.Decoding.{lending}
 use Rattle.codeline.proofs.Says.{line-says, line-coded}
@@ -40,15 +39,14 @@ u8-to-usize-requires c κs = search needs
 
 under-code-requires : tie.Need-under-code-requires
 under-code-requires c κs =
-    let at-under-code-arg11 = c .before in
-    let at-u8-to-usize = at-under-code-arg11 .before .before .before .before .before .before .before .before .before .before .before in
+    let at-u8-to-usize = c .before .before .before .before .before .before .before .before .before .before in
     let at-layout-of = at-u8-to-usize .before in
     let at-numbers = at-layout-of .before .before .before .before in
     let at-code-tables = at-numbers .before .before in
     let at-if1 = at-code-tables .before .before .before .before in
     let at-count-fault = at-if1 .before in
     let start = at-count-fault .before .before .before .before .before .before .before in
-    let x = count-passes (start .args .count) (start .args .allowance) (at-count-fault .count-fault .result) (at-count-fault .count-fault .ensures) (at-if1 .if1 .left) in rw (at-u8-to-usize .u8-to-usize .ensures .0) (under-room (start .args .code .now) (at-numbers .numbers .given .0 .0) (at-code-tables .code-tables .last .1 .0) (at-code-tables .code-tables .last .1 .1 .0) (at-code-tables .code-tables .last .1 .1 .1 .0) (line-coded (start .args .code .now) (at-code-tables .code-tables .result) (at-code-tables .code-tables .ensures .0) (at-numbers .numbers .given .0 .0) (at-numbers .numbers .given .1) _ _ _ (at-code-tables .code-tables .last .1 .0) (at-code-tables .code-tables .last .1 .1 .0) (at-code-tables .code-tables .last .1 .1 .1 .0) (at-code-tables .code-tables .ensures .1 .0) (at-code-tables .code-tables .ensures .1 .1 .0) (at-code-tables .code-tables .ensures .1 .1 .1)) (line-says (start .args .code .now) (at-code-tables .code-tables .result) (at-code-tables .code-tables .ensures .0) (at-numbers .numbers .given .0 .0) (at-numbers .numbers .given .1) _ _ _ (at-code-tables .code-tables .last .1 .0) (at-code-tables .code-tables .last .1 .1 .0) (at-code-tables .code-tables .last .1 .1 .1 .0) (at-code-tables .code-tables .ensures .1 .0) (at-code-tables .code-tables .ensures .1 .1 .0) (at-code-tables .code-tables .ensures .1 .1 .1)) (at-layout-of .layout-of .result) (at-layout-of .layout-of .ensures) (start .args .count) (start .args .allowance) (x .0) (x .1) (x .2) (start .args .arrived .now) (start .args .sent .now) (omega (arith, c .under-code-arg12, at-under-code-arg11 .under-code-arg11)) (omega (arith, c .under-code-arg12, at-under-code-arg11 .under-code-arg11)))
+    let x = count-passes (start .args .count) (start .args .allowance) (at-count-fault .count-fault .result) (at-count-fault .count-fault .ensures) (at-if1 .if1 .left) in rw (at-u8-to-usize .u8-to-usize .ensures .0) (under-room (at-numbers .numbers .given .0 .0) (at-code-tables .code-tables .last .1 .0) (at-code-tables .code-tables .last .1 .1 .0) (at-code-tables .code-tables .last .1 .1 .1 .0) (line-coded (start .args .code .now) (at-code-tables .code-tables .result) (at-code-tables .code-tables .ensures .0) (at-numbers .numbers .given .0 .0) (at-numbers .numbers .given .1) _ _ _ (at-code-tables .code-tables .last .1 .0) (at-code-tables .code-tables .last .1 .1 .0) (at-code-tables .code-tables .last .1 .1 .1 .0) (at-code-tables .code-tables .ensures .1 .0) (at-code-tables .code-tables .ensures .1 .1 .0) (at-code-tables .code-tables .ensures .1 .1 .1)) (at-layout-of .layout-of .result) (at-layout-of .layout-of .ensures) (start .args .count) (x .0) (x .1))
 
 returns-2 : tie.Need-returns-2
 returns-2 c =
@@ -74,12 +72,14 @@ same-length-4 c = search needs
 returns-3 : tie.Need-returns-3
 returns-3 c =
     let at-under-code = c .before .before .before .before .before .before .before .before in
-    let at-u8-to-usize = at-under-code .before .before .before .before .before .before .before .before .before .before .before .before .before in
+    let at-u8-to-usize = at-under-code .before .before .before .before .before .before .before .before .before .before .before in
     let at-layout-of = at-u8-to-usize .before in
     let at-numbers = at-layout-of .before .before .before .before in
     let at-code-tables = at-numbers .before .before in
-    let start = at-code-tables .before .before .before .before .before .before .before .before .before .before .before .before in
-    line-gives (start .args .code .now) (at-numbers .numbers .given .0 .0) (at-code-tables .code-tables .last .1 .0) (at-code-tables .code-tables .last .1 .1 .0) (at-code-tables .code-tables .last .1 .1 .1 .0) (line-coded (start .args .code .now) (at-code-tables .code-tables .result) (at-code-tables .code-tables .ensures .0) (at-numbers .numbers .given .0 .0) (at-numbers .numbers .given .1) _ _ _ (at-code-tables .code-tables .last .1 .0) (at-code-tables .code-tables .last .1 .1 .0) (at-code-tables .code-tables .last .1 .1 .1 .0) (at-code-tables .code-tables .ensures .1 .0) (at-code-tables .code-tables .ensures .1 .1 .0) (at-code-tables .code-tables .ensures .1 .1 .1)) (line-says (start .args .code .now) (at-code-tables .code-tables .result) (at-code-tables .code-tables .ensures .0) (at-numbers .numbers .given .0 .0) (at-numbers .numbers .given .1) _ _ _ (at-code-tables .code-tables .last .1 .0) (at-code-tables .code-tables .last .1 .1 .0) (at-code-tables .code-tables .last .1 .1 .1 .0) (at-code-tables .code-tables .ensures .1 .0) (at-code-tables .code-tables .ensures .1 .1 .0) (at-code-tables .code-tables .ensures .1 .1 .1)) (at-layout-of .layout-of .result) (at-layout-of .layout-of .ensures) (start .args .count) (start .args .allowance) (start .args .frames .now) (lending (start .args .symbols .now) (start .args .costs .now) (start .args .store .now) (start .args .margins .now)) _ _ _ _ _ (rw (at-u8-to-usize .u8-to-usize .ensures .0) at (at-under-code .under-code .ensures))
+    let at-if1 = at-code-tables .before .before .before .before in
+    let at-count-fault = at-if1 .before in
+    let start = at-count-fault .before .before .before .before .before .before .before in
+    let x = count-passes (start .args .count) (start .args .allowance) (at-count-fault .count-fault .result) (at-count-fault .count-fault .ensures) (at-if1 .if1 .left) in line-gives (at-numbers .numbers .given .0 .0) (at-code-tables .code-tables .last .1 .0) (at-code-tables .code-tables .last .1 .1 .0) (at-code-tables .code-tables .last .1 .1 .1 .0) (line-coded (start .args .code .now) (at-code-tables .code-tables .result) (at-code-tables .code-tables .ensures .0) (at-numbers .numbers .given .0 .0) (at-numbers .numbers .given .1) _ _ _ (at-code-tables .code-tables .last .1 .0) (at-code-tables .code-tables .last .1 .1 .0) (at-code-tables .code-tables .last .1 .1 .1 .0) (at-code-tables .code-tables .ensures .1 .0) (at-code-tables .code-tables .ensures .1 .1 .0) (at-code-tables .code-tables .ensures .1 .1 .1)) (at-layout-of .layout-of .result) (at-layout-of .layout-of .ensures) (start .args .code .now) (line-says (start .args .code .now) (at-code-tables .code-tables .result) (at-code-tables .code-tables .ensures .0) (at-numbers .numbers .given .0 .0) (at-numbers .numbers .given .1) _ _ _ (at-code-tables .code-tables .last .1 .0) (at-code-tables .code-tables .last .1 .1 .0) (at-code-tables .code-tables .last .1 .1 .1 .0) (at-code-tables .code-tables .ensures .1 .0) (at-code-tables .code-tables .ensures .1 .1 .0) (at-code-tables .code-tables .ensures .1 .1 .1)) (start .args .count) (start .args .allowance) (x .0) (x .1) (x .2) (at-u8-to-usize .u8-to-usize .result) (at-u8-to-usize .u8-to-usize .ensures .0) (start .args .frames .now) (lending (start .args .symbols .now) (start .args .costs .now) (start .args .store .now) (start .args .margins .now)) _ _ _ _ _ (at-under-code .under-code .ensures)
 
 pub decode-in-spec : {M : Type 1} → statement M
 decode-in-spec =

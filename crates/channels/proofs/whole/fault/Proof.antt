@@ -4,6 +4,7 @@ use native.Mathlib.Omega.{arith}
 use Prim.Native.Nat.{_*_, _≤_}
 use borrow.Author.Needs.{needs}
 use borrow.Author.Tests.{eq-eqb, ne-eqb}
+use Rattle.frame.specs.Answers.{roomFaultOf}
 use Rattle.channels.specs.inner.Layouts.{faultFor}
 use Rattle.channels.proofs.whole.fault.Statement.{statement}
 use Rattle.channels.proofs.whole.fault.Tie as tie
@@ -15,7 +16,7 @@ mul-w c =
     omega arith
 
 returns : tie.Need-returns
-unfolding faultFor
+unfolding faultFor roomFaultOf
 returns c = simp (ne-eqb _ _ (c .if1 .taken))
 
 mul-room-fault : tie.Need-mul-room-fault
@@ -34,7 +35,7 @@ room-fault-requires : tie.Need-room-fault-requires
 room-fault-requires c κs = search needs
 
 returns-2 : tie.Need-returns-2
-unfolding faultFor
+unfolding faultFor roomFaultOf
 returns-2 c = rw (eq-eqb _ _ (c .before .before .before .if1 .left)) (c .room-fault .ensures)
 
 pub fault-spec : {M : Type 1} → statement M

@@ -2,21 +2,19 @@
 use mathlib.Core.Path.{_≡_, refl}
 use native.Mathlib.Omega.{arith}
 use lib.ListN.{length}
-use Rattle.machine.specs.CodeLine.{Code}
 use Rattle.machine.specs.Decoding.{lending}
 use Rattle.channels.specs.inner.Rounds.{standing, roundsAt}
-use Rattle.channels.specs.inner.Layouts.{Fitted, ServeRoom}
+use Rattle.channels.specs.inner.Layouts.{codeFor, RoundRoom}
 use Rattle.channels.proofs.Quiet.{end-law, more-law}
 use Rattle.channels.proofs.Moves.{round-next, round-less}
-use Rattle.channels.proofs.service.serve.Statement.{statement}
-use Rattle.channels.proofs.service.serve.Tie as tie
+use Rattle.channels.proofs.service.rounds.Statement.{statement}
+use Rattle.channels.proofs.service.rounds.Tie as tie
 
 abbrev Inv-loop : tie.InvT-loop
 Inv-loop count allowance z degrees columns weights symbols₀ costs₀ store₀ margins₀ status₀ counts₀ arrived₀ sent₀ a₀ symbols costs store margins status counts arrived sent a =
-    ServeRoom count z degrees columns weights (standing status counts a (lending symbols costs store margins)) arrived sent
-    × ((C : Code) → Fitted C z degrees columns weights
-    → roundsAt C count a (standing status counts a (lending symbols costs store margins))
-    ≡ roundsAt C count allowance (standing status₀ counts₀ allowance (lending symbols₀ costs₀ store₀ margins₀)))
+    RoundRoom count z degrees columns weights (standing status counts a (lending symbols costs store margins)) arrived sent
+    × (roundsAt (codeFor z degrees columns weights) count a (standing status counts a (lending symbols costs store margins))
+    ≡ roundsAt (codeFor z degrees columns weights) count allowance (standing status₀ counts₀ allowance (lending symbols₀ costs₀ store₀ margins₀)))
     × ((length symbols ≡ length symbols₀) × (length costs ≡ length costs₀) × (length store ≡ length store₀) × (length margins ≡ length margins₀) × (length status ≡ length status₀) × (length counts ≡ length counts₀) × (length arrived ≡ length arrived₀) × (length sent ≡ length sent₀))
 
 abbrev μ-loop : tie.MeasureT-loop
@@ -24,7 +22,7 @@ abbrev μ-loop : tie.MeasureT-loop
     a
 
 loop-holds : tie.Need-loop-holds Inv-loop μ-loop
-loop-holds c = (c .before .before .before .before .before .before .before .before .before .before .before .pre, (λ C H. refl), (refl, refl, refl, refl, refl, refl, refl, refl))
+loop-holds c = (c .before .before .before .before .before .before .before .before .before .before .before .pre, refl, (refl, refl, refl, refl, refl, refl, refl, refl))
 
 round-requires : tie.Need-round-requires Inv-loop μ-loop
 round-requires c κs = c .before .before .before .before .before .before .before .before .loop .inv .0
@@ -55,17 +53,17 @@ same-length-8 c = omega (arith, c .before .before .before .before .before .befor
 
 returns : tie.Need-returns Inv-loop μ-loop
 returns c =
-    let n = c .before .before .before .before .before .before .before .before .before .before .before .before .before .before .before .before .before .before .before .before .before .before .before .before .before .before .before .before .before .before .before .before .before .before .before .before .before .before .args .count in
+    let a = c .before .before .before .before .before .before .before .before .before .before .before .before .before .before .before .before .before .before .before .before .before .before .before .before .before .before .before .before .before .before .before .before .before .before .before .before .before .before .args in
     let l = c .before .before .before .before .before .before .before .before .before .before .before .before .before .before .before .before .before .before .before .before .before .before .before .before .before .before .loop in
     let u = c .before .before .before .before .before .before .before .before .before .before .before .before .before .before .before .before .before .round in
-    λ (C : Code) H. end-law C n _ _ _ (u .ensures C H) (c .if1 .taken) (l .inv .1 C H)
+    end-law (codeFor (a .z) (a .degrees .now) (a .columns .now) (a .weights .now)) (a .count) _ _ _ (u .ensures) (c .if1 .taken) (l .inv .1)
 
 loop-less : tie.Need-loop-less Inv-loop μ-loop
 loop-less c =
-    let n = c .before .before .before .before .before .before .before .before .before .before .before .before .before .before .before .before .before .before .before .before .before .before .before .before .before .before .before .before .before .before .before .before .before .before .before .before .before .before .args .count in
+    let a = c .before .before .before .before .before .before .before .before .before .before .before .before .before .before .before .before .before .before .before .before .before .before .before .before .before .before .before .before .before .before .before .before .before .before .before .before .before .before .args in
     let l = c .before .before .before .before .before .before .before .before .before .before .before .before .before .before .before .before .before .before .before .before .before .before .before .before .before .before .loop in
     let u = c .before .before .before .before .before .before .before .before .before .before .before .before .before .before .before .before .before .round in
-    round-less (l .inv .0 .code) n _ _ (u .ensures (l .inv .0 .code) (l .inv .0 .shaped)) (c .if1 .left)
+    round-less (codeFor (a .z) (a .degrees .now) (a .columns .now) (a .weights .now)) (a .count) _ _ (u .ensures) (c .if1 .left)
 
 loop-again : tie.Need-loop-again Inv-loop μ-loop
 loop-again c =
@@ -73,12 +71,12 @@ loop-again c =
     let l = c .before .before .before .before .before .before .before .before .before .before .before .before .before .before .before .before .before .before .before .before .before .before .before .before .before .before .loop in
     let u = c .before .before .before .before .before .before .before .before .before .before .before .before .before .before .before .before .before .round in (
       round-next (a .count) (a .z) (a .degrees .now) (a .columns .now) (a .weights .now) _ _ _ (l .inv .0) _ _ _ (u .ensures) (omega (arith, u .kept)) (omega (arith, u .kept)),
-      (λ C H. more-law C (a .count) _ _ _ (u .ensures C H) (c .if1 .left) (l .inv .1 C H)),
+      more-law (codeFor (a .z) (a .degrees .now) (a .columns .now) (a .weights .now)) (a .count) _ _ _ (u .ensures) (c .if1 .left) (l .inv .1),
       (omega (arith, u .kept, l .inv .2), omega (arith, u .kept, l .inv .2), omega (arith, u .kept, l .inv .2), omega (arith, u .kept, l .inv .2), omega (arith, u .kept, l .inv .2), omega (arith, u .kept, l .inv .2), omega (arith, u .kept, l .inv .2), omega (arith, u .kept, l .inv .2)),
     )
 
-pub serve-spec : {M : Type 1} → statement M
-serve-spec =
+pub rounds-spec : {M : Type 1} → statement M
+rounds-spec =
     tie.close
     (tie.spec
     Inv-loop

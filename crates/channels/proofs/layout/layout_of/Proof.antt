@@ -4,8 +4,8 @@ use Prim.Native.Nat.{_*_, _≤_}
 use native.Mathlib.Omega.{arith}
 use borrow.Author.Needs.{needs}
 use native.Mathlib.Nat.{mul-le-mul}
-use Rattle.channels.proofs.whole.layout_of.Statement.{statement}
-use Rattle.channels.proofs.whole.layout_of.Tie as tie
+use Rattle.channels.proofs.layout.layout_of.Statement.{statement}
+use Rattle.channels.proofs.layout.layout_of.Tie as tie
 
 u16-to-usize-requires : tie.Need-u16-to-usize-requires
 u16-to-usize-requires c κs = search needs
