@@ -1,17 +1,17 @@
 -- The test decides between the two cases of the definition.
 use borrow.Author.Needs.{needs}
 use Rattle.sweep.proofs.Laws.{join-greatest, join-sum}
-use Rattle.sweep.proofs.num.join_of.Statement.{statement}
-use Rattle.sweep.proofs.num.join_of.Tie as tie
+use Rattle.sweep.proofs.cells.join_of.Statement.{statement}
+use Rattle.sweep.proofs.cells.join_of.Tie as tie
 
-whole-requires : tie.Need-whole-requires
-whole-requires c κs = search needs
+u16-to-u32-requires : tie.Need-u16-to-u32-requires
+u16-to-u32-requires c κs = search needs
 
-whole-requires-2 : tie.Need-whole-requires-2
-whole-requires-2 c κs = search needs
+u16-to-u32-requires-2 : tie.Need-u16-to-u32-requires-2
+u16-to-u32-requires-2 c κs = search needs
 
-greater-requires : tie.Need-greater-requires
-greater-requires c κs = search needs
+max-u32-requires : tie.Need-max-u32-requires
+max-u32-requires c κs = search needs
 
 returns : tie.Need-returns
 returns c =
@@ -19,11 +19,11 @@ returns c =
     let start = at-if1 .before in
     join-greatest (start .args .a) (start .args .b) (at-if1 .if1 .taken) (cc)
 
-whole-requires-3 : tie.Need-whole-requires-3
-whole-requires-3 c κs = search needs
+u16-to-u32-requires-3 : tie.Need-u16-to-u32-requires-3
+u16-to-u32-requires-3 c κs = search needs
 
-whole-requires-4 : tie.Need-whole-requires-4
-whole-requires-4 c κs = search needs
+u16-to-u32-requires-4 : tie.Need-u16-to-u32-requires-4
+u16-to-u32-requires-4 c κs = search needs
 
 add-result : tie.Need-add-result
 add-result c = search needs
@@ -38,11 +38,11 @@ pub join-of-spec : {M : Type 1} → statement M
 join-of-spec =
     tie.close
     (tie.spec
-    whole-requires
-    whole-requires-2
-    greater-requires
+    u16-to-u32-requires
+    u16-to-u32-requires-2
+    max-u32-requires
     returns
-    whole-requires-3
-    whole-requires-4
+    u16-to-u32-requires-3
+    u16-to-u32-requires-4
     add-result
     returns-2)
