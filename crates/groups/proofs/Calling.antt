@@ -9,7 +9,7 @@ use lib.ListN.{length, take, drop}
 use Rattle.tables.specs.Calls.{side, inRange}
 use Rattle.tables.specs.inner.Tables.{Shaped}
 use Rattle.tables.proofs.Ranges.{power, shaped-for}
-use Rattle.groups.specs.declared.num.Shape.{Shape}
+use Rattle.groups.specs.declared.layout.Shape.{Shape}
 use Rattle.groups.specs.inner.Pairs.{groupRows}
 use Rattle.groups.specs.Calls.{shapeFor, groupsLength, groupsFit, groupsLeave}
 

@@ -7,7 +7,7 @@ use lib.Dec.{leb}
 use lib.ListN.{length, take, drop}
 use Rattle.trellis.specs.Lists.{pick}
 use Rattle.tables.specs.Calls.{side, inRange}
-use Rattle.groups.specs.declared.num.Shape.{Shape}
+use Rattle.groups.specs.declared.layout.Shape.{Shape}
 use Rattle.groups.specs.inner.Pairs.{groupRows}
 
 abbrev pub shapeFor : ℕ → ℕ → Shape

@@ -1,9 +1,8 @@
 // The groups of a record, from the rests of the costs sent: for each a the extra column and the columns whose rest is below the best.
-mod lane;
+mod layout;
 mod list;
-mod num;
 
-use crate::num::Shape;
+use crate::layout::Shape;
 use rules::Rule;
 ghost use mathlib.Core.Path.{_≡_};
 ghost use Prim.Native.Nat.{_≤_};

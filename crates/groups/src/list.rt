@@ -1,16 +1,15 @@
 // The bytes of each a: E, and the columns whose rest is below the best, sixteen rows at a time. The columns found so far stand in rows
 // of sixteen places, end to end: row 0 is the column that is looked at, the k rows behind it are the pairs.
-use crate::lane;
-use crate::num;
-use crate::num::Shape;
+use crate::layout;
+use crate::layout::Shape;
 ghost use mathlib.Core.Path.{_≡_};
 ghost use Prim.Native.Nat.{_+_, _-_, _*_, _%_, _≤_, _<_, min};
 ghost use lib.Dec.{ltb};
 ghost use lib.ListN.{length, getD, replicate};
 ghost use Rattle.trellis.specs.Lists.{blocks, part, patch, pick};
-ghost use Rattle.tables.specs.inner.Lanes.{lanes, lowAt};
+ghost use Rattle.blocks.specs.Calls.{lanes};
 ghost use Rattle.tables.specs.inner.Tables.{Shaped};
-ghost use Rattle.groups.specs.inner.Pairs.{Pushes, Best, Listed, pairBytes, bytesAt, groupOf, groupRows};
+ghost use Rattle.groups.specs.inner.Pairs.{lowAt, Pushes, Best, Listed, pairBytes, bytesAt, groupOf, groupRows};
 
 fn low(s: u8, e: u8, x: u8, y: u8) -> u8
     ensures { λ r. ⌜ r ≡ pick (ltb s e) x y ⌝ }
@@ -44,7 +43,7 @@ fn shift(s: &[u8], e: &[u8], j: usize, t: &mut [u8])
     let m = 16 * j;
     let n = m + 16;
     chosen(s, e, &t[m - 16..m], &t[m..n], &mut o);
-    lane::copy(&o, &mut t[m..n]);
+    blocks::copy_block(&o, &mut t[m..n]);
 }
 
 // Row 0 of each put before the k rows behind it, where s is below e: from the last row to the first, so that each still stands where
@@ -86,7 +85,7 @@ fn column(k: usize, n: u8, s: &[u8], e: &[u8], columns: &mut [u8], rests: &mut [
         Pushes k (now (s .entry)) (now (e .entry)) (λ i. getD (now (s .entry)) i 0) (now (rests .entry)) (now (rests .exit)) ⌝ }
 {
     fill(n, &mut columns[..16]);
-    lane::copy(s, &mut rests[..16]);
+    blocks::copy_block(s, &mut rests[..16]);
     push(k, s, e, columns, rests);
 }
 
@@ -96,7 +95,7 @@ fn row_at(shape: Shape, d: usize, n: usize, v: usize) -> usize
     requires { ⌜ ((n < d) × (d ≤ 32)) × ((v % 16 ≡ 0) × (v < shape .l)) ⌝ }
     ensures { λ r. ⌜ (r ≡ n * shape .l + v) × (r + 16 ≤ d * shape .l) ⌝ }
 {
-    num::part_at(n, d, shape.l) + v
+    layout::part_at(n, d, shape.l) + v
 }
 
 // e: the best rest of each row from v on.
@@ -108,12 +107,12 @@ fn best(shape: Shape, d: usize, v: usize, sent: &[u8], e: &mut [u8])
 {
     let a = row_at(shape, d, 0, v);
     let b = a + 16;
-    lane::copy_block(&sent[a..b], e);
+    blocks::copy_block(&sent[a..b], e);
     let mut n = 1;
     while n < d {
         let a = row_at(shape, d, n, v);
         let b = a + 16;
-        lane::raise_block(&sent[a..b], e);
+        blocks::raise_block(&sent[a..b], e);
         n += 1;
     }
 }
@@ -143,6 +142,13 @@ fn list(
     }
 }
 
+// A rest as the cost that it is left by.
+fn cost(r: u8) -> u8
+    ensures { λ c. ⌜ c ≡ 255 - r ⌝ }
+{
+    255 - r
+}
+
 // The k pairs at place i, two bytes each.
 fn put_pairs(k: usize, i: usize, columns: &[u8], rests: &[u8], out: &mut [u8])
     requires { ⌜ ((k ≤ 3) × (i < 16)) × ((length (now columns) ≡ 64) × (length (now rests) ≡ 64)) ⌝ }
@@ -153,7 +159,7 @@ fn put_pairs(k: usize, i: usize, columns: &[u8], rests: &[u8], out: &mut [u8])
     while j < k {
         let a = 16 * j + 16 + i;
         out[j * 2] = columns[a];
-        out[j * 2 + 1] = num::cost(rests[a]);
+        out[j * 2 + 1] = cost(rests[a]);
         j += 1;
     }
 }
@@ -165,7 +171,7 @@ fn put_group(k: usize, i: usize, e: &[u8], columns: &[u8], rests: &[u8], out: &m
     ensures { λ _. ⌜ now (out .exit) ≡ bytesAt k (now (e .entry)) (now (columns .entry)) (now (rests .entry)) i ⌝ }
 {
     let n = out.len();
-    out[0] = num::cost(e[i]);
+    out[0] = cost(e[i]);
     put_pairs(k, i, columns, rests, &mut out[1..n]);
 }
 
@@ -178,7 +184,7 @@ fn put_groups(k: usize, i: usize, m: usize, e: &[u8], columns: &[u8], rests: &[u
     let w = k * 2 + 1;
     let mut b = 0;
     while b < m {
-        let x = num::part_at(b, m, w);
+        let x = layout::part_at(b, m, w);
         let y = x + w;
         put_group(k, i + b, e, columns, rests, &mut out[x..y]);
         b += 1;
@@ -232,8 +238,8 @@ pub fn groups_in(shape: Shape, d: usize, sent: &[u8], out: &mut [u8])
     while v < q {
         let s = written(q, v);
         let t = written(q, v + 16);
-        let x = num::edge(s, q - 1, w);
-        let y = num::edge(t, q - 1, w);
+        let x = layout::edge(s, q - 1, w);
+        let y = layout::edge(t, q - 1, w);
         block(shape, d, v, t - s, sent, &mut out[x..y]);
         v += 16;
     }

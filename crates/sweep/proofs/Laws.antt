@@ -3,7 +3,7 @@ use mathlib.Core.Path.{_≡_, refl, sym, ap, ap₂, _∙_, subst}
 use mathlib.Core.Bool.{Bool, true, false}
 use mathlib.Core.Logic.{_≢_}
 use mathlib.Core.List.{List, _++_}
-use Prim.Native.Nat.{ℕ, _+_, _-_, _*_, _≤_, _<_, min, max, _^_}
+use Prim.Native.Nat.{ℕ, _+_, _-_, _*_, _%_, _≤_, _<_, min, max, _^_}
 use native.Mathlib.Numerals.{add-one}
 use native.Mathlib.Omega.{arith}
 use native.Mathlib.Nat.{add-sub-cancel-left, mul-le-mul-right}
@@ -21,7 +21,7 @@ use Rattle.trellis.proofs.Loops.{tab-more, tab-whole, length-tab, getD-tab}
 use Rattle.trellis.proofs.Rules.{most-few}
 use Rattle.checknode.specs.inner.Asks.{Times}
 use Rattle.sweep.specs.Kept.{cellCount}
-use Rattle.sweep.specs.inner.Cells.{Sums, Steps, layerAt, countAt, stepCells, moveCost, stepBy}
+use Rattle.sweep.specs.inner.Cells.{Sums, Steps, deviationAt, layerAt, countAt, stepCells, moveCost, stepBy}
 
 pub tab-turn : (f : ℕ → ℕ) (out out₀ : List ℕ) (i : ℕ) {v : ℕ} → i < length out₀ → out ≡ tab f i ++ drop i out₀ → v ≡ f i → set out i v ≡ tab f (i + 1) ++ drop (i + 1) out₀
 tab-turn f out out₀ i l e u = rw (e, u) (tab-more f out₀ i l)
@@ -31,6 +31,16 @@ tab-end f out out₀ i e u v = e ∙ rw u (tab-whole f out₀) ∙ ap (tab f) v
 
 pub least-turn : (f : ℕ → ℕ) (x : ℕ) {e r v : ℕ} → e ≡ leastTo f x → v ≡ f x → r ≡ min e v → r ≡ leastTo f (x + 1)
 least-turn f x a b o = o ∙ rw (a, b, add-one x)
+
+-- one sum of a count: what is written is at most the mark, so 16 bits hold it
+pub layer-value : (g : Bool) (row moves low same : List ℕ) (s t : ℕ) {p a b m r : ℕ} → p ≡ xor t s → a ≡ getD same p 0 → b ≡ deviationAt g row moves low t → b ≤ 1024 → m ≡ min a b → r ≡ m % 65536 → r ≡ layerAt g row moves low same s t
+unfolding layerAt
+layer-value g row moves low same s t {p} {a} {b} {m} ep ea eb small em er =
+    let k : m % 65536 ≡ m = omega (arith, small, em) in er ∙ k ∙ em ∙ ap₂ min (ea ∙ ap (λ y. getD same y 0) ep) eb
+
+-- a number that a byte holds
+pub byte-value : {x y r : ℕ} → x ≡ y → y < 256 → r ≡ x % 256 → r ≡ y
+byte-value {x} {y} {r} e h o = omega (arith, e, h, o)
 
 pub join-greatest : {g : Bool} (a b : ℕ) {r : ℕ} → g ≡ true → r ≡ max a b → r ≡ joinOf g a b
 join-greatest a b e o = rw e o

@@ -1,5 +1,5 @@
 // A sweep over the columns, from the first to the last or from the last to the first.
-use crate::num;
+use crate::cells;
 use crate::step;
 use field::Element;
 ghost use mathlib.Core.Path.{_≡_};
@@ -68,14 +68,14 @@ fn advance(
     ensures { λ _. ⌜ now (out .exit) ≡ stepFor first h (now (costs .entry)) (now (cells .entry)) ⌝ }
 {
     let rule = rules::rule_of(first);
-    let s = num::index(column(rule.p, h, costs, row, moves));
+    let s = scalar::u8_to_usize(column(rule.p, h, costs, row, moves));
     step::step(
         row,
         moves,
         cells,
         s,
         rules::size(first),
-        num::index(rule.k),
+        scalar::u8_to_usize(rule.k),
         rule.greatest,
         out,
     );
@@ -148,7 +148,7 @@ pub fn fill(
     ensures { λ _. ⌜ now (table .exit) ≡ tableOf first back (now (weights .entry)) (now (costs .entry)) ⌝ }
 {
     let d = weights.len();
-    let w = num::cells(first);
+    let w = cells::cell_count(first);
     step::begin(&mut table[..w]);
     let mut i = 1;
     while i < d {

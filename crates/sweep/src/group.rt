@@ -1,5 +1,4 @@
 // The bytes of each a, from the sent costs of all columns: E, and the columns above it.
-use crate::num;
 ghost use mathlib.Core.Path.{_≡_};
 ghost use Prim.Native.Nat.{_+_, _-_, _*_, _≤_, _<_};
 ghost use lib.Dec.{ltb};
@@ -15,7 +14,7 @@ fn lowest(sent: &[u8], q: usize, d: usize, a: usize) -> u8
     let mut e: u8 = 255;
     let mut n = 0;
     while n < d {
-        e = num::lower(e, sent[n * q + a]);
+        e = scalar::min_u8(e, sent[n * q + a]);
         n += 1;
     }
     e

@@ -1,5 +1,5 @@
 // The sweeps before and after a column, joined.
-use crate::num;
+use crate::cells;
 ghost use mathlib.Core.Path.{_≡_};
 ghost use Prim.Native.Nat.{_+_, _*_, _≤_, _<_};
 ghost use lib.ListN.{length};
@@ -17,7 +17,7 @@ fn across(f: &[u16], g: &[u16], t: usize, greatest: bool) -> u32
     let mut e: u32 = 1024;
     let mut s = 0;
     while s < f.len() {
-        e = num::least(e, num::join_of(greatest, f[s], g[num::plus(s, t)]));
+        e = scalar::min_u32(e, cells::join_of(greatest, f[s], g[cells::plus(s, t)]));
         s += 1;
     }
     e
@@ -34,7 +34,7 @@ fn beside(f: &[u16], after: &[u16], q: usize, n: usize, t: usize, greatest: bool
     while j < n {
         let a = j * q;
         let b = a + q;
-        e = num::least(e, across(f, &after[a..b], t, greatest));
+        e = scalar::min_u32(e, across(f, &after[a..b], t, greatest));
         j += 1;
     }
     e
@@ -52,7 +52,7 @@ fn join_at(before: &[u16], after: &[u16], q: usize, k: usize, t: usize, greatest
     while i <= k {
         let a = i * q;
         let b = a + q;
-        e = num::least(e, beside(&before[a..b], after, q, k - i + 1, t, greatest));
+        e = scalar::min_u32(e, beside(&before[a..b], after, q, k - i + 1, t, greatest));
         i += 1;
     }
     e
@@ -76,7 +76,7 @@ fn sent_row(
 {
     let mut a = 0;
     while a < out.len() {
-        out[a] = num::byte(join_at(before, after, q, k, num::plus(a, s), greatest));
+        out[a] = scalar::u32_to_u8(join_at(before, after, q, k, cells::plus(a, s), greatest));
         a += 1;
     }
 }
@@ -110,7 +110,7 @@ pub fn sent_all(
             &after[c..e],
             q,
             k,
-            num::index(shifts[n]),
+            scalar::u8_to_usize(shifts[n]),
             greatest,
             &mut out[x..y],
         );

@@ -1,8 +1,8 @@
 // One check by two sweeps over its columns, beside `check`: the same record, by an engine that can be followed on paper.
+mod cells;
 mod columns;
 mod group;
 mod join;
-mod num;
 mod record;
 mod step;
 

@@ -1,8 +1,8 @@
 // The record of an accepted check: the shifts, both sweeps, the sent costs, and from these the bytes of each a.
+use crate::cells;
 use crate::columns;
 use crate::group;
 use crate::join;
-use crate::num;
 ghost use mathlib.Core.Path.{_≡_};
 ghost use Prim.Native.Nat.{_*_, _≤_, _<_};
 ghost use lib.ListN.{length, getD};
@@ -107,7 +107,7 @@ fn record_from(
     let n = out.len();
     let rule = rules::rule_of(first);
     let q = rules::size(first);
-    let k = num::index(rule.k);
+    let k = scalar::u8_to_usize(rule.k);
     shifts(first, weights, costs, &mut out[..d]);
     join::sent_all(before, after, &out[..d], q, k, rule.greatest, sent);
     group::groups(sent, q, d, k, &mut out[d..n]);
@@ -153,7 +153,7 @@ fn record_room(
     requires { ⌜ length (now out) ≡ recordLength (ruleFor first) (length (now weights)) ⌝ }
     ensures { λ _. ⌜ now (out .exit) ≡ recordOf (ruleFor first) (columnsOf (sizeOf first) (now (weights .entry)) (now (costs .entry))) ⌝ }
 {
-    let w = num::cells(first);
+    let w = cells::cell_count(first);
     let n = weights.len() * w;
     let m = weights.len() * rules::size(first);
     record_with(

@@ -1,5 +1,5 @@
 // One column more: the costs kept over some columns become those over these and one more.
-use crate::num;
+use crate::cells;
 ghost use mathlib.Core.Path.{_≡_};
 ghost use mathlib.Core.Bool.{cond};
 ghost use Prim.Native.Nat.{_+_, _*_, _≤_, _<_};
@@ -19,9 +19,13 @@ fn deviation_at(row: &[u8], moves: &[u16], low: &[u16], t: usize, greatest: bool
     let mut e: u32 = 1024;
     let mut x = 0;
     while x < row.len() {
-        e = num::least(
+        e = scalar::min_u32(
             e,
-            num::join_of(greatest, moves[x], low[num::plus(t, num::index(row[x]))]),
+            cells::join_of(
+                greatest,
+                moves[x],
+                low[cells::plus(t, scalar::u8_to_usize(row[x]))],
+            ),
         );
         x += 1;
     }
@@ -45,8 +49,11 @@ fn layer(
 {
     let mut t = 0;
     while t < out.len() {
-        let kept = num::whole(same[num::plus(t, s)]);
-        out[t] = num::half(num::least(kept, deviation_at(row, moves, low, t, greatest)));
+        let kept = scalar::u16_to_u32(same[cells::plus(t, s)]);
+        out[t] = scalar::u32_to_u16(scalar::min_u32(
+            kept,
+            deviation_at(row, moves, low, t, greatest),
+        ));
         t += 1;
     }
 }
@@ -59,7 +66,7 @@ fn kept(same: &[u16], s: usize, out: &mut [u16])
 {
     let mut t = 0;
     while t < out.len() {
-        out[t] = same[num::plus(t, s)];
+        out[t] = same[cells::plus(t, s)];
         t += 1;
     }
 }
@@ -71,7 +78,7 @@ fn move_cost(x: usize, z: usize, cost: u8) -> u16
     if x == z {
         return 1024;
     }
-    num::wide(cost)
+    scalar::u8_to_u16(cost)
 }
 
 // The costs of the column's deviations.

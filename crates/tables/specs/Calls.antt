@@ -6,7 +6,7 @@ use Prim.Native.Nat.{ℕ, _+_, _-_, _*_, _^_, max}
 use lib.Dec.{leb}
 use lib.ListN.{length, take, drop}
 use Rattle.trellis.specs.Lists.{pick}
-use Rattle.tables.specs.declared.num.Shape.{Shape}
+use Rattle.tables.specs.declared.layout.Shape.{Shape}
 use Rattle.tables.specs.inner.Tables.{sentRows}
 
 -- rows of a table: q, and sixteen at least

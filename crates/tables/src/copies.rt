@@ -1,14 +1,13 @@
 // The copies of a table that a join needs: copy j has row x + j at x. Each doubling flips a bit of the row inside its block of sixteen: a
 // function for each of the four bits, for the compiler makes a shuffle of it only where the bit is a constant.
-use crate::block;
-use crate::lane;
-use crate::num::Shape;
+use crate::layout::Shape;
 ghost use mathlib.Core.Path.{_≡_};
 ghost use mathlib.Core.List.{_++_};
 ghost use Prim.Native.Nat.{_+_, _*_, _≤_, min};
 ghost use lib.ListN.{length, getD, take, drop};
 ghost use Rattle.trellis.specs.Field.{xor};
-ghost use Rattle.tables.specs.inner.Lanes.{lanes, Doubled, Copied};
+ghost use Rattle.blocks.specs.Calls.{lanes};
+ghost use Rattle.tables.specs.inner.Lanes.{Doubled, Copied};
 ghost use Rattle.tables.specs.inner.Tables.{Table, Shaped};
 
 fn flip1(t: &[u8], o: &mut [u8])
@@ -32,7 +31,7 @@ fn flip1_at(s: &mut [u8], from: usize, to: usize)
     let mut t = [0u8; 16];
     let a = from + 16;
     let b = to + 16;
-    lane::copy(&s[from..a], &mut t);
+    blocks::copy_block(&s[from..a], &mut t);
     flip1(&t, &mut s[to..b]);
 }
 
@@ -71,7 +70,7 @@ fn flip2_at(s: &mut [u8], from: usize, to: usize)
     let mut t = [0u8; 16];
     let a = from + 16;
     let b = to + 16;
-    lane::copy(&s[from..a], &mut t);
+    blocks::copy_block(&s[from..a], &mut t);
     flip2(&t, &mut s[to..b]);
 }
 
@@ -110,7 +109,7 @@ fn flip4_at(s: &mut [u8], from: usize, to: usize)
     let mut t = [0u8; 16];
     let a = from + 16;
     let b = to + 16;
-    lane::copy(&s[from..a], &mut t);
+    blocks::copy_block(&s[from..a], &mut t);
     flip4(&t, &mut s[to..b]);
 }
 
@@ -149,7 +148,7 @@ fn flip8_at(s: &mut [u8], from: usize, to: usize)
     let mut t = [0u8; 16];
     let a = from + 16;
     let b = to + 16;
-    lane::copy(&s[from..a], &mut t);
+    blocks::copy_block(&s[from..a], &mut t);
     flip8(&t, &mut s[to..b]);
 }
 
@@ -175,7 +174,7 @@ pub fn copies(shape: Shape, w: &[u8], s: &mut [u8])
 {
     let q = shape.q;
     let l = shape.l;
-    block::copy(w, &mut s[..l]);
+    blocks::copy(w, &mut s[..l]);
     twice1(l, s);
     twice2(l, s);
     if q <= 4 {

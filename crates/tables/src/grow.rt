@@ -1,9 +1,8 @@
 // One column more in the tables over a part of the columns, and the tables over the columns after each one.
-use crate::block;
 use crate::copies;
 use crate::join;
-use crate::num;
-use crate::num::Shape;
+use crate::layout;
+use crate::layout::Shape;
 ghost use mathlib.Core.Path.{_≡_};
 ghost use Prim.Native.Nat.{_+_, _-_, _*_, _%_, _≤_, _<_};
 ghost use lib.ListN.{length};
@@ -18,7 +17,7 @@ fn rise(shape: Shape, line: &[u8], j: usize, d: &mut [u8], c: &mut [u8])
     ensures { λ _. ⌜ now (d .exit) ≡ on shape risenIn (now (line .entry)) (now (d .entry)) j ⌝ }
 {
     let l = shape.l;
-    let m = num::part_at(j, shape.k, l);
+    let m = layout::part_at(j, shape.k, l);
     let n = m + l;
     copies::copies(shape, &d[m - l..m], c);
     join::join(shape, line, c, &mut d[m..n]);
@@ -37,7 +36,7 @@ fn grow(shape: Shape, line: &[u8], d: &mut [u8], c: &mut [u8])
         rise(shape, line, j, d, c);
         j -= 1;
     }
-    block::raise(line, &mut d[..l]);
+    blocks::raise(line, &mut d[..l]);
 }
 
 // The tables over one column: its line, k times.
@@ -50,9 +49,9 @@ pub fn begin(shape: Shape, line: &[u8], d: &mut [u8])
     let l = shape.l;
     let mut j = 0;
     while j < k {
-        let a = num::part_at(j, k, l);
+        let a = layout::part_at(j, k, l);
         let b = a + l;
-        block::copy(line, &mut d[a..b]);
+        blocks::copy(line, &mut d[a..b]);
         j += 1;
     }
 }
@@ -65,7 +64,7 @@ fn take_in(shape: Shape, d: usize, n: usize, lines: &[u8], table: &mut [u8], c: 
     ensures { λ _. ⌜ now (table .exit) ≡ on shape grownList (part (now (lines .entry)) (n * shape .l) (shape .l)) (now (table .entry)) ⌝ }
 {
     let l = shape.l;
-    let a = num::part_at(n, d, l);
+    let a = layout::part_at(n, d, l);
     let b = a + l;
     grow(shape, &lines[a..b], table, c);
 }
@@ -79,9 +78,9 @@ fn keep(table: &[u8], i: usize, n: usize, kept: &mut [u8])
         ≡ patch (now (kept .entry)) (i * length (now (table .entry))) (length (now (table .entry))) (now (table .entry)) ⌝ }
 {
     let w = table.len();
-    let a = num::part_at(i, n, w);
+    let a = layout::part_at(i, n, w);
     let b = a + w;
-    block::copy(table, &mut kept[a..b]);
+    blocks::copy(table, &mut kept[a..b]);
 }
 
 // The tables over the last column.
@@ -91,7 +90,7 @@ fn after_first(shape: Shape, d: usize, lines: &[u8], table: &mut [u8])
     ensures { λ _. ⌜ now (table .exit) ≡ on shape afterTo (now (lines .entry)) d 0 ⌝ }
 {
     let l = shape.l;
-    let a = num::part_at(d - 1, d, l);
+    let a = layout::part_at(d - 1, d, l);
     let b = a + l;
     begin(shape, &lines[a..b], table);
 }

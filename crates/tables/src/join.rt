@@ -1,8 +1,8 @@
 // Two tables joined.
 use crate::lane;
-use crate::num;
-use crate::num::Four;
-use crate::num::Shape;
+use crate::layout::Shape;
+use crate::rests;
+use crate::rests::Four;
 ghost use mathlib.Core.Path.{_≡_};
 ghost use Prim.Native.Nat.{_+_, _*_, _/_, _%_, _≤_, _<_, min};
 ghost use lib.ListN.{length};
@@ -49,10 +49,10 @@ fn four_of(greatest: bool, u: &[u8], b: usize) -> Four
     requires { ⌜ (b + 4 ≤ length (now u)) × (length (now u) ≤ 65536) ⌝ }
     ensures { λ r. ⌜ r ≡ fourOf greatest (now (u .entry)) b ⌝ }
 {
-    let x = num::take(greatest, u[b]);
-    let y = num::take(greatest, u[b + 1]);
-    let z = num::take(greatest, u[b + 2]);
-    let w = num::take(greatest, u[b + 3]);
+    let x = rests::take(greatest, u[b]);
+    let y = rests::take(greatest, u[b + 1]);
+    let z = rests::take(greatest, u[b + 2]);
+    let w = rests::take(greatest, u[b + 3]);
     Four {
         greatest,
         x,

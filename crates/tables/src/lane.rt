@@ -1,10 +1,11 @@
 // Sixteen rows at a time: the bound is a constant, so that the compiler takes them as one.
-use crate::num;
-use crate::num::Four;
+use crate::rests;
+use crate::rests::Four;
 ghost use mathlib.Core.Path.{_≡_};
 ghost use Prim.Native.Nat.{_+_, _*_, _≤_};
 ghost use lib.ListN.{length};
-ghost use Rattle.tables.specs.inner.Lanes.{laneAt, lanes};
+ghost use Rattle.blocks.specs.Calls.{lanes};
+ghost use Rattle.tables.specs.inner.Lanes.{laneAt};
 
 // t: the best of e and four rows. What the rows are taken from stands in s, l apart.
 fn lane(f: Four, s: &[u8], l: usize, e: &[u8], t: &mut [u8])
@@ -13,20 +14,9 @@ fn lane(f: Four, s: &[u8], l: usize, e: &[u8], t: &mut [u8])
 {
     let mut i = 0;
     while i < 16 {
-        let u = num::two(f.greatest, f.x, s[i], f.y, s[l + i]);
-        let v = num::two(f.greatest, f.z, s[2 * l + i], f.w, s[3 * l + i]);
+        let u = rests::two(f.greatest, f.x, s[i], f.y, s[l + i]);
+        let v = rests::two(f.greatest, f.z, s[2 * l + i], f.w, s[3 * l + i]);
         t[i] = scalar::max_u8(e[i], scalar::max_u8(u, v));
-        i += 1;
-    }
-}
-
-pub fn copy(t: &[u8], e: &mut [u8])
-    requires { ⌜ (length (now t) ≡ 16) × (length (now e) ≡ 16) ⌝ }
-    ensures { λ _. ⌜ now (e .exit) ≡ now (t .entry) ⌝ }
-{
-    let mut i = 0;
-    while i < 16 {
-        e[i] = t[i];
         i += 1;
     }
 }
@@ -39,5 +29,5 @@ pub fn step(f: Four, s: &[u8], l: usize, e: &mut [u8])
 {
     let mut t = [0u8; 16];
     lane(f, s, l, e, &mut t);
-    copy(&t, e);
+    blocks::copy_block(&t, e);
 }

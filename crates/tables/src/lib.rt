@@ -1,13 +1,13 @@
 // The engine of one check: tables of rests over the columns before and after each one, sixteen rows at a time.
-mod block;
 mod copies;
 mod grow;
 mod join;
 mod lane;
-mod num;
+mod layout;
+mod rests;
 mod rows;
 
-use crate::num::Shape;
+use crate::layout::Shape;
 use rules::Rule;
 ghost use mathlib.Core.Path.{_≡_};
 ghost use Prim.Native.Nat.{_^_, _≤_};

@@ -1,5 +1,5 @@
-use Rattle.tables.proofs.Turns.{tab-turn, lanes-end}
-use Rattle.tables.specs.inner.Lanes.{lowAt}
+use Rattle.blocks.proofs.Turns.{tab-turn, lanes-end}
+use Rattle.groups.specs.inner.Pairs.{lowAt}
 use Rattle.trellis.specs.Lists.{tab}
 use mathlib.Core.Path.{_≡_}
 use mathlib.Core.List.{_++_}

@@ -18,24 +18,24 @@ column-requires c κs =
     let start = at-rule-of .before .before .before .before .before .before in
     (subst (λ p. Times p (start .args .h)) (sym (ap (λ (r : Rule). r .p) (at-rule-of .rule-of .ensures))) (start .pre .0), subst (λ p. Sized (2 ^ p) (start .args .costs .now) (start .args .row .now) (start .args .moves .now)) (sym (ap (λ (r : Rule). r .p) (at-rule-of .rule-of .ensures))) (start .pre .1 .0))
 
-index-requires : tie.Need-index-requires
-index-requires c κs = search needs
+u8-to-usize-requires : tie.Need-u8-to-usize-requires
+u8-to-usize-requires c κs = search needs
 
 size-requires : tie.Need-size-requires
 size-requires c κs = search needs
 
-index-requires-2 : tie.Need-index-requires-2
-index-requires-2 c κs = search needs
+u8-to-usize-requires-2 : tie.Need-u8-to-usize-requires-2
+u8-to-usize-requires-2 c κs = search needs
 
 step-requires : tie.Need-step-requires
 step-requires c κs =
-    let at-index2 = c .before in
-    let at-size = at-index2 .before in
-    let at-index = at-size .before .before .before in
-    let at-column = at-index .before .before .before .before .before in
+    let at-u8-to-usize2 = c .before in
+    let at-size = at-u8-to-usize2 .before in
+    let at-u8-to-usize = at-size .before .before .before in
+    let at-column = at-u8-to-usize .before .before .before .before .before in
     let at-rule-of = at-column .before .before .before in
     let start = at-rule-of .before .before .before .before .before .before in
-    step-asks (start .args .first) (start .args .h) (start .args .costs .now) (start .pre .0) (ap (λ (r : Rule). r .p) (at-rule-of .rule-of .ensures)) (at-column .column .ensures .0) (at-column .column .ensures .1 .0) (at-column .column .ensures .1 .1) (at-index .index .ensures .0) (at-size .size .ensures .0) (at-index2 .index2 .ensures .0 ∙ ap (λ (r : Rule). r .k) (at-rule-of .rule-of .ensures)) (ap (λ (r : Rule). r .greatest) (at-rule-of .rule-of .ensures)) (start .args .cells .now) (start .args .out .now) (start .pre .1 .0 .zero-in) (start .pre .1 .1 .0) (start .pre .1 .1 .1)
+    step-asks (start .args .first) (start .args .h) (start .args .costs .now) (start .pre .0) (ap (λ (r : Rule). r .p) (at-rule-of .rule-of .ensures)) (at-column .column .ensures .0) (at-column .column .ensures .1 .0) (at-column .column .ensures .1 .1) (at-u8-to-usize .u8-to-usize .ensures .0) (at-size .size .ensures .0) (at-u8-to-usize2 .u8-to-usize2 .ensures .0 ∙ ap (λ (r : Rule). r .k) (at-rule-of .rule-of .ensures)) (ap (λ (r : Rule). r .greatest) (at-rule-of .rule-of .ensures)) (start .args .cells .now) (start .args .out .now) (start .pre .1 .0 .zero-in) (start .pre .1 .1 .0) (start .pre .1 .1 .1)
 
 same-length : tie.Need-same-length
 same-length c = search needs
@@ -49,13 +49,13 @@ same-length-3 c = search needs
 returns : tie.Need-returns
 returns c =
     let at-step = c .before .before in
-    let at-index2 = at-step .before .before in
-    let at-size = at-index2 .before in
-    let at-index = at-size .before .before .before in
-    let at-column = at-index .before .before .before .before .before in
+    let at-u8-to-usize2 = at-step .before .before in
+    let at-size = at-u8-to-usize2 .before in
+    let at-u8-to-usize = at-size .before .before .before in
+    let at-column = at-u8-to-usize .before .before .before .before .before in
     let at-rule-of = at-column .before .before .before in
     let start = at-rule-of .before .before .before .before .before .before in
-    step-done (start .args .first) (start .args .h) (start .args .costs .now) (start .pre .0) (ap (λ (r : Rule). r .p) (at-rule-of .rule-of .ensures)) (at-column .column .ensures .0) (at-column .column .ensures .1 .0) (at-column .column .ensures .1 .1) (at-index .index .ensures .0) (at-size .size .ensures .0) (at-index2 .index2 .ensures .0 ∙ ap (λ (r : Rule). r .k) (at-rule-of .rule-of .ensures)) (ap (λ (r : Rule). r .greatest) (at-rule-of .rule-of .ensures)) (start .args .cells .now) (at-step .step .ensures)
+    step-done (start .args .first) (start .args .h) (start .args .costs .now) (start .pre .0) (ap (λ (r : Rule). r .p) (at-rule-of .rule-of .ensures)) (at-column .column .ensures .0) (at-column .column .ensures .1 .0) (at-column .column .ensures .1 .1) (at-u8-to-usize .u8-to-usize .ensures .0) (at-size .size .ensures .0) (at-u8-to-usize2 .u8-to-usize2 .ensures .0 ∙ ap (λ (r : Rule). r .k) (at-rule-of .rule-of .ensures)) (ap (λ (r : Rule). r .greatest) (at-rule-of .rule-of .ensures)) (start .args .cells .now) (at-step .step .ensures)
 
 pub advance-spec : {M : Type 1} → statement M
 advance-spec =
@@ -63,9 +63,9 @@ advance-spec =
     (tie.spec
     rule-of-requires
     column-requires
-    index-requires
+    u8-to-usize-requires
     size-requires
-    index-requires-2
+    u8-to-usize-requires-2
     step-requires
     same-length
     same-length-2

@@ -22,37 +22,37 @@ Inv-loop first weights costs back cells₀ table₀ d w i₀ cells table i = (1 
 abbrev μ-loop : tie.MeasureT-loop
 μ-loop first weights costs back cells₀ table₀ d w i₀ cells table i = length weights - i
 
-cells-requires : tie.Need-cells-requires Inv-loop μ-loop
-cells-requires c κs = search needs
+cell-count-requires : tie.Need-cell-count-requires Inv-loop μ-loop
+cell-count-requires c κs = search needs
 
 slice-relend-prefix-begin : tie.Need-slice-relend-prefix-begin Inv-loop μ-loop
 slice-relend-prefix-begin c =
     let start = c .before .before .before .before .before in
-    omega (arith, part-room 0 (length (start .args .weights .now)) (c .cells .result) (omega (arith, start .pre .0 .two)), ap (λ y. (length (start .args .weights .now)) * y) (c .cells .ensures .0), start .pre .1 .1)
+    omega (arith, part-room 0 (length (start .args .weights .now)) (c .cell-count .result) (omega (arith, start .pre .0 .two)), ap (λ y. (length (start .args .weights .now)) * y) (c .cell-count .ensures .0), start .pre .1 .1)
 
 slice-aggregate-begin : tie.Need-slice-aggregate-begin Inv-loop μ-loop
 slice-aggregate-begin c =
-    let at-cells = c .before in
-    let start = at-cells .before .before .before .before .before in
-    simp length-take (omega (arith, part-room 0 (length (start .args .weights .now)) (at-cells .cells .result) (omega (arith, start .pre .0 .two)), ap (λ y. (length (start .args .weights .now)) * y) (at-cells .cells .ensures .0), start .pre .1 .1))
+    let at-cell-count = c .before in
+    let start = at-cell-count .before .before .before .before .before in
+    simp length-take (omega (arith, part-room 0 (length (start .args .weights .now)) (at-cell-count .cell-count .result) (omega (arith, start .pre .0 .two)), ap (λ y. (length (start .args .weights .now)) * y) (at-cell-count .cell-count .ensures .0), start .pre .1 .1))
 
 begin-requires : tie.Need-begin-requires Inv-loop μ-loop
 begin-requires c κs =
-    let at-cells = c .before in
-    let start = at-cells .before .before .before .before .before in
-    simp length-take (omega (arith, part-room 0 (length (start .args .weights .now)) (at-cells .cells .result) (omega (arith, start .pre .0 .two)), ap (λ y. (length (start .args .weights .now)) * y) (at-cells .cells .ensures .0), start .pre .1 .1, at-cells .cells .ensures .0, cells-some (start .args .first) (start .args .weights .now) (start .args .costs .now) (start .pre .0)))
+    let at-cell-count = c .before in
+    let start = at-cell-count .before .before .before .before .before in
+    simp length-take (omega (arith, part-room 0 (length (start .args .weights .now)) (at-cell-count .cell-count .result) (omega (arith, start .pre .0 .two)), ap (λ y. (length (start .args .weights .now)) * y) (at-cell-count .cell-count .ensures .0), start .pre .1 .1, at-cell-count .cell-count .ensures .0, cells-some (start .args .first) (start .args .weights .now) (start .args .costs .now) (start .pre .0)))
 
 loop-holds : tie.Need-loop-holds Inv-loop μ-loop
 loop-holds c =
     let at-begin = c .before .before in
-    let at-cells = at-begin .before .before in
-    let start = at-cells .before .before .before .before .before in
+    let at-cell-count = at-begin .before .before in
+    let start = at-cell-count .before .before .before .before .before in
     let f : ℕ = start .args .first in
     let ws : List ℕ = start .args .weights .now in
     let cs : List ℕ = start .args .costs .now in
     let D = start .pre .0 in
-    let w : ℕ = at-cells .cells .result in
-    let we : w ≡ cellCount f = at-cells .cells .ensures .0 in
+    let w : ℕ = at-cell-count .cell-count .result in
+    let we : w ≡ cellCount f = at-cell-count .cell-count .ensures .0 in
     let wt : length ws * w ≡ length ws * cellCount f = ap (λ y. length ws * y) we in
     let t : List ℕ = start .args .table .now in
     let h : w ≤ length t = omega (arith, part-room 0 (length ws) w (omega (arith, D .two)), wt, start .pre .1 .1) in
@@ -62,29 +62,29 @@ loop-holds c =
 mul-b : tie.Need-mul-b Inv-loop μ-loop
 mul-b c =
     let at-loop = c .before in
-    let at-cells = at-loop .before .before .before .before .before in
-    let start = at-cells .before .before .before .before .before in
-    omega (arith, part-room (at-loop .loop .i) (length (start .args .weights .now)) (at-cells .cells .result) (let u : (at-loop .loop .i) < (length (start .args .weights .now)) = omega (arith, c .loop-test .taken, at-loop .loop .inv .1 .1 .0 .0) in u), ap (λ y. (length (start .args .weights .now)) * y) (at-cells .cells .ensures .0), ready-sizes (start .args .first) (start .args .weights .now) (start .args .costs .now) (start .pre .0))
+    let at-cell-count = at-loop .before .before .before .before .before in
+    let start = at-cell-count .before .before .before .before .before in
+    omega (arith, part-room (at-loop .loop .i) (length (start .args .weights .now)) (at-cell-count .cell-count .result) (let u : (at-loop .loop .i) < (length (start .args .weights .now)) = omega (arith, c .loop-test .taken, at-loop .loop .inv .1 .1 .0 .0) in u), ap (λ y. (length (start .args .weights .now)) * y) (at-cell-count .cell-count .ensures .0), ready-sizes (start .args .first) (start .args .weights .now) (start .args .costs .now) (start .pre .0))
 
 sub-a : tie.Need-sub-a Inv-loop μ-loop
 sub-a c =
     let at-loop = c .before in
-    let at-cells = at-loop .before .before .before .before .before in
-    omega (arith, past-first (at-loop .loop .i) (at-cells .cells .result) (λ (z : (at-loop .loop .i) ≡ 0). omega (arith, at-loop .loop .inv .0)))
+    let at-cell-count = at-loop .before .before .before .before .before in
+    omega (arith, past-first (at-loop .loop .i) (at-cell-count .cell-count .result) (λ (z : (at-loop .loop .i) ≡ 0). omega (arith, at-loop .loop .inv .0)))
 
 add-e : tie.Need-add-e Inv-loop μ-loop
 add-e c =
     let at-loop = c .before in
-    let at-cells = at-loop .before .before .before .before .before in
-    let start = at-cells .before .before .before .before .before in
-    omega (arith, part-room (at-loop .loop .i) (length (start .args .weights .now)) (at-cells .cells .result) (let u : (at-loop .loop .i) < (length (start .args .weights .now)) = omega (arith, c .loop-test .taken, at-loop .loop .inv .1 .1 .0 .0) in u), ap (λ y. (length (start .args .weights .now)) * y) (at-cells .cells .ensures .0), ready-sizes (start .args .first) (start .args .weights .now) (start .args .costs .now) (start .pre .0))
+    let at-cell-count = at-loop .before .before .before .before .before in
+    let start = at-cell-count .before .before .before .before .before in
+    omega (arith, part-room (at-loop .loop .i) (length (start .args .weights .now)) (at-cell-count .cell-count .result) (let u : (at-loop .loop .i) < (length (start .args .weights .now)) = omega (arith, c .loop-test .taken, at-loop .loop .inv .1 .1 .0 .0) in u), ap (λ y. (length (start .args .weights .now)) * y) (at-cell-count .cell-count .ensures .0), ready-sizes (start .args .first) (start .args .weights .now) (start .args .costs .now) (start .pre .0))
 
 mul-copy : tie.Need-mul-copy Inv-loop μ-loop
 mul-copy c =
     let at-loop = c .before in
-    let at-cells = at-loop .before .before .before .before .before in
-    let start = at-cells .before .before .before .before .before in
-    omega (arith, part-room (at-loop .loop .i) (length (start .args .weights .now)) (at-cells .cells .result) (let u : (at-loop .loop .i) < (length (start .args .weights .now)) = omega (arith, c .loop-test .taken, at-loop .loop .inv .1 .1 .0 .0) in u), ap (λ y. (length (start .args .weights .now)) * y) (at-cells .cells .ensures .0), ready-sizes (start .args .first) (start .args .weights .now) (start .args .costs .now) (start .pre .0), past-first (at-loop .loop .i) (at-cells .cells .result) (λ (z : (at-loop .loop .i) ≡ 0). omega (arith, at-loop .loop .inv .0)))
+    let at-cell-count = at-loop .before .before .before .before .before in
+    let start = at-cell-count .before .before .before .before .before in
+    omega (arith, part-room (at-loop .loop .i) (length (start .args .weights .now)) (at-cell-count .cell-count .result) (let u : (at-loop .loop .i) < (length (start .args .weights .now)) = omega (arith, c .loop-test .taken, at-loop .loop .inv .1 .1 .0 .0) in u), ap (λ y. (length (start .args .weights .now)) * y) (at-cell-count .cell-count .ensures .0), ready-sizes (start .args .first) (start .args .weights .now) (start .args .costs .now) (start .pre .0), past-first (at-loop .loop .i) (at-cell-count .cell-count .result) (λ (z : (at-loop .loop .i) ≡ 0). omega (arith, at-loop .loop .inv .0)))
 
 sub-copy : tie.Need-sub-copy Inv-loop μ-loop
 sub-copy c = search needs
@@ -96,20 +96,20 @@ part-copy-end : tie.Need-part-copy-end Inv-loop μ-loop
 part-copy-end c =
     let at-loop-test = c .before in
     let at-loop = at-loop-test .before in
-    let at-cells = at-loop .before .before .before .before .before in
-    let start = at-cells .before .before .before .before .before in
-    omega (arith, part-room (at-loop .loop .i) (length (start .args .weights .now)) (at-cells .cells .result) (let u : (at-loop .loop .i) < (length (start .args .weights .now)) = omega (arith, at-loop-test .loop-test .taken, at-loop .loop .inv .1 .1 .0 .0) in u), ap (λ y. (length (start .args .weights .now)) * y) (at-cells .cells .ensures .0), ready-sizes (start .args .first) (start .args .weights .now) (start .args .costs .now) (start .pre .0), at-loop .loop .inv .1 .1 .1 .1 .0)
+    let at-cell-count = at-loop .before .before .before .before .before in
+    let start = at-cell-count .before .before .before .before .before in
+    omega (arith, part-room (at-loop .loop .i) (length (start .args .weights .now)) (at-cell-count .cell-count .result) (let u : (at-loop .loop .i) < (length (start .args .weights .now)) = omega (arith, at-loop-test .loop-test .taken, at-loop .loop .inv .1 .1 .0 .0) in u), ap (λ y. (length (start .args .weights .now)) * y) (at-cell-count .cell-count .ensures .0), ready-sizes (start .args .first) (start .args .weights .now) (start .args .costs .now) (start .pre .0), at-loop .loop .inv .1 .1 .1 .1 .0)
 
 copy-requires : tie.Need-copy-requires Inv-loop μ-loop
 copy-requires c κs =
     let at-loop-test = c .before .before .before in
     let at-loop = at-loop-test .before in
-    let at-cells = at-loop .before .before .before .before .before in
-    let start = at-cells .before .before .before .before .before in
+    let at-cell-count = at-loop .before .before .before .before .before in
+    let start = at-cell-count .before .before .before .before .before in
     let f : ℕ = start .args .first in
     let ws : List ℕ = start .args .weights .now in
-    let w : ℕ = at-cells .cells .result in
-    let we : w ≡ cellCount f = at-cells .cells .ensures .0 in
+    let w : ℕ = at-cell-count .cell-count .result in
+    let we : w ≡ cellCount f = at-cell-count .cell-count .ensures .0 in
     let i : ℕ = at-loop .loop .i in
     let t : List ℕ = at-loop .loop .table in
     let inv = at-loop .loop .inv .1 .1 in
@@ -133,9 +133,9 @@ mul-turn : tie.Need-mul-turn Inv-loop μ-loop
 mul-turn c =
     let at-loop-test = c .before .before .before .before .before .before .before .before in
     let at-loop = at-loop-test .before in
-    let at-cells = at-loop .before .before .before .before .before in
-    let start = at-cells .before .before .before .before .before in
-    omega (arith, part-room (at-loop .loop .i) (length (start .args .weights .now)) (at-cells .cells .result) (let u : (at-loop .loop .i) < (length (start .args .weights .now)) = omega (arith, at-loop-test .loop-test .taken, at-loop .loop .inv .1 .1 .0 .0) in u), ap (λ y. (length (start .args .weights .now)) * y) (at-cells .cells .ensures .0), ready-sizes (start .args .first) (start .args .weights .now) (start .args .costs .now) (start .pre .0))
+    let at-cell-count = at-loop .before .before .before .before .before in
+    let start = at-cell-count .before .before .before .before .before in
+    omega (arith, part-room (at-loop .loop .i) (length (start .args .weights .now)) (at-cell-count .cell-count .result) (let u : (at-loop .loop .i) < (length (start .args .weights .now)) = omega (arith, at-loop-test .loop-test .taken, at-loop .loop .inv .1 .1 .0 .0) in u), ap (λ y. (length (start .args .weights .now)) * y) (at-cell-count .cell-count .ensures .0), ready-sizes (start .args .first) (start .args .weights .now) (start .args .costs .now) (start .pre .0))
 
 sub-turn : tie.Need-sub-turn Inv-loop μ-loop
 sub-turn c = search needs
@@ -147,9 +147,9 @@ part-turn-end : tie.Need-part-turn-end Inv-loop μ-loop
 part-turn-end c =
     let at-loop-test = c .before .before .before .before .before .before .before .before in
     let at-loop = at-loop-test .before in
-    let at-cells = at-loop .before .before .before .before .before in
-    let start = at-cells .before .before .before .before .before in
-    omega (arith, part-room (at-loop .loop .i) (length (start .args .weights .now)) (at-cells .cells .result) (let u : (at-loop .loop .i) < (length (start .args .weights .now)) = omega (arith, at-loop-test .loop-test .taken, at-loop .loop .inv .1 .1 .0 .0) in u), ap (λ y. (length (start .args .weights .now)) * y) (at-cells .cells .ensures .0), ready-sizes (start .args .first) (start .args .weights .now) (start .args .costs .now) (start .pre .0), at-loop .loop .inv .1 .1 .1 .1 .0)
+    let at-cell-count = at-loop .before .before .before .before .before in
+    let start = at-cell-count .before .before .before .before .before in
+    omega (arith, part-room (at-loop .loop .i) (length (start .args .weights .now)) (at-cell-count .cell-count .result) (let u : (at-loop .loop .i) < (length (start .args .weights .now)) = omega (arith, at-loop-test .loop-test .taken, at-loop .loop .inv .1 .1 .0 .0) in u), ap (λ y. (length (start .args .weights .now)) * y) (at-cell-count .cell-count .ensures .0), ready-sizes (start .args .first) (start .args .weights .now) (start .args .costs .now) (start .pre .0), at-loop .loop .inv .1 .1 .1 .1 .0)
 
 turn-requires : tie.Need-turn-requires Inv-loop μ-loop
 turn-requires c κs =
@@ -157,13 +157,13 @@ turn-requires c κs =
     let at-copy = at-order .before .before .before in
     let at-loop-test = at-copy .before .before .before .before in
     let at-loop = at-loop-test .before in
-    let at-cells = at-loop .before .before .before .before .before in
-    let start = at-cells .before .before .before .before .before in
+    let at-cell-count = at-loop .before .before .before .before .before in
+    let start = at-cell-count .before .before .before .before .before in
     let f : ℕ = start .args .first in
     let ws : List ℕ = start .args .weights .now in
     let D = start .pre .0 in
-    let w : ℕ = at-cells .cells .result in
-    let we : w ≡ cellCount f = at-cells .cells .ensures .0 in
+    let w : ℕ = at-cell-count .cell-count .result in
+    let we : w ≡ cellCount f = at-cell-count .cell-count .ensures .0 in
     let i : ℕ = at-loop .loop .i in
     let t : List ℕ = at-loop .loop .table in
     let inv = at-loop .loop .inv .1 .1 in
@@ -188,14 +188,14 @@ loop-again c =
     let at-copy = at-order .before .before .before in
     let at-loop-test = at-copy .before .before .before .before in
     let at-loop = at-loop-test .before in
-    let at-cells = at-loop .before .before .before .before .before in
-    let start = at-cells .before .before .before .before .before in
+    let at-cell-count = at-loop .before .before .before .before .before in
+    let start = at-cell-count .before .before .before .before .before in
     let f : ℕ = start .args .first in
     let ws : List ℕ = start .args .weights .now in
     let cs : List ℕ = start .args .costs .now in
     let D = start .pre .0 in
-    let w : ℕ = at-cells .cells .result in
-    let we : w ≡ cellCount f = at-cells .cells .ensures .0 in
+    let w : ℕ = at-cell-count .cell-count .result in
+    let we : w ≡ cellCount f = at-cell-count .cell-count .ensures .0 in
     let i : ℕ = at-loop .loop .i in
     let t : List ℕ = at-loop .loop .table in
     let inv = at-loop .loop .inv .1 .1 in
@@ -214,21 +214,21 @@ same-length c = search needs
 same-length-2 : tie.Need-same-length-2 Inv-loop μ-loop
 same-length-2 c =
     let at-loop = c .before in
-    let at-cells = at-loop .before .before .before .before .before in
-    let start = at-cells .before .before .before .before .before in
-    omega (arith, at-loop .loop .inv .1 .1 .1 .1 .0, start .pre .1 .1, ap (λ y. (length (start .args .weights .now)) * y) (at-cells .cells .ensures .0))
+    let at-cell-count = at-loop .before .before .before .before .before in
+    let start = at-cell-count .before .before .before .before .before in
+    omega (arith, at-loop .loop .inv .1 .1 .1 .1 .0, start .pre .1 .1, ap (λ y. (length (start .args .weights .now)) * y) (at-cell-count .cell-count .ensures .0))
 
 returns : tie.Need-returns Inv-loop μ-loop
 returns c =
     let at-loop = c .before in
-    let at-cells = at-loop .before .before .before .before .before in
-    let start = at-cells .before .before .before .before .before in
+    let at-cell-count = at-loop .before .before .before .before .before in
+    let start = at-cell-count .before .before .before .before .before in
     let f : ℕ = start .args .first in
     let ws : List ℕ = start .args .weights .now in
     let cs : List ℕ = start .args .costs .now in
     let D = start .pre .0 in
-    let w : ℕ = at-cells .cells .result in
-    let we : w ≡ cellCount f = at-cells .cells .ensures .0 in
+    let w : ℕ = at-cell-count .cell-count .result in
+    let we : w ≡ cellCount f = at-cell-count .cell-count .ensures .0 in
     let i : ℕ = at-loop .loop .i in
     let inv = at-loop .loop .inv .1 .1 in
     let e : i ≡ length ws = omega (arith, c .loop-test .left, at-loop .loop .inv .1 .0, inv .0 .0) in
@@ -240,7 +240,7 @@ fill-spec =
     (tie.spec
     Inv-loop
     μ-loop
-    cells-requires
+    cell-count-requires
     slice-relend-prefix-begin
     slice-aggregate-begin
     begin-requires

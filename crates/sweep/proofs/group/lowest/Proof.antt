@@ -18,27 +18,27 @@ abbrev μ-loop : tie.MeasureT-loop
 loop-holds : tie.Need-loop-holds Inv-loop μ-loop
 loop-holds c = search needs
 
-mul-lower : tie.Need-mul-lower Inv-loop μ-loop
-mul-lower c =
+mul-min-u8 : tie.Need-mul-min-u8 Inv-loop μ-loop
+mul-min-u8 c =
     let at-loop = c .before in
     let start = at-loop .before .before in
     omega (arith, part-room (at-loop .loop .n) (start .args .d) (start .args .q) (c .loop-test .taken), start .pre)
 
-add-lower : tie.Need-add-lower Inv-loop μ-loop
-add-lower c =
+add-min-u8 : tie.Need-add-min-u8 Inv-loop μ-loop
+add-min-u8 c =
     let at-loop = c .before in
     let start = at-loop .before .before in
     omega (arith, part-room (at-loop .loop .n) (start .args .d) (start .args .q) (c .loop-test .taken), start .pre)
 
-shared-slice-read-lower : tie.Need-shared-slice-read-lower Inv-loop μ-loop
-shared-slice-read-lower c =
+shared-slice-read-min-u8 : tie.Need-shared-slice-read-min-u8 Inv-loop μ-loop
+shared-slice-read-min-u8 c =
     let at-loop-test = c .before in
     let at-loop = at-loop-test .before in
     let start = at-loop .before .before in
     omega (arith, part-room (at-loop .loop .n) (start .args .d) (start .args .q) (at-loop-test .loop-test .taken), start .pre)
 
-lower-requires : tie.Need-lower-requires Inv-loop μ-loop
-lower-requires c κs = search needs
+min-u8-requires : tie.Need-min-u8-requires Inv-loop μ-loop
+min-u8-requires c κs = search needs
 
 add-n : tie.Need-add-n Inv-loop μ-loop
 add-n c = search needs
@@ -50,7 +50,7 @@ loop-again : tie.Need-loop-again Inv-loop μ-loop
 loop-again c =
     let at-loop = c .before .before .before in
     let start = at-loop .before .before in
-    (omega arith, lowest-turn (sentOf (start .args .sent .now) (start .args .q) (start .args .a)) (at-loop .loop .n) (at-loop .loop .inv .1) refl (c .lower .ensures))
+    (omega arith, lowest-turn (sentOf (start .args .sent .now) (start .args .q) (start .args .a)) (at-loop .loop .n) (at-loop .loop .inv .1) refl (c .min-u8 .ensures))
 
 returns : tie.Need-returns Inv-loop μ-loop
 returns c =
@@ -65,10 +65,10 @@ lowest-spec =
     Inv-loop
     μ-loop
     loop-holds
-    mul-lower
-    add-lower
-    shared-slice-read-lower
-    lower-requires
+    mul-min-u8
+    add-min-u8
+    shared-slice-read-min-u8
+    min-u8-requires
     add-n
     loop-less
     loop-again

@@ -48,8 +48,8 @@ shared-slice-read-join-of-2 c =
 join-of-requires : tie.Need-join-of-requires Inv-loop μ-loop
 join-of-requires c κs = search needs
 
-least-requires : tie.Need-least-requires Inv-loop μ-loop
-least-requires c κs = search needs
+min-u32-requires : tie.Need-min-u32-requires Inv-loop μ-loop
+min-u32-requires c κs = search needs
 
 add-s : tie.Need-add-s Inv-loop μ-loop
 add-s c = search needs
@@ -61,7 +61,7 @@ loop-again : tie.Need-loop-again Inv-loop μ-loop
 loop-again c =
     let at-loop = c .before .before .before .before .before .before in
     let start = at-loop .before .before .before in
-    (omega arith, least-turn (λ s. joinOf (start .args .greatest) (getD (start .args .f .now) s 0) (getD (start .args .g .now) (xor s (start .args .t)) 0)) (at-loop .loop .s) (at-loop .loop .inv .1) (cc) (c .least .ensures))
+    (omega arith, least-turn (λ s. joinOf (start .args .greatest) (getD (start .args .f .now) s 0) (getD (start .args .g .now) (xor s (start .args .t)) 0)) (at-loop .loop .s) (at-loop .loop .inv .1) (cc) (c .min-u32 .ensures))
 
 returns : tie.Need-returns Inv-loop μ-loop
 unfolding acrossAt
@@ -87,7 +87,7 @@ across-spec =
     mul-join-of-2
     shared-slice-read-join-of-2
     join-of-requires
-    least-requires
+    min-u32-requires
     add-s
     loop-less
     loop-again

@@ -59,8 +59,8 @@ across-requires c κs =
     let q = start .args .q in
     (start .pre .0, (part-length (start .args .after .now) ((at-loop .loop .j) * q) q (omega (arith, start .pre .1 .1 .1, part-room (at-loop .loop .j) (start .args .n) q (at-loop-test .loop-test .taken))) ∙ sym (start .pre .1 .0), omega (arith, start .pre .1 .0, start .pre .1 .1 .0)))
 
-least-requires : tie.Need-least-requires Inv-loop μ-loop
-least-requires c κs = search needs
+min-u32-requires : tie.Need-min-u32-requires Inv-loop μ-loop
+min-u32-requires c κs = search needs
 
 add-j : tie.Need-add-j Inv-loop μ-loop
 add-j c = search needs
@@ -78,7 +78,7 @@ loop-again c =
     let f = start .args .f .now in
     let t = start .args .t in
     let q = start .args .q in
-    (omega arith, least-turn (λ j. acrossAt greatest f (part after (j * q) q) t) (at-loop .loop .j) (at-loop .loop .inv .1) (at-across .across .ensures .0 ∙ ap (λ l. acrossAt greatest f l t) (cut-is after ((at-loop .loop .j) * q) q)) (c .least .ensures))
+    (omega arith, least-turn (λ j. acrossAt greatest f (part after (j * q) q) t) (at-loop .loop .j) (at-loop .loop .inv .1) (at-across .across .ensures .0 ∙ ap (λ l. acrossAt greatest f l t) (cut-is after ((at-loop .loop .j) * q) q)) (c .min-u32 .ensures))
 
 returns : tie.Need-returns Inv-loop μ-loop
 unfolding besideAt
@@ -106,7 +106,7 @@ beside-spec =
     part-across-start
     part-across-end
     across-requires
-    least-requires
+    min-u32-requires
     add-j
     loop-less
     loop-again

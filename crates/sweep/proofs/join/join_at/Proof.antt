@@ -65,8 +65,8 @@ beside-requires c κs =
     let k = start .args .k in
     let e = part-length (start .args .before .now) ((at-loop .loop .i) * q) q (omega (arith, start .pre .1 .1 .0, part-room (at-loop .loop .i) (k + 1) q (omega arith))) in (sums-same (sym e) (start .pre .0), (e, (start .pre .1 .0 .0, (let l : k - (at-loop .loop .i) + 1 ≤ k + 1 = omega arith in omega (arith, mul-le-mul-right q l, start .pre .1 .1 .1)))))
 
-least-requires : tie.Need-least-requires Inv-loop μ-loop
-least-requires c κs = search needs
+min-u32-requires : tie.Need-min-u32-requires Inv-loop μ-loop
+min-u32-requires c κs = search needs
 
 add-i : tie.Need-add-i Inv-loop μ-loop
 add-i c =
@@ -87,7 +87,7 @@ loop-again c =
     let t = start .args .t in
     let k = start .args .k in
     let q = start .args .q in
-    (omega arith, least-turn (λ i. besideAt greatest q (part before (i * q) q) after (k - i + 1) t) (at-loop .loop .i) (at-loop .loop .inv .1) (at-beside .beside .ensures .0 ∙ ap (λ l. besideAt greatest q l after (k - (at-loop .loop .i) + 1) t) (cut-is before ((at-loop .loop .i) * q) q)) (c .least .ensures))
+    (omega arith, least-turn (λ i. besideAt greatest q (part before (i * q) q) after (k - i + 1) t) (at-loop .loop .i) (at-loop .loop .inv .1) (at-beside .beside .ensures .0 ∙ ap (λ l. besideAt greatest q l after (k - (at-loop .loop .i) + 1) t) (cut-is before ((at-loop .loop .i) * q) q)) (c .min-u32 .ensures))
 
 returns : tie.Need-returns Inv-loop μ-loop
 unfolding joinAt
@@ -117,7 +117,7 @@ join-at-spec =
     part-beside-end
     add-beside
     beside-requires
-    least-requires
+    min-u32-requires
     add-i
     loop-less
     loop-again

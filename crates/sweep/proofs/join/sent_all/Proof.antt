@@ -119,11 +119,11 @@ part-sent-row-end-2 c =
     let start = at-loop .before .before .before .before .before in
     omega (arith, both-rooms (at-loop .loop .n) (length (start .args .shifts .now)) (((start .args .k) + 1) * (start .args .q)) (at-loop-test .loop-test .taken), start .pre .of-after)
 
-shared-slice-read-index : tie.Need-shared-slice-read-index Inv-loop μ-loop
-shared-slice-read-index c = search needs
+shared-slice-read-u8-to-usize : tie.Need-shared-slice-read-u8-to-usize Inv-loop μ-loop
+shared-slice-read-u8-to-usize c = search needs
 
-index-requires : tie.Need-index-requires Inv-loop μ-loop
-index-requires c κs = search needs
+u8-to-usize-requires : tie.Need-u8-to-usize-requires Inv-loop μ-loop
+u8-to-usize-requires c κs = search needs
 
 sub-sent-row-3 : tie.Need-sub-sent-row-3 Inv-loop μ-loop
 sub-sent-row-3 c = search needs
@@ -140,8 +140,8 @@ part-sent-row-end-3 c =
 
 sent-row-requires : tie.Need-sent-row-requires Inv-loop μ-loop
 sent-row-requires c κs =
-    let at-index = c .before in
-    let at-loop-test = at-index .before .before .before .before in
+    let at-u8-to-usize = c .before in
+    let at-loop-test = at-u8-to-usize .before .before .before .before in
     let at-loop = at-loop-test .before in
     let start = at-loop .before .before .before .before .before in
     let shifts = start .args .shifts .now in
@@ -152,8 +152,8 @@ sent-row-requires c κs =
     let l : (at-loop .loop .n) < (length shifts) = at-loop-test .loop-test .taken in (
       start .pre .sums,
       (
-        (omega (arith, at-index .index .ensures, start .pre .below (at-loop .loop .n) l), (part-length (at-loop .loop .out) ((at-loop .loop .n) * q) q (omega (arith, part-room (at-loop .loop .n) (length shifts) q (at-loop-test .loop-test .taken), start .pre .of-out, at-loop .loop .inv .1 .0)), start .pre .counts)),
-        ((part-length before ((at-loop .loop .n) * ((k + 1) * q)) ((k + 1) * q) (omega (arith, both-rooms (at-loop .loop .n) (length shifts) ((k + 1) * q) (at-loop-test .loop-test .taken), start .pre .of-before)), part-length after (((length shifts) - 1 - (at-loop .loop .n)) * ((k + 1) * q)) ((k + 1) * q) (omega (arith, both-rooms (at-loop .loop .n) (length shifts) ((k + 1) * q) (at-loop-test .loop-test .taken), start .pre .of-after))), row-bytes (start .args .greatest) q k before after shifts (at-loop .loop .n) (at-index .index .ensures .0) (start .pre .bytes (at-loop .loop .n) l)),
+        (omega (arith, at-u8-to-usize .u8-to-usize .ensures, start .pre .below (at-loop .loop .n) l), (part-length (at-loop .loop .out) ((at-loop .loop .n) * q) q (omega (arith, part-room (at-loop .loop .n) (length shifts) q (at-loop-test .loop-test .taken), start .pre .of-out, at-loop .loop .inv .1 .0)), start .pre .counts)),
+        ((part-length before ((at-loop .loop .n) * ((k + 1) * q)) ((k + 1) * q) (omega (arith, both-rooms (at-loop .loop .n) (length shifts) ((k + 1) * q) (at-loop-test .loop-test .taken), start .pre .of-before)), part-length after (((length shifts) - 1 - (at-loop .loop .n)) * ((k + 1) * q)) ((k + 1) * q) (omega (arith, both-rooms (at-loop .loop .n) (length shifts) ((k + 1) * q) (at-loop-test .loop-test .taken), start .pre .of-after))), row-bytes (start .args .greatest) q k before after shifts (at-loop .loop .n) (at-u8-to-usize .u8-to-usize .ensures .0) (start .pre .bytes (at-loop .loop .n) l)),
       ),
     )
 
@@ -169,8 +169,8 @@ loop-less c = search needs
 loop-again : tie.Need-loop-again Inv-loop μ-loop
 loop-again c =
     let at-sent-row = c .before .before in
-    let at-index = at-sent-row .before .before in
-    let at-loop-test = at-index .before .before .before .before in
+    let at-u8-to-usize = at-sent-row .before .before in
+    let at-loop-test = at-u8-to-usize .before .before .before .before in
     let at-loop = at-loop-test .before in
     let start = at-loop .before .before .before .before .before in
     let shifts = start .args .shifts .now in
@@ -182,7 +182,7 @@ loop-again c =
       omega (arith, at-loop-test .loop-test .taken),
       (
         omega (arith, at-loop .loop .inv .1 .0),
-        block-more (sentRow greatest q k before after shifts) q (λ j. length-tab _ q) (start .args .out .now) (at-loop .loop .out) (at-loop .loop .n) (at-loop .loop .inv .1 .1) (row-is greatest q k before after shifts (at-loop .loop .n) (at-index .index .ensures .0) (at-sent-row .sent-row .ensures)),
+        block-more (sentRow greatest q k before after shifts) q (λ j. length-tab _ q) (start .args .out .now) (at-loop .loop .out) (at-loop .loop .n) (at-loop .loop .inv .1 .1) (row-is greatest q k before after shifts (at-loop .loop .n) (at-u8-to-usize .u8-to-usize .ensures .0) (at-sent-row .sent-row .ensures)),
       ),
     )
 
@@ -226,8 +226,8 @@ sent-all-spec =
     sub-sent-row-2
     part-sent-row-start-2
     part-sent-row-end-2
-    shared-slice-read-index
-    index-requires
+    shared-slice-read-u8-to-usize
+    u8-to-usize-requires
     sub-sent-row-3
     part-sent-row-start-3
     part-sent-row-end-3

@@ -8,7 +8,7 @@ use lib.ListN.{length, drop, length-set}
 use Rattle.trellis.specs.Lists.{tab}
 use Rattle.trellis.specs.Field.{xor}
 use Rattle.sweep.specs.inner.Joins.{joinAt}
-use Rattle.sweep.proofs.Laws.{tab-turn, tab-end}
+use Rattle.sweep.proofs.Laws.{tab-turn, tab-end, byte-value}
 use Rattle.sweep.proofs.join.sent_row.Statement.{statement}
 use Rattle.sweep.proofs.join.sent_row.Tie as tie
 
@@ -31,13 +31,8 @@ join-at-requires c κs =
     let start = at-loop .before .before .before .before in
     (start .pre .0, ((rw (c .plus .ensures) (start .pre .0 .sum (at-loop .loop .a) (start .args .s) (omega (arith, start .pre .1 .0 .1 .0, at-loop-test .loop-test .taken, at-loop .loop .inv)) (start .pre .1 .0 .0)), start .pre .1 .0 .1 .1), start .pre .1 .1 .0))
 
-byte-requires : tie.Need-byte-requires Inv-loop μ-loop
-byte-requires c κs =
-    let at-plus = c .before in
-    let at-loop-test = at-plus .before in
-    let at-loop = at-loop-test .before in
-    let start = at-loop .before .before .before .before in
-    omega (arith, c .join-at .ensures, ap (joinAt (start .args .greatest) (start .args .q) (start .args .k) (start .args .before .now) (start .args .after .now)) (at-plus .plus .ensures), start .pre .1 .1 .1 .small (at-loop .loop .a) (omega (arith, start .pre .1 .0 .1 .0, at-loop-test .loop-test .taken, at-loop .loop .inv)))
+u32-to-u8-requires : tie.Need-u32-to-u8-requires Inv-loop μ-loop
+u32-to-u8-requires c κs = search needs
 
 slice-write-out : tie.Need-slice-write-out Inv-loop μ-loop
 slice-write-out c = search needs
@@ -59,7 +54,8 @@ loop-again c =
     let greatest = start .args .greatest in
     let k = start .args .k in
     let q = start .args .q in
-    (omega arith, (simp length-set (omega arith), tab-turn (λ a. (joinAt greatest q k before after) (xor a (start .args .s))) (at-loop .loop .out) (start .args .out .now) (at-loop .loop .a) (omega arith) (at-loop .loop .inv .1 .1) (c .byte .ensures ∙ at-join-at .join-at .ensures .0 ∙ ap (joinAt greatest q k before after) (at-plus .plus .ensures))))
+    let h = start .pre .1 .1 .1 .small (at-loop .loop .a) (omega (arith, start .pre .1 .0 .1 .0, at-plus .before .loop-test .taken, at-loop .loop .inv)) in
+    (omega arith, (simp length-set (omega arith), tab-turn (λ a. (joinAt greatest q k before after) (xor a (start .args .s))) (at-loop .loop .out) (start .args .out .now) (at-loop .loop .a) (omega arith) (at-loop .loop .inv .1 .1) (byte-value (at-join-at .join-at .ensures .0 ∙ ap (joinAt greatest q k before after) (at-plus .plus .ensures)) h (c .u32-to-u8 .ensures))))
 
 same-length : tie.Need-same-length Inv-loop μ-loop
 same-length c = search needs
@@ -79,7 +75,7 @@ sent-row-spec =
     loop-holds
     plus-requires
     join-at-requires
-    byte-requires
+    u32-to-u8-requires
     slice-write-out
     add-a
     loop-less

@@ -23,8 +23,8 @@ rule-of-requires c κs = search needs
 size-requires : tie.Need-size-requires
 size-requires c κs = search needs
 
-index-requires : tie.Need-index-requires
-index-requires c κs = search needs
+u8-to-usize-requires : tie.Need-u8-to-usize-requires
+u8-to-usize-requires c κs = search needs
 
 slice-relend-prefix-shifts : tie.Need-slice-relend-prefix-shifts
 slice-relend-prefix-shifts c =
@@ -56,8 +56,8 @@ slice-aggregate-sent-all c =
 sent-all-requires : tie.Need-sent-all-requires
 sent-all-requires c κs =
     let at-shifts = c .before .before .before .before in
-    let at-index = at-shifts .before .before in
-    let at-size = at-index .before in
+    let at-u8-to-usize = at-shifts .before .before in
+    let at-size = at-u8-to-usize .before in
     let at-rule-of = at-size .before in
     let at-shared-slice-known2 = at-rule-of .before .before .before .before .before in
     let start = at-shared-slice-known2 .before .before in
@@ -67,7 +67,7 @@ sent-all-requires c κs =
     let D = start .pre .0 in
     let bytes : (i : ℕ) → getD cs i 0 < 256 = λ i. omega (arith, at-shared-slice-known2 .shared-slice-known2 .given i) in
     let eq = at-size .size .ensures .0 in
-    let ek = at-index .index .ensures .0 ∙ ap (λ (r : Rule). r .k) (at-rule-of .rule-of .ensures) in
+    let ek = at-u8-to-usize .u8-to-usize .ensures .0 ∙ ap (λ (r : Rule). r .k) (at-rule-of .rule-of .ensures) in
     let eg = ap (λ (r : Rule). r .greatest) (at-rule-of .rule-of .ensures) in
     let S : List ℕ = shiftsOf (powerOf f) ws cs in
     let sl : length S ≡ length ws = shifts-length f ws cs D in
@@ -91,8 +91,8 @@ groups-requires : tie.Need-groups-requires
 groups-requires c κs =
     let at-sent-all = c .before .before .before .before in
     let at-shifts = at-sent-all .before .before .before .before .before in
-    let at-index = at-shifts .before .before in
-    let at-size = at-index .before in
+    let at-u8-to-usize = at-shifts .before .before in
+    let at-size = at-u8-to-usize .before in
     let at-rule-of = at-size .before in
     let at-shared-slice-known2 = at-rule-of .before .before .before .before .before in
     let start = at-shared-slice-known2 .before .before in
@@ -102,15 +102,15 @@ groups-requires c κs =
     let D = start .pre .0 in
     let bytes : (i : ℕ) → getD cs i 0 < 256 = λ i. omega (arith, at-shared-slice-known2 .shared-slice-known2 .given i) in
     let eq = at-size .size .ensures .0 in
-    let ek = at-index .index .ensures .0 ∙ ap (λ (r : Rule). r .k) (at-rule-of .rule-of .ensures) in
+    let ek = at-u8-to-usize .u8-to-usize .ensures .0 ∙ ap (λ (r : Rule). r .k) (at-rule-of .rule-of .ensures) in
     let eg = ap (λ (r : Rule). r .greatest) (at-rule-of .rule-of .ensures) in
     let S : List ℕ = shiftsOf (powerOf f) ws cs in
     let sl : length S ≡ length ws = shifts-length f ws cs D in
     let es = take-at _ _ (length ws) (ap length (at-shifts .shifts .ensures) ∙ sl) ∙ at-shifts .shifts .ensures in
     let R = rows-are f ws cs D bytes (start .args .before .now) (start .args .after .now) (start .pre .1 .0) eg eq ek es (at-sent-all .sent-all .ensures) in
     let n = rest-length S (start .args .out .now) (length ws) _ ((1 + 2 * mostOf f) * (sizeOf f - 1)) (at-shifts .shifts .ensures) sl refl (start .pre .1 .1 .1) in
-    let m : (1 + 2 * mostOf f) * (sizeOf f - 1) ≡ (at-size .size .result - 1) * (1 + 2 * at-index .index .result) =
-    ap₂ (λ k q. (1 + 2 * k) * (q - 1)) (sym ek) (sym eq) ∙ mul-comm (1 + 2 * at-index .index .result) (at-size .size .result - 1) in (
+    let m : (1 + 2 * mostOf f) * (sizeOf f - 1) ≡ (at-size .size .result - 1) * (1 + 2 * at-u8-to-usize .u8-to-usize .result) =
+    ap₂ (λ k q. (1 + 2 * k) * (q - 1)) (sym ek) (sym eq) ∙ mul-comm (1 + 2 * at-u8-to-usize .u8-to-usize .result) (at-size .size .result - 1) in (
       (omega (arith, at-sent-all .sent-all .kept, start .pre .1 .1 .0, ap (λ y. length ws * y) eq), (omega (arith, D .few), (omega (arith, ek, most-few f), omega (arith, eq, pow-pos (powerOf f))))),
       (sent-fits f ws cs D bytes eq ek _ R, n ∙ m),
     )
@@ -126,8 +126,8 @@ returns c =
     let at-groups = c .before .before in
     let at-sent-all = at-groups .before .before .before .before .before in
     let at-shifts = at-sent-all .before .before .before .before .before in
-    let at-index = at-shifts .before .before in
-    let at-size = at-index .before in
+    let at-u8-to-usize = at-shifts .before .before in
+    let at-size = at-u8-to-usize .before in
     let at-rule-of = at-size .before in
     let at-shared-slice-known2 = at-rule-of .before .before .before .before .before in
     let start = at-shared-slice-known2 .before .before in
@@ -137,7 +137,7 @@ returns c =
     let D = start .pre .0 in
     let bytes : (i : ℕ) → getD cs i 0 < 256 = λ i. omega (arith, at-shared-slice-known2 .shared-slice-known2 .given i) in
     let eq = at-size .size .ensures .0 in
-    let ek = at-index .index .ensures .0 ∙ ap (λ (r : Rule). r .k) (at-rule-of .rule-of .ensures) in
+    let ek = at-u8-to-usize .u8-to-usize .ensures .0 ∙ ap (λ (r : Rule). r .k) (at-rule-of .rule-of .ensures) in
     let eg = ap (λ (r : Rule). r .greatest) (at-rule-of .rule-of .ensures) in
     let S : List ℕ = shiftsOf (powerOf f) ws cs in
     let sl : length S ≡ length ws = shifts-length f ws cs D in
@@ -152,7 +152,7 @@ record-from-spec =
     (tie.spec
     rule-of-requires
     size-requires
-    index-requires
+    u8-to-usize-requires
     slice-relend-prefix-shifts
     slice-aggregate-shifts
     shifts-requires

@@ -8,13 +8,13 @@ use Rattle.sweep.proofs.Swept.{ready-sizes}
 use Rattle.sweep.proofs.record.record_room.Statement.{statement}
 use Rattle.sweep.proofs.record.record_room.Tie as tie
 
-cells-requires : tie.Need-cells-requires
-cells-requires c κs = search needs
+cell-count-requires : tie.Need-cell-count-requires
+cell-count-requires c κs = search needs
 
 mul-n : tie.Need-mul-n
 mul-n c =
     let start = c .before .before .before .before .before .before .before .before in
-    omega (arith, ready-sizes (start .args .first) (start .args .weights .now) (start .args .costs .now) (start .pre .0), c .cells .ensures .0, ap (λ y. (length (start .args .weights .now)) * y) (c .cells .ensures .0))
+    omega (arith, ready-sizes (start .args .first) (start .args .weights .now) (start .args .costs .now) (start .pre .0), c .cell-count .ensures .0, ap (λ y. (length (start .args .weights .now)) * y) (c .cell-count .ensures .0))
 
 size-requires : tie.Need-size-requires
 size-requires c κs = search needs
@@ -26,68 +26,68 @@ mul-m c =
 
 slice-relend-prefix-record-with : tie.Need-slice-relend-prefix-record-with
 slice-relend-prefix-record-with c =
-    let at-cells = c .before in
-    let start = at-cells .before .before .before .before .before .before .before .before in
-    omega (arith, ready-sizes (start .args .first) (start .args .weights .now) (start .args .costs .now) (start .pre .0), at-cells .cells .ensures .0, ap (λ y. (length (start .args .weights .now)) * y) (at-cells .cells .ensures .0), c .size .ensures .0, ap (λ y. (length (start .args .weights .now)) * y) (c .size .ensures .0), start .pre .1 .0, start .pre .1 .1 .0)
+    let at-cell-count = c .before in
+    let start = at-cell-count .before .before .before .before .before .before .before .before in
+    omega (arith, ready-sizes (start .args .first) (start .args .weights .now) (start .args .costs .now) (start .pre .0), at-cell-count .cell-count .ensures .0, ap (λ y. (length (start .args .weights .now)) * y) (at-cell-count .cell-count .ensures .0), c .size .ensures .0, ap (λ y. (length (start .args .weights .now)) * y) (c .size .ensures .0), start .pre .1 .0, start .pre .1 .1 .0)
 
 slice-aggregate-record-with : tie.Need-slice-aggregate-record-with
 slice-aggregate-record-with c =
     let at-size = c .before in
-    let at-cells = at-size .before in
-    let start = at-cells .before .before .before .before .before .before .before .before in
-    simp length-take (omega (arith, ready-sizes (start .args .first) (start .args .weights .now) (start .args .costs .now) (start .pre .0), at-cells .cells .ensures .0, ap (λ y. (length (start .args .weights .now)) * y) (at-cells .cells .ensures .0), at-size .size .ensures .0, ap (λ y. (length (start .args .weights .now)) * y) (at-size .size .ensures .0), start .pre .1 .0, start .pre .1 .1 .0))
+    let at-cell-count = at-size .before in
+    let start = at-cell-count .before .before .before .before .before .before .before .before in
+    simp length-take (omega (arith, ready-sizes (start .args .first) (start .args .weights .now) (start .args .costs .now) (start .pre .0), at-cell-count .cell-count .ensures .0, ap (λ y. (length (start .args .weights .now)) * y) (at-cell-count .cell-count .ensures .0), at-size .size .ensures .0, ap (λ y. (length (start .args .weights .now)) * y) (at-size .size .ensures .0), start .pre .1 .0, start .pre .1 .1 .0))
 
 slice-relend-prefix-record-with-2 : tie.Need-slice-relend-prefix-record-with-2
 slice-relend-prefix-record-with-2 c =
     let at-size = c .before in
-    let at-cells = at-size .before in
-    let start = at-cells .before .before .before .before .before .before .before .before in
-    omega (arith, ready-sizes (start .args .first) (start .args .weights .now) (start .args .costs .now) (start .pre .0), at-cells .cells .ensures .0, ap (λ y. (length (start .args .weights .now)) * y) (at-cells .cells .ensures .0), at-size .size .ensures .0, ap (λ y. (length (start .args .weights .now)) * y) (at-size .size .ensures .0), start .pre .1 .0, start .pre .1 .1 .0)
+    let at-cell-count = at-size .before in
+    let start = at-cell-count .before .before .before .before .before .before .before .before in
+    omega (arith, ready-sizes (start .args .first) (start .args .weights .now) (start .args .costs .now) (start .pre .0), at-cell-count .cell-count .ensures .0, ap (λ y. (length (start .args .weights .now)) * y) (at-cell-count .cell-count .ensures .0), at-size .size .ensures .0, ap (λ y. (length (start .args .weights .now)) * y) (at-size .size .ensures .0), start .pre .1 .0, start .pre .1 .1 .0)
 
 slice-aggregate-record-with-2 : tie.Need-slice-aggregate-record-with-2
 slice-aggregate-record-with-2 c =
     let at-size = c .before .before in
-    let at-cells = at-size .before in
-    let start = at-cells .before .before .before .before .before .before .before .before in
-    simp length-take (omega (arith, ready-sizes (start .args .first) (start .args .weights .now) (start .args .costs .now) (start .pre .0), at-cells .cells .ensures .0, ap (λ y. (length (start .args .weights .now)) * y) (at-cells .cells .ensures .0), at-size .size .ensures .0, ap (λ y. (length (start .args .weights .now)) * y) (at-size .size .ensures .0), start .pre .1 .0, start .pre .1 .1 .0))
+    let at-cell-count = at-size .before in
+    let start = at-cell-count .before .before .before .before .before .before .before .before in
+    simp length-take (omega (arith, ready-sizes (start .args .first) (start .args .weights .now) (start .args .costs .now) (start .pre .0), at-cell-count .cell-count .ensures .0, ap (λ y. (length (start .args .weights .now)) * y) (at-cell-count .cell-count .ensures .0), at-size .size .ensures .0, ap (λ y. (length (start .args .weights .now)) * y) (at-size .size .ensures .0), start .pre .1 .0, start .pre .1 .1 .0))
 
 slice-relend-prefix-record-with-3 : tie.Need-slice-relend-prefix-record-with-3
 slice-relend-prefix-record-with-3 c =
     let at-size = c .before .before in
-    let at-cells = at-size .before in
-    let start = at-cells .before .before .before .before .before .before .before .before in
-    omega (arith, ready-sizes (start .args .first) (start .args .weights .now) (start .args .costs .now) (start .pre .0), at-cells .cells .ensures .0, ap (λ y. (length (start .args .weights .now)) * y) (at-cells .cells .ensures .0), at-size .size .ensures .0, ap (λ y. (length (start .args .weights .now)) * y) (at-size .size .ensures .0), start .pre .1 .0, start .pre .1 .1 .0)
+    let at-cell-count = at-size .before in
+    let start = at-cell-count .before .before .before .before .before .before .before .before in
+    omega (arith, ready-sizes (start .args .first) (start .args .weights .now) (start .args .costs .now) (start .pre .0), at-cell-count .cell-count .ensures .0, ap (λ y. (length (start .args .weights .now)) * y) (at-cell-count .cell-count .ensures .0), at-size .size .ensures .0, ap (λ y. (length (start .args .weights .now)) * y) (at-size .size .ensures .0), start .pre .1 .0, start .pre .1 .1 .0)
 
 slice-aggregate-record-with-3 : tie.Need-slice-aggregate-record-with-3
 slice-aggregate-record-with-3 c =
     let at-size = c .before .before .before in
-    let at-cells = at-size .before in
-    let start = at-cells .before .before .before .before .before .before .before .before in
-    simp length-take (omega (arith, ready-sizes (start .args .first) (start .args .weights .now) (start .args .costs .now) (start .pre .0), at-cells .cells .ensures .0, ap (λ y. (length (start .args .weights .now)) * y) (at-cells .cells .ensures .0), at-size .size .ensures .0, ap (λ y. (length (start .args .weights .now)) * y) (at-size .size .ensures .0), start .pre .1 .0, start .pre .1 .1 .0))
+    let at-cell-count = at-size .before in
+    let start = at-cell-count .before .before .before .before .before .before .before .before in
+    simp length-take (omega (arith, ready-sizes (start .args .first) (start .args .weights .now) (start .args .costs .now) (start .pre .0), at-cell-count .cell-count .ensures .0, ap (λ y. (length (start .args .weights .now)) * y) (at-cell-count .cell-count .ensures .0), at-size .size .ensures .0, ap (λ y. (length (start .args .weights .now)) * y) (at-size .size .ensures .0), start .pre .1 .0, start .pre .1 .1 .0))
 
 slice-relend-prefix-record-with-4 : tie.Need-slice-relend-prefix-record-with-4
 slice-relend-prefix-record-with-4 c =
     let at-size = c .before .before .before in
-    let at-cells = at-size .before in
-    let start = at-cells .before .before .before .before .before .before .before .before in
-    omega (arith, ready-sizes (start .args .first) (start .args .weights .now) (start .args .costs .now) (start .pre .0), at-cells .cells .ensures .0, ap (λ y. (length (start .args .weights .now)) * y) (at-cells .cells .ensures .0), at-size .size .ensures .0, ap (λ y. (length (start .args .weights .now)) * y) (at-size .size .ensures .0), start .pre .1 .0, start .pre .1 .1 .0)
+    let at-cell-count = at-size .before in
+    let start = at-cell-count .before .before .before .before .before .before .before .before in
+    omega (arith, ready-sizes (start .args .first) (start .args .weights .now) (start .args .costs .now) (start .pre .0), at-cell-count .cell-count .ensures .0, ap (λ y. (length (start .args .weights .now)) * y) (at-cell-count .cell-count .ensures .0), at-size .size .ensures .0, ap (λ y. (length (start .args .weights .now)) * y) (at-size .size .ensures .0), start .pre .1 .0, start .pre .1 .1 .0)
 
 slice-aggregate-record-with-4 : tie.Need-slice-aggregate-record-with-4
 slice-aggregate-record-with-4 c =
     let at-size = c .before .before .before .before in
-    let at-cells = at-size .before in
-    let start = at-cells .before .before .before .before .before .before .before .before in
-    simp length-take (omega (arith, ready-sizes (start .args .first) (start .args .weights .now) (start .args .costs .now) (start .pre .0), at-cells .cells .ensures .0, ap (λ y. (length (start .args .weights .now)) * y) (at-cells .cells .ensures .0), at-size .size .ensures .0, ap (λ y. (length (start .args .weights .now)) * y) (at-size .size .ensures .0), start .pre .1 .0, start .pre .1 .1 .0))
+    let at-cell-count = at-size .before in
+    let start = at-cell-count .before .before .before .before .before .before .before .before in
+    simp length-take (omega (arith, ready-sizes (start .args .first) (start .args .weights .now) (start .args .costs .now) (start .pre .0), at-cell-count .cell-count .ensures .0, ap (λ y. (length (start .args .weights .now)) * y) (at-cell-count .cell-count .ensures .0), at-size .size .ensures .0, ap (λ y. (length (start .args .weights .now)) * y) (at-size .size .ensures .0), start .pre .1 .0, start .pre .1 .1 .0))
 
 record-with-requires : tie.Need-record-with-requires
 record-with-requires c κs =
     let at-size = c .before .before .before .before .before in
-    let at-cells = at-size .before in
-    let start = at-cells .before .before .before .before .before .before .before .before in
+    let at-cell-count = at-size .before in
+    let start = at-cell-count .before .before .before .before .before .before .before .before in
     let a = (start .args) in
     let D = start .pre .0 in
     let z = ready-sizes (a .first) (a .weights .now) (a .costs .now) D in
-    let w = at-cells .cells .ensures .0 in
+    let w = at-cell-count .cell-count .ensures .0 in
     let v = ap (λ y. length (a .weights .now) * y) w in
     let u = ap (λ y. length (a .weights .now) * y) (at-size .size .ensures .0) in
     let p = start .pre .1 .0 in
@@ -116,7 +116,7 @@ pub record-room-spec : {M : Type 1} → statement M
 record-room-spec =
     tie.close
     (tie.spec
-    cells-requires
+    cell-count-requires
     mul-n
     size-requires
     mul-m

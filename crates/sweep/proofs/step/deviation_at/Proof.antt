@@ -33,36 +33,36 @@ shared-slice-read-join-of c =
     let start = at-loop-test .before .before .before .before .before in
     omega (arith, start .pre .0 .costed, at-loop-test .loop-test .taken)
 
-shared-slice-read-index : tie.Need-shared-slice-read-index Inv-loop μ-loop
-shared-slice-read-index c = search needs
+shared-slice-read-u8-to-usize : tie.Need-shared-slice-read-u8-to-usize Inv-loop μ-loop
+shared-slice-read-u8-to-usize c = search needs
 
-index-requires : tie.Need-index-requires Inv-loop μ-loop
-index-requires c κs = search needs
+u8-to-usize-requires : tie.Need-u8-to-usize-requires Inv-loop μ-loop
+u8-to-usize-requires c κs = search needs
 
 plus-requires : tie.Need-plus-requires Inv-loop μ-loop
 plus-requires c κs = search needs
 
 mul-join-of-2 : tie.Need-mul-join-of-2 Inv-loop μ-loop
 mul-join-of-2 c =
-    let at-index = c .before in
-    let at-loop-test = at-index .before .before .before in
+    let at-u8-to-usize = c .before in
+    let at-loop-test = at-u8-to-usize .before .before .before in
     let at-loop = at-loop-test .before in
     let start = at-loop .before .before .before .before in
-    omega (arith, start .pre .0 .sums .sum (start .args .t) (at-index .index .result) (start .pre .1 .1) (omega (arith, at-index .index .ensures, (start .pre .0 .below (at-loop .loop .x) (at-loop-test .loop-test .taken)))), start .pre .1 .0)
+    omega (arith, start .pre .0 .sums .sum (start .args .t) (at-u8-to-usize .u8-to-usize .result) (start .pre .1 .1) (omega (arith, at-u8-to-usize .u8-to-usize .ensures, (start .pre .0 .below (at-loop .loop .x) (at-loop-test .loop-test .taken)))), start .pre .1 .0)
 
 shared-slice-read-join-of-2 : tie.Need-shared-slice-read-join-of-2 Inv-loop μ-loop
 shared-slice-read-join-of-2 c =
-    let at-index = c .before .before in
-    let at-loop-test = at-index .before .before .before in
+    let at-u8-to-usize = c .before .before in
+    let at-loop-test = at-u8-to-usize .before .before .before in
     let at-loop = at-loop-test .before in
     let start = at-loop .before .before .before .before in
-    omega (arith, start .pre .0 .sums .sum (start .args .t) (at-index .index .result) (start .pre .1 .1) (omega (arith, at-index .index .ensures, (start .pre .0 .below (at-loop .loop .x) (at-loop-test .loop-test .taken)))), start .pre .1 .0)
+    omega (arith, start .pre .0 .sums .sum (start .args .t) (at-u8-to-usize .u8-to-usize .result) (start .pre .1 .1) (omega (arith, at-u8-to-usize .u8-to-usize .ensures, (start .pre .0 .below (at-loop .loop .x) (at-loop-test .loop-test .taken)))), start .pre .1 .0)
 
 join-of-requires : tie.Need-join-of-requires Inv-loop μ-loop
 join-of-requires c κs = search needs
 
-least-requires : tie.Need-least-requires Inv-loop μ-loop
-least-requires c κs = search needs
+min-u32-requires : tie.Need-min-u32-requires Inv-loop μ-loop
+min-u32-requires c κs = search needs
 
 add-x : tie.Need-add-x Inv-loop μ-loop
 add-x c = search needs
@@ -74,7 +74,7 @@ loop-again : tie.Need-loop-again Inv-loop μ-loop
 loop-again c =
     let at-loop = c .before .before .before .before .before .before .before .before in
     let start = at-loop .before .before .before .before in
-    (omega arith, least-turn (λ x. joinOf (start .args .greatest) (getD (start .args .moves .now) x 0) (getD (start .args .low .now) (xor (start .args .t) (getD (start .args .row .now) x 0)) 0)) (at-loop .loop .x) (at-loop .loop .inv .1) (cc) (c .least .ensures))
+    (omega arith, least-turn (λ x. joinOf (start .args .greatest) (getD (start .args .moves .now) x 0) (getD (start .args .low .now) (xor (start .args .t) (getD (start .args .row .now) x 0)) 0)) (at-loop .loop .x) (at-loop .loop .inv .1) (cc) (c .min-u32 .ensures))
 
 returns : tie.Need-returns Inv-loop μ-loop
 unfolding deviationAt
@@ -97,13 +97,13 @@ deviation-at-spec =
     loop-holds
     mul-join-of
     shared-slice-read-join-of
-    shared-slice-read-index
-    index-requires
+    shared-slice-read-u8-to-usize
+    u8-to-usize-requires
     plus-requires
     mul-join-of-2
     shared-slice-read-join-of-2
     join-of-requires
-    least-requires
+    min-u32-requires
     add-x
     loop-less
     loop-again

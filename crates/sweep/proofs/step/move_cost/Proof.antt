@@ -7,8 +7,8 @@ use Rattle.sweep.proofs.step.move_cost.Tie as tie
 returns : tie.Need-returns
 returns c = simp (eq-eqb _ _ (c .if1 .taken))
 
-wide-requires : tie.Need-wide-requires
-wide-requires c κs = search needs
+u8-to-u16-requires : tie.Need-u8-to-u16-requires
+u8-to-u16-requires c κs = search needs
 
 returns-2 : tie.Need-returns-2
 returns-2 c =
@@ -16,4 +16,4 @@ returns-2 c =
     simp (ne-eqb _ _ (at-if1 .if1 .left)) (cc)
 
 pub move-cost-spec : {M : Type 1} → statement M
-move-cost-spec = tie.close (tie.spec returns wide-requires returns-2)
+move-cost-spec = tie.close (tie.spec returns u8-to-u16-requires returns-2)

@@ -1,34 +1,31 @@
+use mathlib.Core.Path.{_∙_}
+use native.Mathlib.Omega.{arith}
 use borrow.Author.Needs.{needs}
+use Rattle.blocks.proofs.Leaving.{copied-after}
 use Rattle.tables.proofs.lane.step.Statement.{statement}
 use Rattle.tables.proofs.lane.step.Tie as tie
-use Rattle.tables.proofs.lane.step.Reads as reads
-use Rattle.tables.proofs.lane.step.Lts as lts
-use Rattle.tables.proofs.lane.copy.Reads as copy-reads
-use Rattle.tables.proofs.lane.lane.Reads as lane-reads
 
--- src/lane.rt:37:34
 slice-aggregate-lane : tie.Need-slice-aggregate-lane
 slice-aggregate-lane c = search needs
 
--- src/lane.rt:37:5
 lane-requires : tie.Need-lane-requires
 lane-requires c κs = search needs
 
--- src/lane.rt:38:10
-slice-aggregate-copy : tie.Need-slice-aggregate-copy
-slice-aggregate-copy c = search needs
+slice-aggregate-copy-block : tie.Need-slice-aggregate-copy-block
+slice-aggregate-copy-block c = search needs
 
--- src/lane.rt:38:5
-copy-requires : tie.Need-copy-requires
-copy-requires c κs = search needs
+copy-block-requires : tie.Need-copy-block-requires
+copy-block-requires c κs = search needs
 
--- src/lane.rt:32:1
 same-length : tie.Need-same-length
 same-length c = search needs
 
--- src/lane.rt:32:1
 returns : tie.Need-returns
-returns c = cc
+returns c =
+    let at-copy-block = c .before .before in
+    let at-lane = at-copy-block .before .before .before .before in
+    let start = at-lane .before .before .before .before .before in
+    copied-after (start .args .e .now) (at-lane .lane .ensures) (at-copy-block .copy-block .ensures) (omega arith) (omega arith) ∙ at-lane .lane .ensures
 
 pub step-spec : {M : Type 1} → statement M
 step-spec =
@@ -36,7 +33,7 @@ step-spec =
     (tie.spec
     slice-aggregate-lane
     lane-requires
-    slice-aggregate-copy
-    copy-requires
+    slice-aggregate-copy-block
+    copy-block-requires
     same-length
     returns)
