@@ -7,6 +7,8 @@ use lib.ListN.{length, take, drop, length-append, length-drop, length-take, List
 use lib.Seq.{length-take-le, take-at, take-append-add, drop-append-add, drop-drop}
 use borrow.Author.Tests.{eq-eqb, ne-eqb}
 use Rattle.trellis.specs.Reply.{accepted, refusal}
+use Rattle.slices.specs.Copies.{copiedTo}
+use Rattle.slices.proofs.Copies.{copied-is}
 use Rattle.machine.specs.CodeLine.{good, Code, numbersOf, parse}
 use Rattle.machine.specs.Encoding.{encoded, encodeFault, wrote, encodingUnder, encoding}
 use Rattle.machine.proofs.Encoding.{more-columns, encode-none}
@@ -41,12 +43,15 @@ module _ (k : Numbers) (ds cs ws : List ℕ) (T : Coded k ds cs ws) (u out : Lis
     call-room = let f = encode-none C u (length out) no-fault in (omega (arith, f .3, split-n), omega (arith, f .3))
 
     -- after the copy of the message
-    module _ (v : List ℕ) (i : v ≡ u) where
+    module _ (v : List ℕ) (i : v ≡ copiedTo u (take (length u) out)) where
+      same : v ≡ u
+      same = copied-is u (take (length u) out) v (sym (length-take-le (length u) out (omega (arith, call-room)))) i
+
       abbrev rest : List ℕ
       rest = take (length (C .checks)) (drop (length u) out)
 
       front : take n (v ++ drop (length u) out) ≡ u ++ rest
-      front = ap₂ (λ k a. take k (a ++ drop (length u) out)) split-n i ∙ take-append-add u (drop (length u) out) (length (C .checks))
+      front = ap₂ (λ k a. take k (a ++ drop (length u) out)) split-n same ∙ take-append-add u (drop (length u) out) (length (C .checks))
 
       length-rest : length rest ≡ length (C .checks)
       length-rest = simp (length-take, length-drop) (omega (arith, call-room, split-n))
@@ -68,7 +73,7 @@ module _ (k : Numbers) (ds cs ws : List ℕ) (T : Coded k ds cs ws) (u out : Lis
       call-leaves x j =
           let a : x ≡ encoded C u = j ∙ ap (encoded C) (ap (take (length u)) front ∙ take-at u rest (length u) refl) in
           let d : drop n (v ++ drop (length u) out) ≡ drop n out =
-          ap₂ (λ k a. drop k (a ++ drop (length u) out)) split-n i ∙ drop-append-add u (drop (length u) out) (length (C .checks)) ∙ drop-drop (length (C .checks)) (length u) out ∙ ap (λ k. drop k out) (sym split-n) in
+          ap₂ (λ k a. drop k (a ++ drop (length u) out)) split-n same ∙ drop-append-add u (drop (length u) out) (length (C .checks)) ∙ drop-drop (length (C .checks)) (length u) out ∙ ap (λ k. drop k out) (sym split-n) in
           rw (eq-eqb (encodeFault C u (length out)) 0 no-fault, a, d, N)
 
 -- what the reader's answer says of the line

@@ -64,7 +64,7 @@ fn under_code(
     }
     let n = scalar::u16_to_usize(numbers.columns);
     let w = message.len();
-    message::copy(message, &mut symbols[..w]);
+    slices::copy_u8(message, &mut symbols[..w]);
     fill::fill(numbers, degrees, columns, weights, w, &mut symbols[..n]);
     Written::Bytes(n)
 }

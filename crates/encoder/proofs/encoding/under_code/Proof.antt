@@ -22,28 +22,23 @@ returns c =
 u16-to-usize-requires : tie.Need-u16-to-usize-requires
 u16-to-usize-requires c κs = search needs
 
-slice-relend-prefix-copy : tie.Need-slice-relend-prefix-copy
-slice-relend-prefix-copy c =
+slice-relend-prefix-copy-u8 : tie.Need-slice-relend-prefix-copy-u8
+slice-relend-prefix-copy-u8 c =
     let at-if1 = c .before in
     let at-fault = at-if1 .before in
     let start = at-fault .before .before .before .before .before .before in
     omega (arith, call-room (start .args .numbers) (start .args .degrees .now) (start .args .columns .now) (start .args .weights .now) (start .pre) (start .args .message .now) (start .args .symbols .now) (at-fault .fault .result) (at-fault .fault .ensures) (at-if1 .if1 .left) (c .u16-to-usize .result) (c .u16-to-usize .ensures .0))
 
-slice-aggregate-copy : tie.Need-slice-aggregate-copy
-slice-aggregate-copy c =
+slice-aggregate-copy-u8 : tie.Need-slice-aggregate-copy-u8
+slice-aggregate-copy-u8 c =
     let at-u16-to-usize = c .before in
     let at-if1 = at-u16-to-usize .before in
     let at-fault = at-if1 .before in
     let start = at-fault .before .before .before .before .before .before in
     simp length-take (omega (arith, call-room (start .args .numbers) (start .args .degrees .now) (start .args .columns .now) (start .args .weights .now) (start .pre) (start .args .message .now) (start .args .symbols .now) (at-fault .fault .result) (at-fault .fault .ensures) (at-if1 .if1 .left) (at-u16-to-usize .u16-to-usize .result) (at-u16-to-usize .u16-to-usize .ensures .0)))
 
-copy-requires : tie.Need-copy-requires
-copy-requires c κs =
-    let at-u16-to-usize = c .before in
-    let at-if1 = at-u16-to-usize .before in
-    let at-fault = at-if1 .before in
-    let start = at-fault .before .before .before .before .before .before in
-    sym (length-take-le (length (start .args .message .now)) (start .args .symbols .now) (omega (arith, call-room (start .args .numbers) (start .args .degrees .now) (start .args .columns .now) (start .args .weights .now) (start .pre) (start .args .message .now) (start .args .symbols .now) (at-fault .fault .result) (at-fault .fault .ensures) (at-if1 .if1 .left) (at-u16-to-usize .u16-to-usize .result) (at-u16-to-usize .u16-to-usize .ensures .0))))
+copy-u8-requires : tie.Need-copy-u8-requires
+copy-u8-requires c κs = search needs
 
 slice-relend-prefix-fill : tie.Need-slice-relend-prefix-fill
 slice-relend-prefix-fill c =
@@ -52,7 +47,7 @@ slice-relend-prefix-fill c =
     let at-if1 = at-u16-to-usize .before in
     let at-fault = at-if1 .before in
     let start = at-fault .before .before .before .before .before .before in
-    omega (arith, call-room (start .args .numbers) (start .args .degrees .now) (start .args .columns .now) (start .args .weights .now) (start .pre) (start .args .message .now) (start .args .symbols .now) (at-fault .fault .result) (at-fault .fault .ensures) (at-if1 .if1 .left) (at-u16-to-usize .u16-to-usize .result) (at-u16-to-usize .u16-to-usize .ensures .0), front-kept (start .args .symbols .now) (at-copy .copy .last .1 .0) (length (start .args .message .now)) (omega (arith, call-room (start .args .numbers) (start .args .degrees .now) (start .args .columns .now) (start .args .weights .now) (start .pre) (start .args .message .now) (start .args .symbols .now) (at-fault .fault .result) (at-fault .fault .ensures) (at-if1 .if1 .left) (at-u16-to-usize .u16-to-usize .result) (at-u16-to-usize .u16-to-usize .ensures .0))) (at-copy .copy .kept .1 .0))
+    omega (arith, call-room (start .args .numbers) (start .args .degrees .now) (start .args .columns .now) (start .args .weights .now) (start .pre) (start .args .message .now) (start .args .symbols .now) (at-fault .fault .result) (at-fault .fault .ensures) (at-if1 .if1 .left) (at-u16-to-usize .u16-to-usize .result) (at-u16-to-usize .u16-to-usize .ensures .0), front-kept (start .args .symbols .now) (at-copy .copy-u8 .last .1 .0) (length (start .args .message .now)) (omega (arith, call-room (start .args .numbers) (start .args .degrees .now) (start .args .columns .now) (start .args .weights .now) (start .pre) (start .args .message .now) (start .args .symbols .now) (at-fault .fault .result) (at-fault .fault .ensures) (at-if1 .if1 .left) (at-u16-to-usize .u16-to-usize .result) (at-u16-to-usize .u16-to-usize .ensures .0))) (at-copy .copy-u8 .kept .1 .0))
 
 slice-aggregate-fill : tie.Need-slice-aggregate-fill
 slice-aggregate-fill c =
@@ -61,7 +56,7 @@ slice-aggregate-fill c =
     let at-if1 = at-u16-to-usize .before in
     let at-fault = at-if1 .before in
     let start = at-fault .before .before .before .before .before .before in
-    sym (length-take-le (at-u16-to-usize .u16-to-usize .result) (at-copy .copy .last .1 .0 ++ drop (length (start .args .message .now)) (start .args .symbols .now)) (omega (arith, call-room (start .args .numbers) (start .args .degrees .now) (start .args .columns .now) (start .args .weights .now) (start .pre) (start .args .message .now) (start .args .symbols .now) (at-fault .fault .result) (at-fault .fault .ensures) (at-if1 .if1 .left) (at-u16-to-usize .u16-to-usize .result) (at-u16-to-usize .u16-to-usize .ensures .0), front-kept (start .args .symbols .now) (at-copy .copy .last .1 .0) (length (start .args .message .now)) (omega (arith, call-room (start .args .numbers) (start .args .degrees .now) (start .args .columns .now) (start .args .weights .now) (start .pre) (start .args .message .now) (start .args .symbols .now) (at-fault .fault .result) (at-fault .fault .ensures) (at-if1 .if1 .left) (at-u16-to-usize .u16-to-usize .result) (at-u16-to-usize .u16-to-usize .ensures .0))) (at-copy .copy .kept .1 .0))))
+    sym (length-take-le (at-u16-to-usize .u16-to-usize .result) (at-copy .copy-u8 .last .1 .0 ++ drop (length (start .args .message .now)) (start .args .symbols .now)) (omega (arith, call-room (start .args .numbers) (start .args .degrees .now) (start .args .columns .now) (start .args .weights .now) (start .pre) (start .args .message .now) (start .args .symbols .now) (at-fault .fault .result) (at-fault .fault .ensures) (at-if1 .if1 .left) (at-u16-to-usize .u16-to-usize .result) (at-u16-to-usize .u16-to-usize .ensures .0), front-kept (start .args .symbols .now) (at-copy .copy-u8 .last .1 .0) (length (start .args .message .now)) (omega (arith, call-room (start .args .numbers) (start .args .degrees .now) (start .args .columns .now) (start .args .weights .now) (start .pre) (start .args .message .now) (start .args .symbols .now) (at-fault .fault .result) (at-fault .fault .ensures) (at-if1 .if1 .left) (at-u16-to-usize .u16-to-usize .result) (at-u16-to-usize .u16-to-usize .ensures .0))) (at-copy .copy-u8 .kept .1 .0))))
 
 fill-requires : tie.Need-fill-requires
 fill-requires c κs =
@@ -70,7 +65,7 @@ fill-requires c κs =
     let at-if1 = at-u16-to-usize .before in
     let at-fault = at-if1 .before in
     let start = at-fault .before .before .before .before .before .before in
-    call-fill-room (start .args .numbers) (start .args .degrees .now) (start .args .columns .now) (start .args .weights .now) (start .pre) (start .args .message .now) (start .args .symbols .now) (at-fault .fault .result) (at-fault .fault .ensures) (at-if1 .if1 .left) (at-u16-to-usize .u16-to-usize .result) (at-u16-to-usize .u16-to-usize .ensures .0) (at-copy .copy .last .1 .0) (at-copy .copy .ensures)
+    call-fill-room (start .args .numbers) (start .args .degrees .now) (start .args .columns .now) (start .args .weights .now) (start .pre) (start .args .message .now) (start .args .symbols .now) (at-fault .fault .result) (at-fault .fault .ensures) (at-if1 .if1 .left) (at-u16-to-usize .u16-to-usize .result) (at-u16-to-usize .u16-to-usize .ensures .0) (at-copy .copy-u8 .last .1 .0) (at-copy .copy-u8 .ensures)
 
 same-length : tie.Need-same-length
 same-length c = search needs
@@ -83,7 +78,7 @@ returns-2 c =
     let at-if1 = at-u16-to-usize .before in
     let at-fault = at-if1 .before in
     let start = at-fault .before .before .before .before .before .before in
-    let e = call-leaves (start .args .numbers) (start .args .degrees .now) (start .args .columns .now) (start .args .weights .now) (start .pre) (start .args .message .now) (start .args .symbols .now) (at-fault .fault .result) (at-fault .fault .ensures) (at-if1 .if1 .left) (at-u16-to-usize .u16-to-usize .result) (at-u16-to-usize .u16-to-usize .ensures .0) (at-copy .copy .last .1 .0) (at-copy .copy .ensures) (at-fill .fill .last .1 .1 .1 .1 .1 .0) (at-fill .fill .ensures) in (sym (ap (λ (w : Wrote). w .reply) e), sym (ap (λ (w : Wrote). w .out) e))
+    let e = call-leaves (start .args .numbers) (start .args .degrees .now) (start .args .columns .now) (start .args .weights .now) (start .pre) (start .args .message .now) (start .args .symbols .now) (at-fault .fault .result) (at-fault .fault .ensures) (at-if1 .if1 .left) (at-u16-to-usize .u16-to-usize .result) (at-u16-to-usize .u16-to-usize .ensures .0) (at-copy .copy-u8 .last .1 .0) (at-copy .copy-u8 .ensures) (at-fill .fill .last .1 .1 .1 .1 .1 .0) (at-fill .fill .ensures) in (sym (ap (λ (w : Wrote). w .reply) e), sym (ap (λ (w : Wrote). w .out) e))
 
 pub under-code-spec : {M : Type 1} → statement M
 under-code-spec =
@@ -92,9 +87,9 @@ under-code-spec =
     fault-requires
     returns
     u16-to-usize-requires
-    slice-relend-prefix-copy
-    slice-aggregate-copy
-    copy-requires
+    slice-relend-prefix-copy-u8
+    slice-aggregate-copy-u8
+    copy-u8-requires
     slice-relend-prefix-fill
     slice-aggregate-fill
     fill-requires
