@@ -5,6 +5,8 @@ use Prim.Native.Nat.{ℕ, _≤_}
 use native.Mathlib.Omega.{arith}
 use lib.ListN.{length, take, drop}
 use lib.Seq.{length-take-le, take-at}
+use Rattle.slices.specs.Copies.{copiedTo}
+use Rattle.slices.proofs.Copies.{copied-is}
 use Rattle.machine.specs.CodeLine.{Read, good, bad, Code, Numbers, numbersOf, parse}
 use Rattle.machine.specs.inner.Tables.{Tabled}
 use Rattle.codeline.specs.declared.answers.Header.{Header}
@@ -49,8 +51,11 @@ module _ (s : List ℕ) (h : Header) (e : headerNumbers h ≡ numbersOf (parse s
       go (bad l) j o = let z : _≡_ {A = ℕ} 0 1 = cc in absurd (omega arith)
 
 -- entries handed over, where the line is accepted
-pub handed-is : (h : Header) (k : LineNumbers) → h ≡ HeaderRead k → (count j : ℕ) (from to : List ℕ) {r : List ℕ} → j ≡ count → r ≡ take j from → r ++ drop j to ≡ handed h count from to
-handed-is h k e count j from to i o = rw (e, o, i) refl
+pub handed-is : (h : Header) (k : LineNumbers) → h ≡ HeaderRead k → (count j : ℕ) (from to : List ℕ) {r : List ℕ} → j ≡ count → j ≤ length from → j ≤ length to
+    → r ≡ copiedTo (take j from) (take j to) → r ++ drop j to ≡ handed h count from to
+handed-is h k e count j from to {r} i a b o =
+    let c : r ≡ take j from = copied-is (take j from) (take j to) r (length-take-le j from a ∙ sym (length-take-le j to b)) o in
+    rw (e, c, i) refl
 
 -- and what that leaves
 pub left-is : (s : List ℕ) (h : Header) → headerNumbers h ≡ numbersOf (parse s) → (f : Code → List ℕ) (count : ℕ) (from to : List ℕ) {r : List ℕ} → ((C : Code) → parse s ≡ good C → (count ≤ length from) × (take count from ≡ f C))

@@ -1,7 +1,6 @@
 // The code line: its numbers, and its checks in tables.
 pub mod answers;
 mod checks;
-mod copies;
 mod head;
 mod lending;
 mod reader;

@@ -2,7 +2,6 @@
 use crate::answers::Header;
 use crate::checks;
 use crate::checks::Checks;
-use crate::copies;
 use crate::head;
 ghost use mathlib.Core.Path.{_≡_};
 ghost use lib.ListN.{length};
@@ -74,9 +73,9 @@ pub fn hand_over(
         Header::Read(k) => {
             let m = scalar::u8_to_usize(k.checks);
             let e = r.edges;
-            copies::copy(&ds[..m], &mut degrees[..m]);
-            copies::copy_words(&cs[..e], &mut columns[..e]);
-            copies::copy(&ws[..e], &mut weights[..e]);
+            slices::copy_u8(&ds[..m], &mut degrees[..m]);
+            slices::copy_u16(&cs[..e], &mut columns[..e]);
+            slices::copy_u8(&ws[..e], &mut weights[..e]);
         }
     }
 }

@@ -1,2 +1,2 @@
--- What the loops leave (Words) and ask (Rooms), in the shape of the code; the call's own promise is machine's encoding.
+-- What the loops over the tables of a code ask (Rooms); what they and the call promise are machine's own words.
 pub mod inner

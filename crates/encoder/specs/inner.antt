@@ -1,3 +1,2 @@
--- The loops over words, and what the inner functions ask.
-pub mod Words
+-- What the inner functions ask.
 pub mod Rooms

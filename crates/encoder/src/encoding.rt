@@ -3,26 +3,36 @@ use crate::fill;
 use crate::form;
 use crate::message;
 use codeline::answers::Header;
+use codeline::answers::Numbers;
 use field::Written;
 ghost use mathlib.Core.Path.{_≡_};
 ghost use Rattle.field.specs.Answers.{writtenReply};
-ghost use Rattle.machine.specs.Encoding.{encoding};
-ghost use Rattle.encoder.specs.inner.Words.{encodeFaultOf};
-ghost use Rattle.encoder.specs.inner.Rooms.{EncodableRoom, LineRoom, LeavesLined};
+ghost use Rattle.machine.specs.CodeLine.{good};
+ghost use Rattle.machine.specs.Encoding.{encodeFault, encodingUnder, encoding};
+ghost use Rattle.codeline.specs.inner.Coding.{codeOf, Coded};
 
 // "17, the code line lacks this form, after all code refusals; 18, message length is not N - M or a symbol is not below q, after 17;
 // then 2"; 0 for none.
-fn fault(q: usize, n: usize, degrees: &[u8], columns: &[u16], message: &[u8], room: usize) -> u8
-    requires { ⌜ EncodableRoom (now degrees) (now columns) ⌝ }
-    ensures { λ r. ⌜ r ≡ encodeFaultOf q n (now (degrees .entry)) (now (columns .entry)) (now (message .entry)) room ⌝ }
+fn fault(
+    numbers: Numbers,
+    degrees: &[u8],
+    columns: &[u16],
+    weights: &[u8],
+    message: &[u8],
+    room: usize,
+) -> u8
+    requires { ⌜ Coded numbers (now degrees) (now columns) (now weights) ⌝ }
+    ensures { λ r. ⌜ r ≡ encodeFault (codeOf numbers (now (degrees .entry)) (now (columns .entry)) (now (weights .entry)))
+        (now (message .entry)) room ⌝ }
 {
-    if !form::formed(n, degrees, columns) {
+    if !form::formed(numbers, degrees, columns, weights) {
         return 17;
     }
-    if message.len() + degrees.len() != n {
+    let n = scalar::u16_to_usize(numbers.columns);
+    if message.len() + scalar::u8_to_usize(numbers.checks) != n {
         return 18;
     }
-    if !message::elements(message, q) {
+    if !message::elements(message, rules::size(numbers.first)) {
         return 18;
     }
     if room < n {
@@ -33,28 +43,29 @@ fn fault(q: usize, n: usize, degrees: &[u8], columns: &[u16], message: &[u8], ro
 
 // Nothing is written before the last refusal has been tested.
 fn under_code(
-    first: u8,
-    n: usize,
-    m: usize,
+    numbers: Numbers,
     degrees: &[u8],
     columns: &[u16],
     weights: &[u8],
     message: &[u8],
     symbols: &mut [u8],
 ) -> Written
-    requires { ⌜ LineRoom first n m (now degrees) (now columns) (now weights) ⌝ }
-    ensures { λ r. ⌜ LeavesLined first n m (now (degrees .entry)) (now (columns .entry)) (now (weights .entry))
-        (now (message .entry)) (now (symbols .entry)) (writtenReply r) (now (symbols .exit)) ⌝ }
+    requires { ⌜ Coded numbers (now degrees) (now columns) (now weights) ⌝ }
+    ensures { λ r. ⌜ writtenReply r
+        ≡ encodingUnder (good (codeOf numbers (now (degrees .entry)) (now (columns .entry)) (now (weights .entry))))
+        (now (message .entry)) (now (symbols .entry)) .reply ⌝ }
+    ensures { λ _. ⌜ now (symbols .exit)
+        ≡ encodingUnder (good (codeOf numbers (now (degrees .entry)) (now (columns .entry)) (now (weights .entry))))
+        (now (message .entry)) (now (symbols .entry)) .out ⌝ }
 {
-    let p = rules::power(first);
-    let q = rules::size(first);
-    let k = fault(q, n, &degrees[..m], columns, message, symbols.len());
+    let k = fault(numbers, degrees, columns, weights, message, symbols.len());
     if k != 0 {
         return Written::Refused(k);
     }
+    let n = scalar::u16_to_usize(numbers.columns);
     let w = message.len();
-    message::copy(message, &mut symbols[..w]);
-    fill::fill(p, &degrees[..m], columns, weights, w, &mut symbols[..n]);
+    slices::copy_u8(message, &mut symbols[..w]);
+    fill::fill(numbers, degrees, columns, weights, w, &mut symbols[..n]);
     Written::Bytes(n)
 }
 
@@ -72,19 +83,6 @@ pub fn encode_in(
 {
     match codeline::code_tables(code, degrees, columns, weights) {
         Header::Refused(k) => Written::Refused(k),
-        Header::Read(numbers) => {
-            let n = scalar::u16_to_usize(numbers.columns);
-            let m = scalar::u8_to_usize(numbers.checks);
-            under_code(
-                numbers.first,
-                n,
-                m,
-                degrees,
-                columns,
-                weights,
-                message,
-                symbols,
-            )
-        }
+        Header::Read(numbers) => under_code(numbers, degrees, columns, weights, message, symbols),
     }
 }

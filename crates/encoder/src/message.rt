@@ -1,6 +1,5 @@
-// The message: whether its symbols are elements, refusal 18, and its copy to the front of the buffer.
+// The message's symbols, refusal 18.
 ghost use mathlib.Core.Path.{_≡_};
-ghost use lib.ListN.{length};
 ghost use Rattle.machine.specs.Encoding.{symbolsOk};
 
 // Whether each symbol is below q.
@@ -16,15 +15,4 @@ pub fn elements(symbols: &[u8], q: usize) -> bool
         i += 1;
     }
     true
-}
-
-pub fn copy(from: &[u8], to: &mut [u8])
-    requires { ⌜ length (now from) ≡ length (now to) ⌝ }
-    ensures { λ _. ⌜ now (to .exit) ≡ now (from .entry) ⌝ }
-{
-    let mut i = 0;
-    while i < to.len() {
-        to[i] = from[i];
-        i += 1;
-    }
 }

@@ -8,12 +8,14 @@ use native.Mathlib.Numerals.{add-one}
 use native.Mathlib.Decide.{decLe}
 use native.Mathlib.Omega.{arith}
 use lib.Dec.{eqb, ltb}
-use lib.ListN.{length, take, drop, set, getD, length-append, length-take, length-set, take-append-drop}
-use lib.Seq.{take-all, take-length, drop-length, take-at, drop-at, drop-drop, take-suc, take-suc-set, drop-cons, set-at, append-snoc, length-take-le}
+use lib.ListN.{length, take, drop, set, length-append, length-take, length-drop, length-set, take-append-drop}
+use lib.Seq.{take-all, take-at, drop-at, drop-drop, take-suc-set}
 use borrow.Author.Tests.{eqb-true, ltb-false, ltb-true, eq-eqb, ne-eqb}
 use Rattle.trellis.specs.Lists.{pick}
 use Rattle.trellis.specs.Reply.{accepted, refusal}
 use Rattle.trellis.proofs.Loops.{length-tab}
+use Rattle.slices.specs.Copies.{copiedTo}
+use Rattle.slices.proofs.Copies.{copied-is}
 use Rattle.machine.specs.Line.{byteAt, lineBytes, lineOk, lineReply, lineLeaves}
 use Rattle.machine.specs.CodeLine.{Read, good, bad, Code, parse, Numbers, numbersOf}
 use Rattle.machine.specs.Printing.{frameSaid, frameLine}
@@ -139,19 +141,6 @@ unfolding fedHeld
 fed-line h [] = refl
 fed-line h (b ∷ s) = fed-line (stepHeld h b) s ∙ line-stays h b
 
--- a turn of a copying loop, and its end
-pub copy-more : (s d : List ℕ) (i : ℕ) → i < length s → i < length d → set (take i s ++ drop i d) i (getD s i 0) ≡ take (i + 1) s ++ drop (i + 1) d
-copy-more s d i h k =
-    rw (add-one i, take-suc s i 0 h, drop-cons d i 0 k)
-    (set-at (take i s) (getD d i 0) (drop (suc i) d) (getD s i 0) i (length-take-le i s (omega arith)) ∙ sym (append-snoc (take i s) (getD s i 0) (drop (suc i) d)))
-
-pub copy-end : (s d : List ℕ) (i : ℕ) → i ≡ length s → length s ≡ length d → take i s ++ drop i d ≡ s
-copy-end s d i h k =
-    let a : take i s ≡ s = rw h (take-length s) in
-    let j : i ≡ length d = omega arith in
-    let b : drop i d ≡ [] = rw j (drop-length d) in
-    rw (a, b) (append-nil s)
-
 -- the bytes of a code line, as `line` leaves them
 module _ (t out : List ℕ) (room : length out ≡ 16384) where
   pub bytes-refused : (k : ℕ) → refusal k ≡ lineReply t out → (codeBytes t ≡ []) × (lineLeaves t out ≡ out)
@@ -203,6 +192,12 @@ pub put-mid : (out row x : List ℕ) (f n : ℕ) → n ≤ length row → x ≡ 
 put-mid out row x f n h e =
     let a : f + n - f ≡ length (take n row) = simp length-take (omega arith) in
     rw (e, a) refl
+
+-- a copy into a part of the output
+pub put-copied : (out row x : List ℕ) (f n : ℕ) → n ≤ length row → f + n ≤ length out → x ≡ copiedTo (take n row) (take (f + n - f) (drop f out)) → x ≡ take n row
+put-copied out row x f n h k e =
+    let i : length (take n row) ≡ length (take (f + n - f) (drop f out)) = simp (length-take, length-drop) (omega arith) in
+    copied-is (take n row) (take (f + n - f) (drop f out)) x i e
 
 -- what frame_line leaves in a row
 pub row-long : (l o row : List ℕ) (n : ℕ) → n ≡ length l → row ≡ l ++ drop (length l) o → n ≤ length row

@@ -1,5 +1,4 @@
 // The input cut into lines, block by block, and its end.
-use crate::copies;
 use crate::line_end;
 use crate::state::State;
 ghost use mathlib.Core.Path.{_≡_};
@@ -37,7 +36,7 @@ fn keep(st: State, part: &[u8], line: &mut [u8]) -> State
     }
     let n = scalar::min_usize(part.len(), 32769 - len);
     let e = len + n;
-    copies::copy(&part[..n], &mut line[len..e]);
+    slices::copy_u8(&part[..n], &mut line[len..e]);
     State {
         len: e,
         code: st.code,

@@ -1,6 +1,5 @@
 // Text: a line of hexadecimal digits, the printed line of a frame, and the program's whole output, block by block. No input or output is
 // done here.
-mod copies;
 mod cut;
 mod hex;
 mod line_end;

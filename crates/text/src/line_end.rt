@@ -1,5 +1,4 @@
 // What happens where a line ends: the code line is read and kept or refused, a frame is printed.
-use crate::copies;
 use crate::hex;
 use crate::print;
 use crate::state::State;
@@ -23,7 +22,7 @@ fn put(row: &[u8], n: usize, out: &mut [u8], full: usize) -> usize
     ensures { λ _. ⌜ now (out .exit) ≡ putAt (now (out .entry)) full (take n (now (row .entry))) ⌝ }
 {
     let e = full + n;
-    copies::copy(&row[..n], &mut out[full..e]);
+    slices::copy_u8(&row[..n], &mut out[full..e]);
     e
 }
 

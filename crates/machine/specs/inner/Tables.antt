@@ -9,7 +9,7 @@ use Rattle.trellis.specs.Lists.{upTo, each, pick, upto, part}
 use Rattle.trellis.specs.Refusals.{refusedBy}
 use Rattle.trellis.specs.Record.{recordLength}
 use Rattle.trellis.specs.Rules.{ruleFor}
-use Rattle.trellis.specs.Field.{xor, product}
+use Rattle.trellis.specs.Field.{product}
 use Rattle.machine.specs.CodeLine.{Read, good, bad, then, Edge, Code, Numbers, edge, readEdge, checkTests}
 
 -- columns and weights
@@ -76,10 +76,6 @@ codeIn k ds cs ws =
 -- h times x at edge k, in the order of the tables
 abbrev pub term : ℕ → List ℕ → List ℕ → List ℕ → ℕ → ℕ
 term p cs ws z k = product p (getD ws k 0) (getD z (getD cs k 0) 0)
-
--- the sum of n of them from place at on
-unfoldable pub sumFrom : ℕ → List ℕ → List ℕ → List ℕ → ℕ → ℕ → ℕ
-sumFrom p cs ws z at n = upto (λ k a. xor a (term p cs ws z (at + k))) n 0
 
 -- edge k has a column with a symbol, and two elements to multiply
 pub record EdgeRoom (p : ℕ) (cs ws z : List ℕ) (k : ℕ) : Type 0 where

@@ -22,41 +22,41 @@ enum-known-h c = search needs
 u8-to-usize-requires : tie.Need-u8-to-usize-requires
 u8-to-usize-requires c κs = search needs
 
-slice-aggregate-copy : tie.Need-slice-aggregate-copy
-slice-aggregate-copy c = simp length-take (omega (arith, fits (c .before .before .before)))
+slice-aggregate-copy-u8 : tie.Need-slice-aggregate-copy-u8
+slice-aggregate-copy-u8 c = simp length-take (omega (arith, fits (c .before .before .before)))
 
-slice-relend-prefix-copy : tie.Need-slice-relend-prefix-copy
-slice-relend-prefix-copy c = omega (arith, fits (c .before .before .before))
+slice-relend-prefix-copy-u8 : tie.Need-slice-relend-prefix-copy-u8
+slice-relend-prefix-copy-u8 c = omega (arith, fits (c .before .before .before))
 
-slice-aggregate-copy-2 : tie.Need-slice-aggregate-copy-2
-slice-aggregate-copy-2 c = simp length-take (omega (arith, fits (c .before .before .before .before)))
+slice-aggregate-copy-u8-2 : tie.Need-slice-aggregate-copy-u8-2
+slice-aggregate-copy-u8-2 c = simp length-take (omega (arith, fits (c .before .before .before .before)))
 
-copy-requires : tie.Need-copy-requires
-copy-requires c κs = simp length-take (omega (arith, fits (c .before .before .before .before)))
+copy-u8-requires : tie.Need-copy-u8-requires
+copy-u8-requires c κs = search needs
 
-slice-aggregate-copy-words : tie.Need-slice-aggregate-copy-words
-slice-aggregate-copy-words c = simp length-take (omega (arith, fits (c .before .before .before .before .before .before .before .before)))
+slice-aggregate-copy-u16 : tie.Need-slice-aggregate-copy-u16
+slice-aggregate-copy-u16 c = simp length-take (omega (arith, fits (c .before .before .before .before .before .before .before .before)))
 
-slice-relend-prefix-copy-words : tie.Need-slice-relend-prefix-copy-words
-slice-relend-prefix-copy-words c = omega (arith, fits (c .before .before .before .before .before .before .before .before))
+slice-relend-prefix-copy-u16 : tie.Need-slice-relend-prefix-copy-u16
+slice-relend-prefix-copy-u16 c = omega (arith, fits (c .before .before .before .before .before .before .before .before))
 
-slice-aggregate-copy-words-2 : tie.Need-slice-aggregate-copy-words-2
-slice-aggregate-copy-words-2 c = simp length-take (omega (arith, fits (c .before .before .before .before .before .before .before .before .before)))
+slice-aggregate-copy-u16-2 : tie.Need-slice-aggregate-copy-u16-2
+slice-aggregate-copy-u16-2 c = simp length-take (omega (arith, fits (c .before .before .before .before .before .before .before .before .before)))
 
-copy-words-requires : tie.Need-copy-words-requires
-copy-words-requires c κs = simp length-take (omega (arith, fits (c .before .before .before .before .before .before .before .before .before)))
+copy-u16-requires : tie.Need-copy-u16-requires
+copy-u16-requires c κs = search needs
 
-slice-aggregate-copy-3 : tie.Need-slice-aggregate-copy-3
-slice-aggregate-copy-3 c = simp length-take (omega (arith, fits (c .before .before .before .before .before .before .before .before .before .before .before .before .before)))
+slice-aggregate-copy-u8-3 : tie.Need-slice-aggregate-copy-u8-3
+slice-aggregate-copy-u8-3 c = simp length-take (omega (arith, fits (c .before .before .before .before .before .before .before .before .before .before .before .before .before)))
 
-slice-relend-prefix-copy-2 : tie.Need-slice-relend-prefix-copy-2
-slice-relend-prefix-copy-2 c = omega (arith, fits (c .before .before .before .before .before .before .before .before .before .before .before .before .before))
+slice-relend-prefix-copy-u8-2 : tie.Need-slice-relend-prefix-copy-u8-2
+slice-relend-prefix-copy-u8-2 c = omega (arith, fits (c .before .before .before .before .before .before .before .before .before .before .before .before .before))
 
-slice-aggregate-copy-4 : tie.Need-slice-aggregate-copy-4
-slice-aggregate-copy-4 c = simp length-take (omega (arith, fits (c .before .before .before .before .before .before .before .before .before .before .before .before .before .before)))
+slice-aggregate-copy-u8-4 : tie.Need-slice-aggregate-copy-u8-4
+slice-aggregate-copy-u8-4 c = simp length-take (omega (arith, fits (c .before .before .before .before .before .before .before .before .before .before .before .before .before .before)))
 
-copy-requires-2 : tie.Need-copy-requires-2
-copy-requires-2 c κs = simp length-take (omega (arith, fits (c .before .before .before .before .before .before .before .before .before .before .before .before .before .before)))
+copy-u8-requires-2 : tie.Need-copy-u8-requires-2
+copy-u8-requires-2 c κs = search needs
 
 returns : tie.Need-returns
 returns c = rw (c .enum-told .given .1) (refl, (refl, refl))
@@ -78,11 +78,13 @@ returns-2 c =
     let at-u8-to-usize = at-copy .before .before .before in
     let k = at-u8-to-usize .before .before in
     let e = k .h .given .1 in
-    let a = k .before .before .before .before .before .before .before .before .args in (
-      handed-is (a .r .header) _ e (checksIn (a .r .header)) (at-u8-to-usize .u8-to-usize .result) (a .ds .now) (a .degrees .now) (at-u8-to-usize .u8-to-usize .ensures .0 ∙ sym (ap checksIn e)) (at-copy .copy .ensures),
+    let w = fits k in
+    let s = k .before .before .before .before .before .before .before .before in
+    let a = s .args in (
+      handed-is (a .r .header) _ e (checksIn (a .r .header)) (at-u8-to-usize .u8-to-usize .result) (a .ds .now) (a .degrees .now) (at-u8-to-usize .u8-to-usize .ensures .0 ∙ sym (ap checksIn e)) (omega (arith, w, s .pre .1)) (omega (arith, w, s .pre .1)) (at-copy .copy-u8 .ensures),
       (
-        handed-is (a .r .header) _ e (a .r .edges) (a .r .edges) (a .cs .now) (a .columns .now) refl (at-words .copy-words .ensures),
-        handed-is (a .r .header) _ e (a .r .edges) (a .r .edges) (a .ws .now) (a .weights .now) refl (at-copy2 .copy2 .ensures),
+        handed-is (a .r .header) _ e (a .r .edges) (a .r .edges) (a .cs .now) (a .columns .now) refl (omega (arith, w, s .pre .1)) (omega (arith, w, s .pre .1)) (at-words .copy-u16 .ensures),
+        handed-is (a .r .header) _ e (a .r .edges) (a .r .edges) (a .ws .now) (a .weights .now) refl (omega (arith, w, s .pre .1)) (omega (arith, w, s .pre .1)) (at-copy2 .copy-u82 .ensures),
       ),
     )
 
@@ -93,18 +95,18 @@ hand-over-spec =
     enum-told
     enum-known-h
     u8-to-usize-requires
-    slice-aggregate-copy
-    slice-relend-prefix-copy
-    slice-aggregate-copy-2
-    copy-requires
-    slice-aggregate-copy-words
-    slice-relend-prefix-copy-words
-    slice-aggregate-copy-words-2
-    copy-words-requires
-    slice-aggregate-copy-3
-    slice-relend-prefix-copy-2
-    slice-aggregate-copy-4
-    copy-requires-2
+    slice-aggregate-copy-u8
+    slice-relend-prefix-copy-u8
+    slice-aggregate-copy-u8-2
+    copy-u8-requires
+    slice-aggregate-copy-u16
+    slice-relend-prefix-copy-u16
+    slice-aggregate-copy-u16-2
+    copy-u16-requires
+    slice-aggregate-copy-u8-3
+    slice-relend-prefix-copy-u8-2
+    slice-aggregate-copy-u8-4
+    copy-u8-requires-2
     returns
     same-length
     same-length-2

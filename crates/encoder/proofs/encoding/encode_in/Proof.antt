@@ -1,7 +1,10 @@
 -- The reader's answer is the line's refusal, or the numbers and tables of its code; under these the rest is promised.
+use mathlib.Core.Path.{ap, _∙_, sym}
 use borrow.Author.Needs.{needs}
-use Rattle.codeline.proofs.Answered.{tables-left}
-use Rattle.encoder.proofs.Encoded.{line-refused, line-room, line-encodes}
+use Rattle.machine.specs.Encoding.{Wrote}
+use Rattle.codeline.specs.inner.Coding.{codeOf}
+use Rattle.codeline.proofs.Says.{line-says, line-coded}
+use Rattle.encoder.proofs.Encoded.{line-refused, line-encodes}
 use Rattle.encoder.proofs.encoding.encode_in.Statement.{statement}
 use Rattle.encoder.proofs.encoding.encode_in.Tie as tie
 
@@ -14,39 +17,30 @@ enum-known-k c = search needs
 enum-known-numbers : tie.Need-enum-known-numbers
 enum-known-numbers c = search needs
 
-u16-to-usize-requires : tie.Need-u16-to-usize-requires
-u16-to-usize-requires c κs = search needs
-
-u8-to-usize-requires : tie.Need-u8-to-usize-requires
-u8-to-usize-requires c κs = search needs
-
 under-code-requires : tie.Need-under-code-requires
 under-code-requires c κs =
-    let w = c .before .before .before .before .before .before .before in
-    let v = w .before .before .before in
-    let t = v .before .before in
-    let a = t .before .before .before .before .before .before .before .args in
-    line-room (a .code .now) (t .code-tables .result) (t .code-tables .ensures .0) (v .numbers .given .0 .0) (v .numbers .given .1) (w .before .u16-to-usize .result) (w .u8-to-usize .result) (w .before .u16-to-usize .ensures .0) (w .u8-to-usize .ensures .0) (t .code-tables .last .1 .0) (t .code-tables .last .1 .1 .0) (t .code-tables .last .1 .1 .1 .0) (tables-left (a .code .now) _ _ _ (t .code-tables .ensures .1 .0) (t .code-tables .ensures .1 .1 .0) (t .code-tables .ensures .1 .1 .1))
+    let at-numbers = c .before .before .before .before .before .before .before .before in
+    let at-code-tables = at-numbers .before .before in
+    let start = at-code-tables .before .before .before .before .before .before .before in
+    line-coded (start .args .code .now) (at-code-tables .code-tables .result) (at-code-tables .code-tables .ensures .0) (at-numbers .numbers .given .0 .0) (at-numbers .numbers .given .1) _ _ _ (at-code-tables .code-tables .last .1 .0) (at-code-tables .code-tables .last .1 .1 .0) (at-code-tables .code-tables .last .1 .1 .1 .0) (at-code-tables .code-tables .ensures .1 .0) (at-code-tables .code-tables .ensures .1 .1 .0) (at-code-tables .code-tables .ensures .1 .1 .1)
 
 returns : tie.Need-returns
 returns c =
-    let t = c .before .before .before in
-    let a = t .before .before .before .before .before .before .before .args in
-    let l = line-refused (a .code .now) (t .code-tables .result) (t .code-tables .ensures .0) _ (c .before .k .given .1) (a .message .now) (a .symbols .now) in
-    (l .replies, l .out-then)
+    let at-k = c .before in
+    let at-code-tables = at-k .before .before in
+    let start = at-code-tables .before .before .before .before .before .before .before in
+    let e = line-refused (start .args .code .now) (at-code-tables .code-tables .result) (at-code-tables .code-tables .ensures .0) _ (at-k .k .given .1) (start .args .message .now) (start .args .symbols .now) in (sym (ap (λ (w : Wrote). w .reply) e), sym (ap (λ (w : Wrote). w .out) e))
 
 same-length : tie.Need-same-length
 same-length c = search needs
 
 returns-2 : tie.Need-returns-2
 returns-2 c =
-    let u = c .before .before in
-    let w = u .before .before .before .before .before .before .before .before in
-    let v = w .before .before .before in
-    let t = v .before .before in
-    let a = t .before .before .before .before .before .before .before .args in
-    let l = line-encodes (a .code .now) (t .code-tables .result) (t .code-tables .ensures .0) (v .numbers .given .0 .0) (v .numbers .given .1) (w .before .u16-to-usize .result) (w .u8-to-usize .result) (w .before .u16-to-usize .ensures .0) (w .u8-to-usize .ensures .0) (t .code-tables .last .1 .0) (t .code-tables .last .1 .1 .0) (t .code-tables .last .1 .1 .1 .0) (tables-left (a .code .now) _ _ _ (t .code-tables .ensures .1 .0) (t .code-tables .ensures .1 .1 .0) (t .code-tables .ensures .1 .1 .1)) (a .message .now) (a .symbols .now) _ _ (u .under-code .ensures) in
-    (l .replies, l .out-then)
+    let at-under-code = c .before .before in
+    let at-numbers = at-under-code .before .before .before .before .before .before .before .before .before in
+    let at-code-tables = at-numbers .before .before in
+    let start = at-code-tables .before .before .before .before .before .before .before in
+    let e = line-encodes (start .args .code .now) (codeOf (at-numbers .numbers .given .0 .0) (at-code-tables .code-tables .last .1 .0) (at-code-tables .code-tables .last .1 .1 .0) (at-code-tables .code-tables .last .1 .1 .1 .0)) (line-says (start .args .code .now) (at-code-tables .code-tables .result) (at-code-tables .code-tables .ensures .0) (at-numbers .numbers .given .0 .0) (at-numbers .numbers .given .1) _ _ _ (at-code-tables .code-tables .last .1 .0) (at-code-tables .code-tables .last .1 .1 .0) (at-code-tables .code-tables .last .1 .1 .1 .0) (at-code-tables .code-tables .ensures .1 .0) (at-code-tables .code-tables .ensures .1 .1 .0) (at-code-tables .code-tables .ensures .1 .1 .1)) (start .args .message .now) (start .args .symbols .now) in (at-under-code .under-code .ensures .0 ∙ sym (ap (λ (w : Wrote). w .reply) e), at-under-code .under-code .ensures .1 ∙ sym (ap (λ (w : Wrote). w .out) e))
 
 pub encode-in-spec : {M : Type 1} → statement M
 encode-in-spec =
@@ -55,8 +49,6 @@ encode-in-spec =
     code-tables-requires
     enum-known-k
     enum-known-numbers
-    u16-to-usize-requires
-    u8-to-usize-requires
     under-code-requires
     returns
     same-length

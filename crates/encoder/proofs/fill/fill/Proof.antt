@@ -1,60 +1,73 @@
 -- After m turns the buffer starts with the word of m checks, and the rest of it is as it was.
-use mathlib.Core.Path.{_≡_, refl, _∙_}
+use mathlib.Core.Path.{_≡_, refl, _∙_, sym}
 use mathlib.Core.List.{_++_}
 use Prim.Native.Nat.{_+_, _-_, _≤_}
 use native.Mathlib.Omega.{arith}
 use borrow.Author.Needs.{needs}
 use lib.ListN.{length, take, drop, length-set}
+use lib.Seq.{length-take-le}
+use Rattle.machine.specs.Encoding.{encodeTo}
 use Rattle.machine.specs.inner.Tables.{edgesBefore}
-use Rattle.encoder.specs.inner.Words.{encodeOn}
-use Rattle.machine.proofs.Places.{before-more, end-within}
-use Rattle.encoder.proofs.Filling.{turn-room, own-is, fill-turn, fill-start, fill-done}
+use Rattle.codeline.specs.inner.Coding.{codeOf}
+use Rattle.machine.proofs.Places.{before-more}
+use Rattle.encoder.proofs.Filling.{whole, columns-end, turn-room, fill-turn, fill-start, fill-done}
 use Rattle.encoder.proofs.fill.fill.Statement.{statement}
 use Rattle.encoder.proofs.fill.fill.Tie as tie
 
 abbrev Inv-loop : tie.InvT-loop
-Inv-loop p degrees columns weights from symbols₀ m₀ at₀ symbols m at = (m ≤ length degrees) × ((at ≡ edgesBefore degrees m) × ((length symbols ≡ length symbols₀) × (symbols ≡ encodeOn p degrees columns weights (take from symbols₀) m ++ drop (from + m) symbols₀)))
+Inv-loop numbers degrees columns weights from symbols₀ count m₀ at₀ symbols m at = (m ≤ numbers .checks) × ((at ≡ edgesBefore degrees m) × ((length symbols ≡ length symbols₀) × (symbols ≡ encodeTo (codeOf numbers degrees columns weights) (take from symbols₀) m ++ drop (from + m) symbols₀)))
 
 abbrev μ-loop : tie.MeasureT-loop
-μ-loop p degrees columns weights from symbols₀ m₀ at₀ symbols m at = length degrees - m
-
-loop-holds : tie.Need-loop-holds Inv-loop μ-loop
-loop-holds c =
-    let s = c .before .before .before .before in
-    let a = s .args in
-    (omega arith, (refl, (refl, fill-start (a .p) (a .degrees .now) (a .columns .now) (a .weights .now) (a .from) (a .symbols .now) (s .pre))))
-
-shared-slice-read-u8-to-usize : tie.Need-shared-slice-read-u8-to-usize Inv-loop μ-loop
-shared-slice-read-u8-to-usize c = search needs
+μ-loop numbers degrees columns weights from symbols₀ count m₀ at₀ symbols m at = numbers .checks - m
 
 u8-to-usize-requires : tie.Need-u8-to-usize-requires Inv-loop μ-loop
 u8-to-usize-requires c κs = search needs
 
+loop-holds : tie.Need-loop-holds Inv-loop μ-loop
+loop-holds c =
+    let start = c .before .before .before .before .before in
+    (omega arith, (refl, (refl, fill-start (start .args .numbers) (start .args .degrees .now) (start .args .columns .now) (start .args .weights .now) (start .args .from) (start .args .symbols .now) (start .pre))))
+
+add-e : tie.Need-add-e Inv-loop μ-loop
+add-e c =
+    let start = c .before .before .before .before .before .before .before in
+    omega (arith, whole (start .args .numbers) (start .args .degrees .now) (start .args .columns .now) (start .args .weights .now) (start .args .from) (start .args .symbols .now) (start .pre))
+
+slice-reshare-prefix-own : tie.Need-slice-reshare-prefix-own Inv-loop μ-loop
+slice-reshare-prefix-own c =
+    let start = c .before .before .before .before .before .before .before in
+    omega (arith, whole (start .args .numbers) (start .args .degrees .now) (start .args .columns .now) (start .args .weights .now) (start .args .from) (start .args .symbols .now) (start .pre))
+
+slice-aggregate-own : tie.Need-slice-aggregate-own Inv-loop μ-loop
+slice-aggregate-own c =
+    let at-loop = c .before .before in
+    let start = at-loop .before .before .before .before .before .before in
+    sym (length-take-le (start .args .from + at-loop .loop .m) (at-loop .loop .symbols) (omega (arith, whole (start .args .numbers) (start .args .degrees .now) (start .args .columns .now) (start .args .weights .now) (start .args .from) (start .args .symbols .now) (start .pre))))
+
 own-requires : tie.Need-own-requires Inv-loop μ-loop
 own-requires c κs =
-    let l = c .before .before .before .before in
-    let s = l .before .before .before .before .before in
-    let a = s .args in
-    turn-room (a .p) (a .degrees .now) (a .columns .now) (a .weights .now) (a .from) (a .symbols .now) (s .pre) (l .loop .m) (omega arith) (l .loop .at) (c .before .u8-to-usize .result) (l .loop .symbols) (l .loop .inv .1 .0) (c .before .u8-to-usize .ensures .0) (l .loop .inv .1 .1 .1)
-
-add-symbols : tie.Need-add-symbols Inv-loop μ-loop
-add-symbols c =
-    let l = c .before .before .before .before .before in
-    let s = l .before .before .before .before .before in
-    omega (arith, s .pre .full)
+    let at-loop = c .before .before in
+    let start = at-loop .before .before .before .before .before .before in
+    turn-room (start .args .numbers) (start .args .degrees .now) (start .args .columns .now) (start .args .weights .now) (start .args .from) (start .args .symbols .now) (start .pre) (at-loop .loop .m) (omega arith) (at-loop .loop .symbols) (at-loop .loop .inv .1 .1 .1) (at-loop .loop .at) (at-loop .loop .inv .1 .0)
 
 slice-write-symbols : tie.Need-slice-write-symbols Inv-loop μ-loop
 slice-write-symbols c =
-    let l = c .before .before .before .before .before in
-    let s = l .before .before .before .before .before in
-    omega (arith, s .pre .full)
+    let start = c .before .before .before .before .before .before .before .before .before in
+    omega (arith, whole (start .args .numbers) (start .args .degrees .now) (start .args .columns .now) (start .args .weights .now) (start .args .from) (start .args .symbols .now) (start .pre))
+
+shared-slice-read-u8-to-usize : tie.Need-shared-slice-read-u8-to-usize Inv-loop μ-loop
+shared-slice-read-u8-to-usize c =
+    let start = c .before .before .before .before .before .before .before .before .before .before in
+    omega (arith, start .pre .coded .for-degrees)
+
+u8-to-usize-requires-2 : tie.Need-u8-to-usize-requires-2 Inv-loop μ-loop
+u8-to-usize-requires-2 c κs = search needs
 
 add-at : tie.Need-add-at Inv-loop μ-loop
 add-at c =
-    let l = c .before .before .before .before .before in
-    let s = l .before .before .before .before .before in
-    let a = s .args in
-    omega (arith, end-within (a .degrees .now) (l .loop .m) (l .loop .at) (c .before .before .u8-to-usize .result) (omega arith) (l .loop .inv .1 .0) (c .before .before .u8-to-usize .ensures .0), s .pre .in-columns)
+    let at-loop = c .before .before .before .before .before in
+    let start = at-loop .before .before .before .before .before .before in
+    omega (arith, columns-end (start .args .numbers) (start .args .degrees .now) (start .args .columns .now) (start .args .weights .now) (start .pre .coded) (at-loop .loop .m) (at-loop .loop .at) (c .u8-to-usize2 .result) (omega arith) (at-loop .loop .inv .1 .0) (c .u8-to-usize2 .ensures .0))
 
 add-m : tie.Need-add-m Inv-loop μ-loop
 add-m c = search needs
@@ -64,30 +77,19 @@ loop-less c = search needs
 
 loop-again : tie.Need-loop-again Inv-loop μ-loop
 loop-again c =
-    let l = c .before .before .before .before .before in
-    let s = l .before .before .before .before .before in
-    let a = s .args in
-    let i = c .before .before .u8-to-usize in
-    let x = own-is (a .p) (a .degrees .now) (a .columns .now) (a .weights .now) (a .from) (a .symbols .now) (s .pre) (l .loop .m) (omega arith) (l .loop .at) (i .result) (c .own .result) (l .loop .inv .1 .0) (i .ensures .0) (rw (l .loop .inv .1 .1 .1) at (c .own .ensures)) in (
-      omega arith,
-      (
-        before-more (a .degrees .now) (l .loop .m) (l .loop .at) (i .result) (l .loop .inv .1 .0) (i .ensures .0),
-        (
-          length-set (l .loop .symbols) (a .from + l .loop .m) (c .own .result) ∙ l .loop .inv .1 .1 .0,
-          fill-turn (a .p) (a .degrees .now) (a .columns .now) (a .weights .now) (a .from) (a .symbols .now) (s .pre) (l .loop .m) (omega arith) (l .loop .symbols) (c .own .result) (l .loop .inv .1 .1 .1) x,
-        ),
-      ),
-    )
+    let at-own = c .before .before in
+    let at-loop = at-own .before .before .before in
+    let start = at-loop .before .before .before .before .before .before in
+    (omega arith, (before-more (start .args .degrees .now) (at-loop .loop .m) (at-loop .loop .at) (c .u8-to-usize2 .result) (at-loop .loop .inv .1 .0) (c .u8-to-usize2 .ensures .0), (length-set (at-loop .loop .symbols) (start .args .from + at-loop .loop .m) (at-own .own .result) ∙ at-loop .loop .inv .1 .1 .0, fill-turn (start .args .numbers) (start .args .degrees .now) (start .args .columns .now) (start .args .weights .now) (start .args .from) (start .args .symbols .now) (start .pre) (at-loop .loop .m) (omega arith) (at-loop .loop .symbols) (at-loop .loop .inv .1 .1 .1) (at-own .own .result) (at-own .own .ensures))))
 
 same-length : tie.Need-same-length Inv-loop μ-loop
 same-length c = search needs
 
 returns : tie.Need-returns Inv-loop μ-loop
 returns c =
-    let l = c .before in
-    let s = l .before .before .before .before .before in
-    let a = s .args in
-    fill-done (a .p) (a .degrees .now) (a .columns .now) (a .weights .now) (a .from) (a .symbols .now) (s .pre) (l .loop .m) (l .loop .symbols) (omega arith) (l .loop .inv .1 .1 .1)
+    let at-loop = c .before in
+    let start = at-loop .before .before .before .before .before .before in
+    fill-done (start .args .numbers) (start .args .degrees .now) (start .args .columns .now) (start .args .weights .now) (start .args .from) (start .args .symbols .now) (start .pre) (at-loop .loop .m) (at-loop .loop .symbols) (omega arith) (at-loop .loop .inv .1 .1 .1)
 
 pub fill-spec : {M : Type 1} → statement M
 fill-spec =
@@ -95,12 +97,15 @@ fill-spec =
     (tie.spec
     Inv-loop
     μ-loop
-    loop-holds
-    shared-slice-read-u8-to-usize
     u8-to-usize-requires
+    loop-holds
+    add-e
+    slice-reshare-prefix-own
+    slice-aggregate-own
     own-requires
-    add-symbols
     slice-write-symbols
+    shared-slice-read-u8-to-usize
+    u8-to-usize-requires-2
     add-at
     add-m
     loop-less

@@ -1,0 +1,2 @@
+-- What a copy leaves.
+pub mod Copies
