@@ -10,7 +10,7 @@ use lib.ListN.{length, drop, getD}
 use borrow.Author.Tests.{eq-eqb, ne-eqb}
 use Rattle.trellis.specs.Lists.{pick, tab}
 use Rattle.trellis.proofs.Loops.{tab-whole}
-use Rattle.blocks.specs.Calls.{lanes, oneBlock, whole, over, copyOne, raiseOne, copyAll, raiseAll}
+use Rattle.blocks.specs.Calls.{lanes, oneBlock, whole, overBlocks, copyOne, raiseOne, copyAll, raiseAll}
 use Rattle.blocks.proofs.Turns.{list-tab}
 
 -- one of the two is not one block
@@ -87,7 +87,7 @@ module _ (w e : List ℕ) where
       raise-end 16 k (omega (arith, h)) (raised-one w e o (k ∙ h) h ∙ sym (ap (λ n. tab f n ++ drop n e) (sym h) ∙ tab-whole f e ∙ ap (tab f) h))
 
 -- all blocks, where the lengths are the same and there are whole blocks alone
-all-of : (f : ℕ → ℕ) (e : List ℕ) → length e % 16 ≡ 0 → over f e ≡ tab f (length e)
+all-of : (f : ℕ → ℕ) (e : List ℕ) → length e % 16 ≡ 0 → overBlocks f e ≡ tab f (length e)
 all-of f e h = let n : whole (length e) ≡ length e = omega (arith, h) in ap (λ m. tab f m ++ drop m e) n ∙ tab-whole f e
 
 pub copied-all : (w e : List ℕ) {r : List ℕ} → r ≡ copyAll w e → length w ≡ length e → length e % 16 ≡ 0 → r ≡ w

@@ -1,5 +1,5 @@
--- What the public calls leave in e, from w and e. Nothing changes where the lengths do not fit: a caller above has refused by then, so there
--- is no number for it.
+-- What the public calls leave in e, from w and e. Nothing changes where the lengths do not fit: a caller above has refused by then, so
+-- there is no number for it.
 use mathlib.Core.Bool.{Bool, _&&_}
 use mathlib.Core.List.{List, _++_}
 use Prim.Native.Nat.{ℕ, _*_, _/_, max}
@@ -26,11 +26,11 @@ abbrev pub whole : ℕ → ℕ
 whole n = n / 16 * 16
 
 -- f at each place in a whole block of e, what e has behind them
-abbrev pub over : (ℕ → ℕ) → List ℕ → List ℕ
-over f e = tab f (whole (length e)) ++ drop (whole (length e)) e
+abbrev pub overBlocks : (ℕ → ℕ) → List ℕ → List ℕ
+overBlocks f e = tab f (whole (length e)) ++ drop (whole (length e)) e
 
 unfoldable pub copyAll : List ℕ → List ℕ → List ℕ
-copyAll w e = pick (eqb (length w) (length e)) (over (λ i. getD w i 0) e) e
+copyAll w e = pick (eqb (length w) (length e)) (overBlocks (λ i. getD w i 0) e) e
 
 unfoldable pub raiseAll : List ℕ → List ℕ → List ℕ
-raiseAll w e = pick (eqb (length w) (length e)) (over (λ i. max (getD e i 0) (getD w i 0)) e) e
+raiseAll w e = pick (eqb (length w) (length e)) (overBlocks (λ i. max (getD e i 0) (getD w i 0)) e) e

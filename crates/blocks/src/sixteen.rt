@@ -15,14 +15,14 @@ pub fn copy(t: &[u8], e: &mut [u8])
     }
 }
 
-// t: the better of e and w.
-pub fn better(w: &[u8], e: &[u8], t: &mut [u8])
-    requires { ⌜ (length (now w) ≡ 16) × ((length (now e) ≡ 16) × (length (now t) ≡ 16)) ⌝ }
-    ensures { λ _. ⌜ now (t .exit) ≡ lanes (λ i. max (getD (now (e .entry)) i 0) (getD (now (w .entry)) i 0)) ⌝ }
+// t: the better of e and from.
+pub fn better(from: &[u8], e: &[u8], t: &mut [u8])
+    requires { ⌜ (length (now from) ≡ 16) × ((length (now e) ≡ 16) × (length (now t) ≡ 16)) ⌝ }
+    ensures { λ _. ⌜ now (t .exit) ≡ lanes (λ i. max (getD (now (e .entry)) i 0) (getD (now (from .entry)) i 0)) ⌝ }
 {
     let mut i = 0;
     while i < 16 {
-        t[i] = scalar::max_u8(e[i], w[i]);
+        t[i] = scalar::max_u8(e[i], from[i]);
         i += 1;
     }
 }

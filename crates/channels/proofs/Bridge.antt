@@ -24,13 +24,13 @@ use Rattle.machine.proofs.Lent.{lentOf, held-none, held-end, iteration-stands, 
 use Rattle.machine.proofs.Buffers.{holding-again}
 use Rattle.machine.proofs.Resume.{at, Sound, iteration-sound}
 use Rattle.channels.specs.Channels.{after, finished, spentIn, answer, received}
-use Rattle.channels.specs.inner.Rounds.{opened, stepped, statusOf}
+use Rattle.channels.specs.inner.Rounds.{opened, nextIteration, statusOf}
 use Rattle.channels.proofs.Alone.{after-t, after-suc, received-is}
 
 -- a channel's moment after j iterations, each from the parts that the one before left
 unfoldable pub ran : Code → List ℕ → Buffers → ℕ → Moment
 ran C f own zero = opened C f own
-ran C f own (suc j) = stepped C j (ran C f own j .buffers)
+ran C f own (suc j) = nextIteration C j (ran C f own j .buffers)
 
 -- an accepted channel
 module _ (C : Code) (G : GoodCode C) (f : List ℕ) (own : Buffers) (fits : frameFault C f ≡ 0) (room : Room C own) (bytes : Below 255 f) where
@@ -50,7 +50,7 @@ module _ (C : Code) (G : GoodCode C) (f : List ℕ) (own : Buffers) (fits : fram
 
   -- one iteration, where the parts hold a state of a run
   stepped-at : (s : State) → Sound C G own room s
-      → stepped C (s .t) (at C G own room s) ≡ moment (stateAfter C (s .t + 1) (iteration C s .costs)) 0 (s .t + 1) (at C G own room (iteration C s))
+      → nextIteration C (s .t) (at C G own room s) ≡ moment (stateAfter C (s .t + 1) (iteration C s .costs)) 0 (s .t + 1) (at C G own room (iteration C s))
   stepped-at s S =
       ap (λ l. gone C (s .t + 1) l (at C G own room s)) further-at
       ∙ ap (moment (stateAfter C (s .t + 1) (iteration C s .costs)) 0 (s .t + 1))
@@ -74,8 +74,8 @@ module _ (C : Code) (G : GoodCode C) (f : List ℕ) (own : Buffers) (fits : fram
   ran-at (suc j) =
       let s : State = after C f j in
       let e : j + 1 ≡ suc j = omega arith in
-      ap (λ (m : Moment). stepped C j (m .buffers)) (ran-at j)
-      ∙ ap (λ t. stepped C t (at C G own room s)) (sym (after-t C f j))
+      ap (λ (m : Moment). nextIteration C j (m .buffers)) (ran-at j)
+      ∙ ap (λ t. nextIteration C t (at C G own room s)) (sym (after-t C f j))
       ∙ stepped-at s (after-sound j)
       ∙ ap (λ t. moment (stateAfter C t (iteration C s .costs)) 0 t (at C G own room (iteration C s))) (ap (λ t. t + 1) (after-t C f j) ∙ e)
       ∙ ap (λ s. moment (stateAfter C (suc j) (s .costs)) 0 (suc j) (at C G own room s)) (sym (after-suc C f j))

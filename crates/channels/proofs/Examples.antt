@@ -38,9 +38,9 @@ pub spent : served .spent ≡ 1
 unfolding channels results counted servings serving after finished answer iteration update message sent parse firstOk checks checkAt edges readEdge frameFault place spread arriving outgoing incoming settled symbols margins marginOf choices leastCost xor
 spent = refl
 
-pub decisions : served .buffers .symbols ≡ 7 ∷ 7 ∷ 7 ∷ 0 ∷ 0 ∷ 0 ∷ 1 ∷ 1 ∷ 0 ∷ 1 ∷ 0 ∷ 0 ∷ []
+pub example-decisions : served .buffers .symbols ≡ 7 ∷ 7 ∷ 7 ∷ 0 ∷ 0 ∷ 0 ∷ 1 ∷ 1 ∷ 0 ∷ 1 ∷ 0 ∷ 0 ∷ []
 unfolding channels results counted servings serving after finished received iteration update message sent parse firstOk checks checkAt edges readEdge frameFault place spread arriving outgoing incoming settled symbols margins marginOf choices leastCost xor
-decisions = refl
+example-decisions = refl
 
 -- margins of the first decisions for the frames found at t = 0 and spent, of the last ones for the one found by its iteration
 pub margins-then : served .buffers .margins ≡ 7 ∷ 7 ∷ 7 ∷ 5 ∷ 3 ∷ 2 ∷ 1 ∷ 1 ∷ 1 ∷ 5 ∷ 3 ∷ 2 ∷ []

@@ -10,7 +10,7 @@ use native.Mathlib.Omega.{arith}
 use lib.ListN.{length, getD}
 use Rattle.trellis.specs.Lists.{countFrom, keep}
 use Rattle.channels.specs.Serving.{Served, countOf, servings, sum, unfinished, Next, Fair}
-use Rattle.channels.proofs.Servings.{Counted, length-counts, sum-left, one-serving, own-serving, left-falls, was-unfinished, spent-left}
+use Rattle.channels.proofs.Servings.{CountRises, length-counts, sum-left, one-serving, own-serving, left-falls, was-unfinished, spent-left}
 
 -- sums of two lists, the second above the first by at most 1 where a test holds
 abbrev one : Bool → ℕ
@@ -93,7 +93,7 @@ module _ (fin : ℕ → ℕ → Bool) (n A : ℕ) (some : 0 < n) (k : ℕ) where
       next : S (k + suc j) ≡ S (suc (k + j))
       next = ap S (add-suc k j)
 
-      go : (countOf (S (k + j)) c ≡ countOf (S k) c) ⊎ Went j c → (countOf (S (suc (k + j))) c ≡ countOf (S (k + j)) c) ⊎ Counted fin ((k + j) % n) c (S (k + j)) (S (suc (k + j)))
+      go : (countOf (S (k + j)) c ≡ countOf (S k) c) ⊎ Went j c → (countOf (S (suc (k + j))) c ≡ countOf (S (k + j)) c) ⊎ CountRises fin ((k + j) % n) c (S (k + j)) (S (suc (k + j)))
           → (countOf (S (k + suc j)) c ≡ countOf (S k) c) ⊎ Went (suc j) c
       go (inl a) (inl b) = inl (ap (λ s. countOf s c) next ∙ b ∙ a)
       go (inl a) (inr M) =

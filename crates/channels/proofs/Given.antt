@@ -24,14 +24,14 @@ use Rattle.codeline.proofs.Answered.{header-refused}
 use Rattle.layered.proofs.Decoded.{used-is}
 use Rattle.channels.specs.declared.layout.Layout.{Layout}
 use Rattle.channels.specs.Channels.{Results, results, refusing, countTests, testsFor, under, channels}
-use Rattle.channels.specs.inner.Rounds.{Standing, standing, loading, roundsAt, loadedTo, RoomFor, Asked, Ends, replyBy, statusAt, countAt, Serves}
+use Rattle.channels.specs.inner.Rounds.{Standing, standing, loadStanding, roundsAt, loadedTo, RoomFor, Asked, Ends, replyBy, statusAt, countAt, Serves}
 use Rattle.channels.specs.Answers.{Gives}
 use Rattle.channels.specs.inner.Layouts.{codeFor, LaidOut, Fitted, countFault, faultFor, FaultRoom, LoadsRoom, UnderRoom}
 use Rattle.trellis.proofs.Refusals.{refused-by, passed-by, none-applies}
 use Rattle.channels.proofs.Refused.{count-numbered, count-passed, whole-numbered, whole-passed}
 use Rattle.channels.proofs.Ends.{eight-end}
 use Rattle.channels.proofs.Quiet.{round-left}
-use Rattle.channels.proofs.Loads.{beside, loads-beside}
+use Rattle.channels.proofs.Loads.{standingWith, loads-beside}
 use Rattle.channels.proofs.Serves.{serves-loaded}
 
 -- what is left of eight zeros
@@ -122,9 +122,9 @@ module _ (z : Layout) (ds cs ws : List ℕ) (H : Fitted z ds cs ws) (n A : ℕ) 
     l₀ = standing (replicate 8 0) (replicate 8 0) A b
 
     -- the loads, with what they are not lent
-    pub loads-with : (st y′ p′ v′ : List ℕ) → loading st y′ p′ v′ ≡ loadedTo C fs n (loading (replicate 8 0) y p v)
+    pub loads-with : (st y′ p′ v′ : List ℕ) → loadStanding st y′ p′ v′ ≡ loadedTo C fs n (loadStanding (replicate 8 0) y p v)
         → standing st (replicate 8 0) A (lending y′ p′ s v′) ≡ loadedTo C fs n l₀
-    loads-with st y′ p′ v′ o = ap (beside s (replicate 8 0) A) o ∙ sym (loads-beside C fs s (replicate 8 0) A (loading (replicate 8 0) y p v) n)
+    loads-with st y′ p′ v′ o = ap (standingWith s (replicate 8 0) A) o ∙ sym (loads-beside C fs s (replicate 8 0) A (loadStanding (replicate 8 0) y p v) n)
 
     -- the service may begin
     pub begins : (l : Standing) → l ≡ loadedTo C fs n l₀ → Serves C (H .coded .good) n l

@@ -104,8 +104,8 @@ module _ (C : Code) (fs : List ℕ) (n : ℕ) (l₀ : Standing) (W : Rooms C n l
   loaded = loads n (omega arith)
 
 -- a load sees no store, no counts and no allowance: with these beside it leaves the same
-abbrev pub beside : List ℕ → List ℕ → ℕ → Standing → Standing
-beside s t a l = standing (l .status) t a (lending (l .buffers .symbols) (l .buffers .costs) s (l .buffers .margins))
+abbrev pub standingWith : List ℕ → List ℕ → ℕ → Standing → Standing
+standingWith s t a l = standing (l .status) t a (lending (l .buffers .symbols) (l .buffers .costs) s (l .buffers .margins))
 
 -- where the test of channel c's frame decides
 abbrev leave : Code → List ℕ → ℕ → Bool → Standing → Standing
@@ -114,15 +114,15 @@ leave C f c i l =
     let m : Moment = pick i (moment (pick (settled C f) 2 1) 0 0 (holding C f (own .store) own)) (moment 4 (frameFault C f) 0 own) in
     standing (set (l .status) c (statusOf (m .stage))) (l .counts) (l .left) (patchAt C c (l .buffers) (m .buffers))
 
-load-beside : (C : Code) (fs : List ℕ) (c : ℕ) (s t : List ℕ) (a : ℕ) (l : Standing) → loadedAt C fs c (beside s t a l) ≡ beside s t a (loadedAt C fs c l)
+load-beside : (C : Code) (fs : List ℕ) (c : ℕ) (s t : List ℕ) (a : ℕ) (l : Standing) → loadedAt C fs c (standingWith s t a l) ≡ standingWith s t a (loadedAt C fs c l)
 unfolding loadedAt loadAt
 load-beside C fs c s t a l = go (eqb (frameFault C (frameOf C fs c)) 0)
   where
-    go : (i : Bool) → leave C (frameOf C fs c) c i (beside s t a l) ≡ beside s t a (leave C (frameOf C fs c) c i l)
+    go : (i : Bool) → leave C (frameOf C fs c) c i (standingWith s t a l) ≡ standingWith s t a (leave C (frameOf C fs c) c i l)
     go true = rw (patch-same s (c * used C) (used C)) refl
     go false = rw (patch-same s (c * used C) (used C)) refl
 
-pub loads-beside : (C : Code) (fs : List ℕ) (s t : List ℕ) (a : ℕ) (l : Standing) (n : ℕ) → loadedTo C fs n (beside s t a l) ≡ beside s t a (loadedTo C fs n l)
+pub loads-beside : (C : Code) (fs : List ℕ) (s t : List ℕ) (a : ℕ) (l : Standing) (n : ℕ) → loadedTo C fs n (standingWith s t a l) ≡ standingWith s t a (loadedTo C fs n l)
 unfolding loadedTo
 loads-beside C fs s t a l zero = refl
 loads-beside C fs s t a l (suc n) = ap (loadedAt C fs n) (loads-beside C fs s t a l n) ∙ load-beside C fs n s t a (upto (loadedAt C fs) n l)

@@ -8,7 +8,7 @@ use native.Mathlib.Omega.{arith}
 use lib.ListN.{replicate}
 use Rattle.trellis.specs.Lists.{upto}
 use Rattle.channels.specs.Serving.{Served, serving, servings, serve}
-use Rattle.channels.proofs.Servings.{Moves, Skips, serving-cases}
+use Rattle.channels.proofs.Servings.{Iterates, Skips, serving-cases}
 
 module _ (fin : ℕ → ℕ → Bool) (n A : ℕ) where
   -- one round: each channel's serving, by number
@@ -53,13 +53,13 @@ module _ (fin : ℕ → ℕ → Bool) (n A : ℕ) where
   falls : (c : ℕ) (s : Served) → upto (serving fin) c s .left ≤ s .left
   falls zero s = omega arith
   falls (suc c) s =
-      ⊎-elim (λ (M : Moves fin c (upto (serving fin) c s) (serving fin c (upto (serving fin) c s))). omega (arith, M .left, falls c s))
+      ⊎-elim (λ (M : Iterates fin c (upto (serving fin) c s) (serving fin c (upto (serving fin) c s))). omega (arith, M .left, falls c s))
       (λ (K : Skips fin c (upto (serving fin) c s) (serving fin c (upto (serving fin) c s))). rw (K .same) (falls c s)) (serving-cases fin c (upto (serving fin) c s))
 
   nobody : (c : ℕ) (s : Served) → upto (serving fin) c s .left ≡ s .left → upto (serving fin) c s ≡ s
   nobody zero s e = refl
   nobody (suc c) s e =
-      ⊎-elim (λ (M : Moves fin c (upto (serving fin) c s) (serving fin c (upto (serving fin) c s))). absurd (omega (arith, M .left, M .some, falls c s)))
+      ⊎-elim (λ (M : Iterates fin c (upto (serving fin) c s) (serving fin c (upto (serving fin) c s))). absurd (omega (arith, M .left, M .some, falls c s)))
       (λ (K : Skips fin c (upto (serving fin) c s) (serving fin c (upto (serving fin) c s))).
       K .same ∙ nobody c s (ap (λ (s : Served). s .left) (sym (K .same)) ∙ e)) (serving-cases fin c (upto (serving fin) c s))
 

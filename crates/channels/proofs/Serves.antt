@@ -23,7 +23,7 @@ use Rattle.machine.proofs.Ranges.{below-take, below-drop, frame-ranged}
 use Rattle.machine.proofs.Passing.{updates-before, iteration-passable}
 use Rattle.machine.proofs.Buffers.{length-symbols, length-margins}
 use Rattle.channels.specs.Channels.{frameOf, ownOf}
-use Rattle.channels.specs.inner.Rounds.{opened, stepped, stepAt, statusOf, Standing, statusAt, countAt, loadedTo, movedAt, servingAt, roundAt, roundsAt, Rooms, lentIn, Serves}
+use Rattle.channels.specs.inner.Rounds.{opened, nextIteration, stepAt, statusOf, Standing, statusAt, countAt, loadedTo, movedAt, servingAt, roundAt, roundsAt, Rooms, lentIn, Serves}
 use Rattle.channels.proofs.Parts.{length-part, Exact, own-exact}
 use Rattle.channels.proofs.Call.{fault-13}
 use Rattle.channels.proofs.Patches.{patch-room, patch-own, patch-other}
@@ -75,12 +75,12 @@ module _ (C : Code) (G : GoodCode C) where
     unfolding now iterationLent
     now-store = updates-before C G (eqb t 0) (lentIn own) (P .ranged) (P .room) (length (C .checks)) (omega arith) .room
 
-    step-is : stepped C t own ≡ gone C (t + 1) now own
+    step-is : nextIteration C t own ≡ gone C (t + 1) now own
     unfolding now
     step-is = ap (λ l. gone C (t + 1) l own) (further-own t own E)
 
     -- keeps the lengths of the parts,
-    pub stepped-exact : Exact C (stepped C t own .buffers)
+    pub stepped-exact : Exact C (nextIteration C t own .buffers)
     stepped-exact =
         subst (λ (m : Moment). Exact C (m .buffers)) (sym step-is)
         record {
@@ -91,13 +91,13 @@ module _ (C : Code) (G : GoodCode C) where
         }
 
     -- leaves costs and records from which the next one may go on,
-    pub stepped-passable : Passable C G (eqb (t + 1) 0) (lentIn (stepped C t own .buffers))
+    pub stepped-passable : Passable C G (eqb (t + 1) 0) (lentIn (nextIteration C t own .buffers))
     stepped-passable =
         subst (λ (m : Moment). Passable C G (eqb (t + 1) 0) (lentIn (m .buffers))) (sym step-is)
         (rw (ne-eqb (t + 1) 0 (λ (z : t + 1 ≡ 0). omega arith), filled (now .costs) (own .costs) (C .columns * size C) (E .costs)) now-passable)
 
     -- and leaves the channel running only below the limit
-    pub stepped-below : statusOf (stepped C t own .stage) ≡ 20 → t + 1 < C .limit
+    pub stepped-below : statusOf (nextIteration C t own .stage) ≡ 20 → t + 1 < C .limit
     unfolding statusOf
     stepped-below h =
         go (settled C (now .costs)) (leb (C .limit) (t + 1)) refl (ap (λ (m : Moment). statusOf (m .stage)) (sym step-is) ∙ h)
@@ -142,7 +142,7 @@ module _ (C : Code) (G : GoodCode C) where
       moved-serves : statusAt l c ≡ 20 → Serves C G n (movedAt C c l)
       unfolding movedAt stepAt own t
       moved-serves e =
-          let m : Moment = stepped C t own in
+          let m : Moment = nextIteration C t own in
           let P : Passable C G (eqb t 0) (lentIn own) = S .passable c h e in
           let X : Exact C (m .buffers) = stepped-exact t own E P in
           record {

@@ -15,7 +15,7 @@ use Rattle.trellis.specs.Lists.{pick}
 use Rattle.channels.specs.Serving.{Served, countOf, serving, servings, sum, Adds}
 
 -- a serving that is skipped, or one that makes an iteration
-pub record Moves (fin : ℕ → ℕ → Bool) (c : ℕ) (s s′ : Served) : Type 0 where
+pub record Iterates (fin : ℕ → ℕ → Bool) (c : ℕ) (s s′ : Served) : Type 0 where
   pub unfinished : fin c (countOf s c) ≡ false
   pub some : 0 < s .left
   pub counts : s′ .counts ≡ set (s .counts) c (countOf s c + 1)
@@ -25,14 +25,14 @@ pub record Skips (fin : ℕ → ℕ → Bool) (c : ℕ) (s s′ : Served) : Type
   pub same : s′ ≡ s
   pub why : (fin c (countOf s c) ≡ true) ⊎ (s .left ≡ 0)
 
-pub serving-cases : (fin : ℕ → ℕ → Bool) (c : ℕ) (s : Served) → Moves fin c s (serving fin c s) ⊎ Skips fin c s (serving fin c s)
+pub serving-cases : (fin : ℕ → ℕ → Bool) (c : ℕ) (s : Served) → Iterates fin c s (serving fin c s) ⊎ Skips fin c s (serving fin c s)
 unfolding serving
 serving-cases fin c s = go (fin c (countOf s c)) refl (eqb (s .left) 0) refl
   where
     moved : Served
     moved = record { counts = set (s .counts) c (countOf s c + 1); left = s .left - 1 }
 
-    go : (i : Bool) → fin c (countOf s c) ≡ i → (j : Bool) → eqb (s .left) 0 ≡ j → Moves fin c s (pick (i || j) s moved) ⊎ Skips fin c s (pick (i || j) s moved)
+    go : (i : Bool) → fin c (countOf s c) ≡ i → (j : Bool) → eqb (s .left) 0 ≡ j → Iterates fin c s (pick (i || j) s moved) ⊎ Skips fin c s (pick (i || j) s moved)
     go true a j b = inr (record { same = refl; why = inl a })
     go false a true b = inr (record { same = refl; why = inr (eqb-true _ _ b) })
     go false a false b = let k = eqb-false (s .left) 0 b in inl (record { unfinished = a; some = positive (s .left) k; counts = refl; left = refl })
@@ -57,14 +57,14 @@ member-sum (x ∷ l) zero = omega arith
 member-sum (x ∷ l) (suc c) = omega (arith, member-sum l c)
 
 -- what a serving of channel d does to channel c
-pub record Counted (fin : ℕ → ℕ → Bool) (d c : ℕ) (s s′ : Served) : Type 0 where
+pub record CountRises (fin : ℕ → ℕ → Bool) (d c : ℕ) (s s′ : Served) : Type 0 where
   pub its-serving : c ≡ d
   pub unfinished : fin c (countOf s c) ≡ false
   pub one-more : countOf s′ c ≡ suc (countOf s c)
 
-pub serving-count : (fin : ℕ → ℕ → Bool) (d : ℕ) (s : Served) → d < length (s .counts) → (c : ℕ) → (countOf (serving fin d s) c ≡ countOf s c) ⊎ Counted fin d c s (serving fin d s)
+pub serving-count : (fin : ℕ → ℕ → Bool) (d : ℕ) (s : Served) → d < length (s .counts) → (c : ℕ) → (countOf (serving fin d s) c ≡ countOf s c) ⊎ CountRises fin d c s (serving fin d s)
 serving-count fin d s h c =
-    ⊎-elim (λ (M : Moves fin d s (serving fin d s)).
+    ⊎-elim (λ (M : Iterates fin d s (serving fin d s)).
     elim (ℕ-discrete c d) [
       | yes e ↦ inr (record { its-serving = e; unfinished = rw e (M .unfinished); one-more = rw (e, M .counts, getD-set-same (s .counts) d (countOf s d + 1) 0 h) (omega arith) })
       | no e ↦ inl (rw (M .counts) (getD-set-other (s .counts) d c (countOf s d + 1) 0 e))
@@ -87,7 +87,7 @@ module _ (fin : ℕ → ℕ → Bool) (n A : ℕ) (some : 0 < n) where
   length-counts zero = rw first (length-replicate n 0)
   length-counts (suc k) =
       rw (step k)
-      (⊎-elim (λ (M : Moves fin (k % n) (S k) (serving fin (k % n) (S k))). rw (M .counts) (length-set (S k .counts) (k % n) _ ∙ length-counts k))
+      (⊎-elim (λ (M : Iterates fin (k % n) (S k) (serving fin (k % n) (S k))). rw (M .counts) (length-set (S k .counts) (k % n) _ ∙ length-counts k))
       (λ (K : Skips fin (k % n) (S k) (serving fin (k % n) (S k))). rw (K .same) (length-counts k)) (serving-cases fin (k % n) (S k)))
 
   in-range : (k : ℕ) → k % n < length (S k .counts)
@@ -98,10 +98,10 @@ module _ (fin : ℕ → ℕ → Bool) (n A : ℕ) (some : 0 < n) where
   sum-left zero = rw first (omega (arith, sum-none n))
   sum-left (suc k) =
       rw (step k)
-      (⊎-elim (λ (M : Moves fin (k % n) (S k) (serving fin (k % n) (S k))). rw (M .counts, M .left, sum-set (S k .counts) (k % n) (in-range k)) (omega (arith, sum-left k, M .some)))
+      (⊎-elim (λ (M : Iterates fin (k % n) (S k) (serving fin (k % n) (S k))). rw (M .counts, M .left, sum-set (S k .counts) (k % n) (in-range k)) (omega (arith, sum-left k, M .some)))
       (λ (K : Skips fin (k % n) (S k) (serving fin (k % n) (S k))). rw (K .same) (sum-left k)) (serving-cases fin (k % n) (S k)))
 
-  pub one-serving : (k c : ℕ) → (countOf (S (suc k)) c ≡ countOf (S k) c) ⊎ Counted fin (k % n) c (S k) (S (suc k))
+  pub one-serving : (k c : ℕ) → (countOf (S (suc k)) c ≡ countOf (S k) c) ⊎ CountRises fin (k % n) c (S k) (S (suc k))
   one-serving k c = rw (step k) (serving-count fin (k % n) (S k) (in-range k) c)
 
   -- a channel was unfinished at each of its iterations
@@ -116,7 +116,7 @@ module _ (fin : ℕ → ℕ → Bool) (n A : ℕ) (some : 0 < n) where
       none : i < countOf (S 0) c → ⊥
       none h = let z : countOf (S 0) c ≡ 0 = rw first (zeros n c) in omega arith
   unfinished-before (suc k) c i h =
-      ⊎-elim (λ e. unfinished-before k c i (omega arith)) (λ (M : Counted fin (k % n) c (S k) (S (suc k))).
+      ⊎-elim (λ e. unfinished-before k c i (omega arith)) (λ (M : CountRises fin (k % n) c (S k) (S (suc k))).
       elim (ℕ-discrete i (countOf (S k) c)) [
         | yes e ↦ rw e (M .unfinished)
         | no e ↦ unfinished-before k c i (omega (arith, M .one-more))
@@ -126,12 +126,12 @@ module _ (fin : ℕ → ℕ → Bool) (n A : ℕ) (some : 0 < n) where
   pub counts-rise : (k d c : ℕ) → countOf (S k) c ≤ countOf (S (k + d)) c
   counts-rise k zero c = rw (add-zero k) (omega arith)
   counts-rise k (suc d) c =
-      rw (add-suc k d) (⊎-elim (λ e. omega (arith, counts-rise k d c)) (λ (M : Counted fin ((k + d) % n) c (S (k + d)) (S (suc (k + d)))). omega (arith, M .one-more, counts-rise k d c)) (one-serving (k + d) c))
+      rw (add-suc k d) (⊎-elim (λ e. omega (arith, counts-rise k d c)) (λ (M : CountRises fin ((k + d) % n) c (S (k + d)) (S (suc (k + d)))). omega (arith, M .one-more, counts-rise k d c)) (one-serving (k + d) c))
 
   sums-rise : (k : ℕ) → S (suc k) .left ≤ S k .left
   sums-rise k =
       rw (step k)
-      (⊎-elim (λ (M : Moves fin (k % n) (S k) (serving fin (k % n) (S k))). omega (arith, M .left)) (λ (K : Skips fin (k % n) (S k) (serving fin (k % n) (S k))). rw (K .same) (omega arith)) (serving-cases fin (k % n) (S k)))
+      (⊎-elim (λ (M : Iterates fin (k % n) (S k) (serving fin (k % n) (S k))). omega (arith, M .left)) (λ (K : Skips fin (k % n) (S k) (serving fin (k % n) (S k))). rw (K .same) (omega arith)) (serving-cases fin (k % n) (S k)))
 
   pub left-falls : (k d : ℕ) → S (k + d) .left ≤ S k .left
   left-falls k zero = rw (add-zero k) (omega arith)
@@ -141,7 +141,7 @@ module _ (fin : ℕ → ℕ → Bool) (n A : ℕ) (some : 0 < n) where
   finished-stays k zero c h = rw (add-zero k)
   finished-stays k (suc d) c h =
       rw (add-suc k d)
-      (⊎-elim (λ e. e ∙ finished-stays k d c h) (λ (M : Counted fin ((k + d) % n) c (S (k + d)) (S (suc (k + d)))).
+      (⊎-elim (λ e. e ∙ finished-stays k d c h) (λ (M : CountRises fin ((k + d) % n) c (S (k + d)) (S (suc (k + d)))).
       let e : fin c (countOf (S k) c) ≡ false = ap (fin c) (sym (finished-stays k d c h)) ∙ M .unfinished in
       let z : _≡_ {A = ℕ} 0 1 = cc in absurd (omega arith)) (one-serving (k + d) c))
 
@@ -159,7 +159,7 @@ module _ (fin : ℕ → ℕ → Bool) (n A : ℕ) (some : 0 < n) where
   pub own-serving : (k c : ℕ) → k % n ≡ c → fin c (countOf (S k) c) ≡ false → 0 < S k .left → countOf (S (suc k)) c ≡ suc (countOf (S k) c)
   own-serving k c e u l =
       rw (step k)
-      (⊎-elim (λ (M : Moves fin (k % n) (S k) (serving fin (k % n) (S k))).
+      (⊎-elim (λ (M : Iterates fin (k % n) (S k) (serving fin (k % n) (S k))).
       rw (M .counts, e, getD-set-same (S k .counts) c (countOf (S k) c + 1) 0 (rw (← e) (in-range k))) (omega arith))
       (λ (K : Skips fin (k % n) (S k) (serving fin (k % n) (S k))).
       ⊎-elim (λ (f : fin (k % n) (countOf (S k) (k % n)) ≡ true).

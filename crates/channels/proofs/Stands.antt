@@ -14,7 +14,7 @@ use Rattle.machine.specs.CodeLine.{Code}
 use Rattle.machine.specs.Moments.{Moment}
 use Rattle.channels.specs.Serving.{Served, countOf, serving, serve}
 use Rattle.channels.specs.Channels.{ownOf}
-use Rattle.channels.specs.inner.Rounds.{stepped, stepAt, patchAt, statusOf, Standing, standing, statusAt, countAt, idleAt, movedAt, servingAt, roundAt, roundsAt, Rooms}
+use Rattle.channels.specs.inner.Rounds.{nextIteration, stepAt, patchAt, statusOf, Standing, standing, statusAt, countAt, idleAt, movedAt, servingAt, roundAt, roundsAt, Rooms}
 use Rattle.channels.proofs.Rounds.{round, rounds, begin, serve-rounds}
 use Rattle.channels.proofs.Parts.{Exact}
 use Rattle.channels.proofs.Patches.{Beyond, patch-room, patch-own, patch-other, patch-beyond}
@@ -33,7 +33,7 @@ module _ (C : Code) (n : ℕ) (fin : ℕ → ℕ → Bool) (rn : ℕ → ℕ →
 
   -- what Bridge gives of each channel
   pub record Runs : Type 0 where
-    pub next : (c j : ℕ) → c < n → rn c (suc j) ≡ stepped C j (rn c j .buffers)
+    pub next : (c j : ℕ) → c < n → rn c (suc j) ≡ nextIteration C j (rn c j .buffers)
     pub ends : (c j : ℕ) → c < n → Until c j → fin c j ≡ not (eqb (rn c j .stage .state) 1)
     pub twenty : (c j : ℕ) → c < n → Until c j → eqb (statusOf (rn c j .stage)) 20 ≡ eqb (rn c j .stage .state) 1
     pub exact : (c j : ℕ) → c < n → Until c j → Exact C (rn c j .buffers)
@@ -65,7 +65,7 @@ module _ (C : Code) (n : ℕ) (fin : ℕ → ℕ → Bool) (rn : ℕ → ℕ →
 
     moment-is : stepAt C c (countAt l c) (l .buffers) ≡ rn c (suc j)
     unfolding stepAt
-    moment-is = ap₂ (stepped C) (S .counts c h) (S .parts c h) ∙ sym (H .next c j h)
+    moment-is = ap₂ (nextIteration C) (S .counts c h) (S .parts c h) ∙ sym (H .next c j h)
 
     module _ (going : fin c j ≡ false) where
       s′ : Served

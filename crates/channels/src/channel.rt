@@ -24,7 +24,7 @@ fn status_of(s: Stage) -> u8
 // untouched.
 pub fn load_at(
     c: usize,
-    z: Layout,
+    layout: Layout,
     degrees: &[u8],
     columns: &[u16],
     weights: &[u8],
@@ -33,24 +33,24 @@ pub fn load_at(
     costs: &mut [u16],
     margins: &mut [u16],
 ) -> u8
-    requires { ⌜ LoadRoom c z (now degrees) (now columns) (now weights) (now frames) (now symbols) (now costs) (now margins) ⌝ }
-    ensures { λ r. ⌜ Puts (codeFor z (now (degrees .entry)) (now (columns .entry)) (now (weights .entry))) c
+    requires { ⌜ LoadRoom c layout (now degrees) (now columns) (now weights) (now frames) (now symbols) (now costs) (now margins) ⌝ }
+    ensures { λ r. ⌜ Puts (codeFor layout (now (degrees .entry)) (now (columns .entry)) (now (weights .entry))) c
         (unstored (now (symbols .entry)) (now (costs .entry)) (now (margins .entry)))
-        (loadAt (codeFor z (now (degrees .entry)) (now (columns .entry)) (now (weights .entry))) (now (frames .entry)) c
+        (loadAt (codeFor layout (now (degrees .entry)) (now (columns .entry)) (now (weights .entry))) (now (frames .entry)) c
         (unstored (now (symbols .entry)) (now (costs .entry)) (now (margins .entry)))) r
         (unstored (now (symbols .exit)) (now (costs .exit)) (now (margins .exit))) ⌝ }
 {
-    let a = c * z.columns;
-    let b = a + z.columns;
-    let d = c * z.costs;
-    let e = d + z.costs;
-    let k = frame::frame_fault(z.numbers, &frames[d..e]);
+    let a = c * layout.columns;
+    let b = a + layout.columns;
+    let d = c * layout.costs;
+    let e = d + layout.costs;
+    let k = frame::frame_fault(layout.numbers, &frames[d..e]);
     if k != 0 {
         return k;
     }
     frame::copy(&frames[d..e], &mut costs[d..e]);
     let found = stages::tested(
-        z.numbers,
+        layout.numbers,
         degrees,
         columns,
         weights,
@@ -58,14 +58,14 @@ pub fn load_at(
         &mut symbols[a..b],
         &mut margins[a..b],
     );
-    status_of(stages::stage_after(found, 0, z.numbers.limit))
+    status_of(stages::stage_after(found, 0, layout.numbers.limit))
 }
 
 // Its next iteration, after t.
 pub fn step_at(
     c: usize,
     t: u8,
-    z: Layout,
+    layout: Layout,
     degrees: &[u8],
     columns: &[u16],
     weights: &[u8],
@@ -76,22 +76,22 @@ pub fn step_at(
     arrived: &mut [u8],
     sent: &mut [u8],
 ) -> u8
-    requires { ⌜ NextRoom c t z (now degrees) (now columns) (now weights) (lending (now symbols) (now costs) (now store) (now margins))
+    requires { ⌜ NextRoom c t layout (now degrees) (now columns) (now weights) (lending (now symbols) (now costs) (now store) (now margins))
         (now arrived) (now sent) ⌝ }
-    ensures { λ r. ⌜ Puts (codeFor z (now (degrees .entry)) (now (columns .entry)) (now (weights .entry))) c
+    ensures { λ r. ⌜ Puts (codeFor layout (now (degrees .entry)) (now (columns .entry)) (now (weights .entry))) c
         (lending (now (symbols .entry)) (now (costs .entry)) (now (store .entry)) (now (margins .entry)))
-        (stepAt (codeFor z (now (degrees .entry)) (now (columns .entry)) (now (weights .entry))) c t
+        (stepAt (codeFor layout (now (degrees .entry)) (now (columns .entry)) (now (weights .entry))) c t
         (lending (now (symbols .entry)) (now (costs .entry)) (now (store .entry)) (now (margins .entry)))) r
         (lending (now (symbols .exit)) (now (costs .exit)) (now (store .exit)) (now (margins .exit))) ⌝ }
 {
-    let a = c * z.columns;
-    let b = a + z.columns;
-    let d = c * z.costs;
-    let e = d + z.costs;
-    let f = c * z.store;
-    let g = f + z.store;
+    let a = c * layout.columns;
+    let b = a + layout.columns;
+    let d = c * layout.costs;
+    let e = d + layout.costs;
+    let f = c * layout.store;
+    let g = f + layout.store;
     let found = stages::iterated(
-        z.numbers,
+        layout.numbers,
         t == 0,
         degrees,
         columns,
@@ -103,5 +103,5 @@ pub fn step_at(
         arrived,
         sent,
     );
-    status_of(stages::stage_after(found, scalar::u8_to_u16(t) + 1, z.numbers.limit))
+    status_of(stages::stage_after(found, scalar::u8_to_u16(t) + 1, layout.numbers.limit))
 }

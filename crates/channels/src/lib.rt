@@ -6,6 +6,7 @@ mod service;
 mod whole;
 
 use crate::answers::Served;
+use scalar::sizes;
 ghost use Rattle.machine.specs.Decoding.{lending};
 ghost use Rattle.channels.specs.Channels.{channels};
 ghost use Rattle.channels.specs.Answers.{Gives};
@@ -28,9 +29,9 @@ pub fn decode_channels(
         (lending (now (symbols .entry)) (now (costs .entry)) (now (store .entry)) (now (margins .entry)))) (r .number) (r .spent)
         (r .status) (r .iterations) (lending (now (symbols .exit)) (now (costs .exit)) (now (store .exit)) (now (margins .exit))) ⌝ }
 {
-    let mut degrees = [0u8; 128];
-    let mut columns = [0u16; 1024];
-    let mut weights = [0u8; 1024];
+    let mut degrees = [0u8; sizes::MOST_CHECKS];
+    let mut columns = [0u16; sizes::MOST_EDGES];
+    let mut weights = [0u8; sizes::MOST_EDGES];
     whole::decode_in(
         count,
         allowance,

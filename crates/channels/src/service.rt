@@ -1,15 +1,16 @@
 // The channels in turn: all loaded, then rounds in which each that is running gets one iteration.
 use crate::channel;
 use crate::layout::Layout;
+use scalar::sizes;
 ghost use mathlib.Core.Path.{_≡_};
 ghost use Rattle.machine.specs.Decoding.{lending};
-ghost use Rattle.channels.specs.inner.Rounds.{standing, loading, servingAt, loadedTo, roundAt, roundsAt};
+ghost use Rattle.channels.specs.inner.Rounds.{standing, loadStanding, servingAt, loadedTo, roundAt, roundsAt};
 ghost use Rattle.channels.specs.inner.Layouts.{codeFor, LoadsRoom, OneRoom, RoundRoom, ServeRoom};
 
 // Every channel is loaded, by number.
 pub fn load_all(
     count: usize,
-    z: Layout,
+    layout: Layout,
     degrees: &[u8],
     columns: &[u16],
     weights: &[u8],
@@ -19,17 +20,17 @@ pub fn load_all(
     margins: &mut [u16],
     status: &mut [u8],
 )
-    requires { ⌜ LoadsRoom count z (now degrees) (now columns) (now weights) (now frames) (now symbols) (now costs) (now margins)
+    requires { ⌜ LoadsRoom count layout (now degrees) (now columns) (now weights) (now frames) (now symbols) (now costs) (now margins)
         (now status) ⌝ }
-    ensures { λ _. ⌜ loading (now (status .exit)) (now (symbols .exit)) (now (costs .exit)) (now (margins .exit))
-        ≡ loadedTo (codeFor z (now (degrees .entry)) (now (columns .entry)) (now (weights .entry))) (now (frames .entry)) count
-        (loading (now (status .entry)) (now (symbols .entry)) (now (costs .entry)) (now (margins .entry))) ⌝ }
+    ensures { λ _. ⌜ loadStanding (now (status .exit)) (now (symbols .exit)) (now (costs .exit)) (now (margins .exit))
+        ≡ loadedTo (codeFor layout (now (degrees .entry)) (now (columns .entry)) (now (weights .entry))) (now (frames .entry)) count
+        (loadStanding (now (status .entry)) (now (symbols .entry)) (now (costs .entry)) (now (margins .entry))) ⌝ }
 {
     let mut c = 0;
     while c < count {
         status[c] = channel::load_at(
             c,
-            z,
+            layout,
             degrees,
             columns,
             weights,
@@ -46,7 +47,7 @@ pub fn load_all(
 fn serve_at(
     c: usize,
     left: u32,
-    z: Layout,
+    layout: Layout,
     degrees: &[u8],
     columns: &[u16],
     weights: &[u8],
@@ -59,12 +60,12 @@ fn serve_at(
     arrived: &mut [u8],
     sent: &mut [u8],
 ) -> u32
-    requires { ⌜ OneRoom c z (now degrees) (now columns) (now weights)
+    requires { ⌜ OneRoom c layout (now degrees) (now columns) (now weights)
         (standing (now status) (now counts) left (lending (now symbols) (now costs) (now store) (now margins))) (now arrived)
         (now sent) ⌝ }
     ensures { λ r. ⌜ standing (now (status .exit)) (now (counts .exit)) r
         (lending (now (symbols .exit)) (now (costs .exit)) (now (store .exit)) (now (margins .exit)))
-        ≡ servingAt (codeFor z (now (degrees .entry)) (now (columns .entry)) (now (weights .entry))) c
+        ≡ servingAt (codeFor layout (now (degrees .entry)) (now (columns .entry)) (now (weights .entry))) c
         (standing (now (status .entry)) (now (counts .entry)) left
         (lending (now (symbols .entry)) (now (costs .entry)) (now (store .entry)) (now (margins .entry)))) ⌝ }
 {
@@ -78,7 +79,7 @@ fn serve_at(
     status[c] = channel::step_at(
         c,
         t,
-        z,
+        layout,
         degrees,
         columns,
         weights,
@@ -97,7 +98,7 @@ fn serve_at(
 fn round(
     count: usize,
     left: u32,
-    z: Layout,
+    layout: Layout,
     degrees: &[u8],
     columns: &[u16],
     weights: &[u8],
@@ -110,12 +111,12 @@ fn round(
     arrived: &mut [u8],
     sent: &mut [u8],
 ) -> u32
-    requires { ⌜ RoundRoom count z (now degrees) (now columns) (now weights)
+    requires { ⌜ RoundRoom count layout (now degrees) (now columns) (now weights)
         (standing (now status) (now counts) left (lending (now symbols) (now costs) (now store) (now margins))) (now arrived)
         (now sent) ⌝ }
     ensures { λ r. ⌜ standing (now (status .exit)) (now (counts .exit)) r
         (lending (now (symbols .exit)) (now (costs .exit)) (now (store .exit)) (now (margins .exit)))
-        ≡ roundAt (codeFor z (now (degrees .entry)) (now (columns .entry)) (now (weights .entry))) count
+        ≡ roundAt (codeFor layout (now (degrees .entry)) (now (columns .entry)) (now (weights .entry))) count
         (standing (now (status .entry)) (now (counts .entry)) left
         (lending (now (symbols .entry)) (now (costs .entry)) (now (store .entry)) (now (margins .entry)))) ⌝ }
 {
@@ -125,7 +126,7 @@ fn round(
         a = serve_at(
             c,
             a,
-            z,
+            layout,
             degrees,
             columns,
             weights,
@@ -147,7 +148,7 @@ fn round(
 fn rounds(
     count: usize,
     allowance: u32,
-    z: Layout,
+    layout: Layout,
     degrees: &[u8],
     columns: &[u16],
     weights: &[u8],
@@ -160,12 +161,12 @@ fn rounds(
     arrived: &mut [u8],
     sent: &mut [u8],
 ) -> u32
-    requires { ⌜ RoundRoom count z (now degrees) (now columns) (now weights)
+    requires { ⌜ RoundRoom count layout (now degrees) (now columns) (now weights)
         (standing (now status) (now counts) allowance (lending (now symbols) (now costs) (now store) (now margins))) (now arrived)
         (now sent) ⌝ }
     ensures { λ r. ⌜ standing (now (status .exit)) (now (counts .exit)) r
         (lending (now (symbols .exit)) (now (costs .exit)) (now (store .exit)) (now (margins .exit)))
-        ≡ roundsAt (codeFor z (now (degrees .entry)) (now (columns .entry)) (now (weights .entry))) count allowance
+        ≡ roundsAt (codeFor layout (now (degrees .entry)) (now (columns .entry)) (now (weights .entry))) count allowance
         (standing (now (status .entry)) (now (counts .entry)) allowance
         (lending (now (symbols .entry)) (now (costs .entry)) (now (store .entry)) (now (margins .entry)))) ⌝ }
 {
@@ -174,7 +175,7 @@ fn rounds(
         let b = round(
             count,
             a,
-            z,
+            layout,
             degrees,
             columns,
             weights,
@@ -198,7 +199,7 @@ fn rounds(
 pub fn serve(
     count: usize,
     allowance: u32,
-    z: Layout,
+    layout: Layout,
     degrees: &[u8],
     columns: &[u16],
     weights: &[u8],
@@ -209,20 +210,20 @@ pub fn serve(
     status: &mut [u8],
     counts: &mut [u8],
 ) -> u32
-    requires { ⌜ ServeRoom count z (now degrees) (now columns) (now weights)
+    requires { ⌜ ServeRoom count layout (now degrees) (now columns) (now weights)
         (standing (now status) (now counts) allowance (lending (now symbols) (now costs) (now store) (now margins))) ⌝ }
     ensures { λ r. ⌜ standing (now (status .exit)) (now (counts .exit)) r
         (lending (now (symbols .exit)) (now (costs .exit)) (now (store .exit)) (now (margins .exit)))
-        ≡ roundsAt (codeFor z (now (degrees .entry)) (now (columns .entry)) (now (weights .entry))) count allowance
+        ≡ roundsAt (codeFor layout (now (degrees .entry)) (now (columns .entry)) (now (weights .entry))) count allowance
         (standing (now (status .entry)) (now (counts .entry)) allowance
         (lending (now (symbols .entry)) (now (costs .entry)) (now (store .entry)) (now (margins .entry)))) ⌝ }
 {
-    let mut arrived = [0u8; 2048];
-    let mut sent = [0u8; 2048];
+    let mut arrived = [0u8; sizes::MOST_EXPANSION];
+    let mut sent = [0u8; sizes::MOST_EXPANSION];
     rounds(
         count,
         allowance,
-        z,
+        layout,
         degrees,
         columns,
         weights,

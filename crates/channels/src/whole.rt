@@ -4,6 +4,7 @@ use crate::layout;
 use crate::layout::Layout;
 use crate::service;
 use codeline::answers::Header;
+use scalar::sizes;
 ghost use mathlib.Core.Path.{_≡_};
 ghost use Rattle.machine.specs.CodeLine.{good};
 ghost use Rattle.machine.specs.Decoding.{Buffers, lending};
@@ -18,8 +19,8 @@ fn refused(k: u8) -> Served
     Served {
         number: k,
         spent: 0,
-        status: [0u8; 8],
-        iterations: [0u8; 8],
+        status: [0u8; sizes::MOST_CHANNELS],
+        iterations: [0u8; sizes::MOST_CHANNELS],
     }
 }
 
@@ -42,24 +43,24 @@ fn count_fault(count: u8, allowance: u32) -> u8
 // 12, 2, 3, 4 and 19 for the whole call, "each length being the count times one channel's"; 0 for none.
 fn fault(
     count: usize,
-    z: Layout,
+    layout: Layout,
     frames: usize,
     symbols: usize,
     costs: usize,
     store: usize,
     margins: usize,
 ) -> u8
-    requires { ⌜ FaultRoom count z ⌝ }
-    ensures { λ r. ⌜ r ≡ faultFor count z frames symbols costs store margins ⌝ }
+    requires { ⌜ FaultRoom count layout ⌝ }
+    ensures { λ r. ⌜ r ≡ faultFor count layout frames symbols costs store margins ⌝ }
 {
-    let w = count * z.costs;
+    let w = count * layout.costs;
     if frames != w {
         return 12;
     }
     frame::room_fault(
-        count * z.columns,
+        count * layout.columns,
         w,
-        count * z.store,
+        count * layout.store,
         symbols,
         costs,
         store,
@@ -71,7 +72,7 @@ fn fault(
 fn under_code(
     count: usize,
     allowance: u32,
-    z: Layout,
+    layout: Layout,
     degrees: &[u8],
     columns: &[u16],
     weights: &[u8],
@@ -81,16 +82,16 @@ fn under_code(
     store: &mut [u8],
     margins: &mut [u16],
 ) -> Served
-    requires { ⌜ UnderRoom count z (now degrees) (now columns) (now weights) ⌝ }
+    requires { ⌜ UnderRoom count layout (now degrees) (now columns) (now weights) ⌝ }
     ensures { λ r. ⌜ Gives
-        (under (good (codeFor z (now (degrees .entry)) (now (columns .entry)) (now (weights .entry)))) count allowance
+        (under (good (codeFor layout (now (degrees .entry)) (now (columns .entry)) (now (weights .entry)))) count allowance
         (now (frames .entry)) (lending (now (symbols .entry)) (now (costs .entry)) (now (store .entry)) (now (margins .entry))))
         (r .number) (r .spent) (r .status) (r .iterations)
         (lending (now (symbols .exit)) (now (costs .exit)) (now (store .exit)) (now (margins .exit))) ⌝ }
 {
     let k = fault(
         count,
-        z,
+        layout,
         frames.len(),
         symbols.len(),
         costs.len(),
@@ -100,11 +101,11 @@ fn under_code(
     if k != 0 {
         return refused(k);
     }
-    let mut status = [0u8; 8];
-    let mut counts = [0u8; 8];
+    let mut status = [0u8; sizes::MOST_CHANNELS];
+    let mut counts = [0u8; sizes::MOST_CHANNELS];
     service::load_all(
         count,
-        z,
+        layout,
         degrees,
         columns,
         weights,
@@ -117,7 +118,7 @@ fn under_code(
     let left = service::serve(
         count,
         allowance,
-        z,
+        layout,
         degrees,
         columns,
         weights,
@@ -146,9 +147,9 @@ pub fn decode_in(
     costs: &mut [u16],
     store: &mut [u8],
     margins: &mut [u16],
-    degrees: &mut [u8; 128],
-    columns: &mut [u16; 1024],
-    weights: &mut [u8; 1024],
+    degrees: &mut [u8; sizes::MOST_CHECKS],
+    columns: &mut [u16; sizes::MOST_EDGES],
+    weights: &mut [u8; sizes::MOST_EDGES],
 ) -> Served
     ensures { λ r. ⌜ Gives (channels count allowance (now (code .entry)) (now (frames .entry))
         (lending (now (symbols .entry)) (now (costs .entry)) (now (store .entry)) (now (margins .entry)))) (r .number) (r .spent)

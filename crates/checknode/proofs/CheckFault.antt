@@ -16,7 +16,7 @@ use Rattle.trellis.specs.Ready.{Ready}
 use Rattle.trellis.proofs.Tests.{of-true}
 use Rattle.field.specs.Answers.{weightsOk, weightsFault}
 use Rattle.checknode.specs.Answers.{zeroOk, checkCases, checkFault}
-use Rattle.field.proofs.Weighed.{Weighed, at-least, no-fault, fault-case, rest-case}
+use Rattle.field.proofs.Weighed.{WeightsAccepted, at-least, no-fault, fault-case, rest-case}
 use Rattle.checknode.proofs.Zeros.{ready-law}
 
 module _ (first : ℕ) (ws cs : List ℕ) (room : ℕ) where
@@ -25,7 +25,7 @@ module _ (first : ℕ) (ws cs : List ℕ) (room : ℕ) where
   unfolding checkFault
   fault-weights e n = fault-case first ws (λ k. k) _ e n
 
-  module _ (W : Weighed first ws) (w : ℕ) (s : w ≡ sizeOf first) where
+  module _ (W : WeightsAccepted first ws) (w : ℕ) (s : w ≡ sizeOf first) where
     pub fault-12 : length cs ≢ length ws * w → 12 ≡ checkFault first ws cs room
     unfolding checkFault
     fault-12 n = let e : length cs ≢ length ws * sizeOf first = rw s at n in sym (rest-case first ws W (λ k. k) _ ∙ simp (ne-eqb _ _ e))
@@ -81,7 +81,7 @@ module _ (first : ℕ) (ws cs : List ℕ) (room : ℕ) where
 
   -- a check that none of them refuses, and whose record fits
   pub record Passed : Type 0 where
-    pub weighed : Weighed first ws
+    pub weighed : WeightsAccepted first ws
     pub ready : Ready first ws cs
     pub fits : recordLength (ruleFor first) (length ws) ≤ room
 
@@ -94,7 +94,7 @@ module _ (first : ℕ) (ws cs : List ℕ) (room : ℕ) where
         | no n ↦ absurd (n (fault-case first ws (λ k. k) _ refl n ∙ sym f ∙ z))
       ]
     where
-      go : Weighed first ws → (x : Bool) → eqb (length cs) (length ws * sizeOf first) ≡ x → (y : Bool) → allTo (zeroOk (sizeOf first) cs) (length ws) ≡ y → (z : Bool) → ltb room (recordLength (ruleFor first) (length ws)) ≡ z
+      go : WeightsAccepted first ws → (x : Bool) → eqb (length cs) (length ws * sizeOf first) ≡ x → (y : Bool) → allTo (zeroOk (sizeOf first) cs) (length ws) ≡ y → (z : Bool) → ltb room (recordLength (ruleFor first) (length ws)) ≡ z
           → _≡_ {A = ℕ} (pick x (pick y (pick z 4 0) 13) 12) 0 → Passed
       go W false s y t z u e = absurd (omega arith)
       go W true s false t z u e = absurd (omega arith)

@@ -28,7 +28,7 @@ use Rattle.engine.proofs.Lines.{placed-row}
 use Rattle.engine.proofs.Record.{shift-is, record-parts}
 use Rattle.tables.specs.Calls.{inRange, sentLeaves}
 use Rattle.groups.specs.Calls.{groupsLength, groupsLeave}
-use Rattle.tables.proofs.Meaning.{Asked, sent-means}
+use Rattle.tables.proofs.Meaning.{CallRoom, sent-means}
 use Rattle.groups.proofs.Meaning.{groups-mean}
 use Rattle.checknode.specs.inner.Asks.{shiftsOf}
 use Rattle.field.specs.Answers.{rowOf}
@@ -64,7 +64,7 @@ module _ (first : ℕ) (ws cs : List ℕ) (D : Ready first ws cs) where
   abbrev cols : List Column
   cols = columnsOf (2 ^ p) ws cs
 
-  asked : Asked p most (length ws) greatest (ruleFor first) cols
+  asked : CallRoom p most (length ws) greatest (ruleFor first) cols
   unfolding inRange
   asked = record {
     rule = record { size = refl; join = refl; most = refl };

@@ -11,7 +11,7 @@ use Rattle.trellis.specs.Rules.{ruleFor, powerOf, sizeOf}
 use Rattle.trellis.specs.Reply.{accepted}
 use Rattle.trellis.proofs.Rules.{most-few}
 use Rattle.trellis.proofs.Recurrence.{size-64}
-use Rattle.field.proofs.Values.{Short, either, none, under}
+use Rattle.field.proofs.Values.{Short, either, none, short-under}
 use Rattle.checknode.specs.Answers.{zeroOk, checkReply}
 
 -- at most seven bytes for each of at most 63 symbols
@@ -24,7 +24,7 @@ groups-441 first h =
 pub check-short : (first : ℕ) (ws cs out : List ℕ) → checkReply first ws cs out .value ≤ 2048
 unfolding checkReply
 check-short first ws cs out =
-    under first ws _ (λ W.
+    short-under first ws _ (λ W.
     let l : Short (accepted (recordLength (ruleFor first) (length ws))) = record { small = omega (arith, W .few, groups-441 first (W .high)) } in
     either (eqb (length cs) (length ws * sizeOf first)) _ _
     (either (allTo (zeroOk (sizeOf first) cs) (length ws)) _ _ (either (ltb (length out) (recordLength (ruleFor first) (length ws))) _ _ (none 4) l) (none 13)) (none 12)) .small

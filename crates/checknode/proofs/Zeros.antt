@@ -17,7 +17,7 @@ use Rattle.trellis.specs.Ready.{Ready}
 use Rattle.trellis.proofs.Margins.{zero-here, zero-later, zero-none}
 use Rattle.trellis.proofs.Tests.{of-true, all-at}
 use Rattle.field.proofs.Blocks.{part-room}
-use Rattle.field.proofs.Weighed.{Weighed, weight-at}
+use Rattle.field.proofs.Weighed.{WeightsAccepted, weight-at}
 use Rattle.checknode.specs.Answers.{zeroOk}
 
 pub zero-turn : (cs : List ℕ) (n d w : ℕ) {b : Bool} → n < d → length cs ≡ d * w → b ≡ ltb (firstZero (take (n * w + w - n * w) (drop (n * w) cs))) (length (take (n * w + w - n * w) (drop (n * w) cs)))
@@ -28,7 +28,7 @@ zero-turn cs n d w h l e =
     let k : length (take w (drop (n * w) cs)) ≡ w = simp (length-take, length-drop) (omega (arith, part-room n d w h)) in
     e ∙ rw (a, k)
 
-pub ready-law : (first : ℕ) (ws : List ℕ) (W : Weighed first ws) (cs : List ℕ) → length cs ≡ length ws * sizeOf first → allTo (zeroOk (sizeOf first) cs) (length ws) ≡ true → Ready first ws cs
+pub ready-law : (first : ℕ) (ws : List ℕ) (W : WeightsAccepted first ws) (cs : List ℕ) → length cs ≡ length ws * sizeOf first → allTo (zeroOk (sizeOf first) cs) (length ws) ≡ true → Ready first ws cs
 unfolding zeroOk
 ready-law first ws W cs c z =
     record {

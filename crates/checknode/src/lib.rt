@@ -27,9 +27,9 @@ pub fn check(first: u8, weights: &[u8], costs: &[u8], out: &mut [u8]) -> Written
     if k != 0 {
         return Written::Refused(k);
     }
-    let w = rules::size(first);
+    let q = rules::size(first);
     let n = record::record_bytes(first, weights.len());
-    record::record_in(first, w, weights, costs, &mut out[..n]);
+    record::record_in(first, q, weights, costs, &mut out[..n]);
     Written::Bytes(n)
 }
 
@@ -48,12 +48,12 @@ pub fn messages(first: u8, weights: &[u8], costs: &[u8], out: &mut [u8], sent: &
         return Written::Refused(k);
     }
     let d = weights.len();
-    let w = rules::size(first);
-    let m = d * w;
+    let q = rules::size(first);
+    let m = d * q;
     if sent.len() < m {
         return Written::Refused(2);
     }
     let n = record::record_bytes(first, d);
-    record::messages_in(first, w, weights, costs, &mut out[..n], &mut sent[..m]);
+    record::messages_in(first, q, weights, costs, &mut out[..n], &mut sent[..m]);
     Written::Bytes(n)
 }

@@ -96,12 +96,12 @@ pub fn lines(
     ensures { λ _. ⌜
         now (out .exit) ≡ tab (termOf (powerOf first) (now (weights .entry)) (now (costs .entry))) (length (now (weights .entry))) ⌝ }
 {
-    let w = rules::size(first);
+    let q = rules::size(first);
     let mut sum: u8 = 0;
     let mut n = 0;
     while n < weights.len() {
-        let a = n * w;
-        let e = a + w;
+        let a = n * q;
+        let e = a + q;
         let b = n * l;
         let f = b + l;
         let s = column(&costs[a..e], &rows[a..e], &mut lines[b..f]);

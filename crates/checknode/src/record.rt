@@ -2,6 +2,7 @@
 // 255, and each deviation takes its cost off, so that two costs are never added.
 use crate::lines;
 use crate::send;
+use scalar::sizes;
 ghost use mathlib.Core.Path.{_≡_};
 ghost use Prim.Native.Nat.{_-_, _*_, _≤_, max};
 ghost use lib.ListN.{length};
@@ -10,23 +11,24 @@ ghost use Rattle.trellis.specs.Check.{allSent};
 ghost use Rattle.trellis.specs.Record.{recordOf, recordLength};
 ghost use Rattle.trellis.specs.Rules.{ruleFor, powerOf, sizeOf, columnsOf};
 ghost use Rattle.trellis.specs.Ready.{Ready};
+ghost use Rattle.trellis.specs.Sizes.{mostDegree};
 ghost use Rattle.field.specs.Answers.{rowOf};
 ghost use Rattle.checknode.specs.inner.Asks.{shiftsOf};
 ghost use Rattle.checknode.specs.inner.Lines.{RestsRoom, Rests};
 
 // The length of a record of degree d.
 pub fn record_bytes(first: u8, d: usize) -> usize
-    requires { ⌜ d ≤ 32 ⌝ }
+    requires { ⌜ d ≤ mostDegree ⌝ }
     ensures { λ r. ⌜ r ≡ recordLength (ruleFor first) d ⌝ }
 {
     d + rules::groups(first)
 }
 
 // The places of a line: the field's rows, and sixteen at least.
-fn side(w: usize) -> usize
-    ensures { λ r. ⌜ r ≡ max 16 w ⌝ }
+fn side(q: usize) -> usize
+    ensures { λ r. ⌜ r ≡ max 16 q ⌝ }
 {
-    if w < 16 { 16 } else { w }
+    if q < 16 { 16 } else { q }
 }
 
 // Rests of the sent costs, and shifts, from the products, in room of the caller's; that for the lines comes cleared.
@@ -76,7 +78,7 @@ fn rests_in(
         rests_with(first, weights, costs, rows, &mut lines, rests, shifts);
         return;
     }
-    let mut lines = [0u8; 2048];
+    let mut lines = [0u8; sizes::MOST_EXPANSION];
     rests_with(first, weights, costs, rows, &mut lines, rests, shifts);
 }
 
@@ -108,7 +110,7 @@ fn record_with(
 // The record, in parts of the room.
 fn record_room(
     first: u8,
-    w: usize,
+    q: usize,
     weights: &[u8],
     costs: &[u8],
     rows: &mut [u8],
@@ -117,33 +119,33 @@ fn record_room(
 )
     requires { ⌜ Ready first (now weights) (now costs) ⌝ }
     requires { ⌜
-        (w ≡ sizeOf first)
-        × ((length (now weights) * w ≤ length (now rows))
-        × ((length (now weights) * max 16 w ≤ length (now rests))
+        (q ≡ sizeOf first)
+        × ((length (now weights) * q ≤ length (now rows))
+        × ((length (now weights) * max 16 q ≤ length (now rests))
         × (length (now out) ≡ recordLength (ruleFor first) (length (now weights))))) ⌝ }
     ensures { λ _. ⌜ now (out .exit) ≡ recordOf (ruleFor first) (columnsOf (sizeOf first) (now (weights .entry)) (now (costs .entry))) ⌝ }
 {
-    let a = weights.len() * w;
-    let b = weights.len() * side(w);
+    let a = weights.len() * q;
+    let b = weights.len() * side(q);
     record_with(first, weights, costs, &mut rows[..a], &mut rests[..b], out);
 }
 
 // The record, with the room that it takes: a fourth of it is enough up to 16 rows.
-pub fn record_in(first: u8, w: usize, weights: &[u8], costs: &[u8], out: &mut [u8])
+pub fn record_in(first: u8, q: usize, weights: &[u8], costs: &[u8], out: &mut [u8])
     requires { ⌜ Ready first (now weights) (now costs) ⌝ }
-    requires { ⌜ w ≤ 64 ⌝ }
-    requires { ⌜ (w ≡ sizeOf first) × (length (now out) ≡ recordLength (ruleFor first) (length (now weights))) ⌝ }
+    requires { ⌜ q ≤ 64 ⌝ }
+    requires { ⌜ (q ≡ sizeOf first) × (length (now out) ≡ recordLength (ruleFor first) (length (now weights))) ⌝ }
     ensures { λ _. ⌜ now (out .exit) ≡ recordOf (ruleFor first) (columnsOf (sizeOf first) (now (weights .entry)) (now (costs .entry))) ⌝ }
 {
-    if w <= 16 {
+    if q <= 16 {
         let mut rows = [0u8; 512];
         let mut rests = [0u8; 512];
-        record_room(first, w, weights, costs, &mut rows, &mut rests, out);
+        record_room(first, q, weights, costs, &mut rows, &mut rests, out);
         return;
     }
-    let mut rows = [0u8; 2048];
-    let mut rests = [0u8; 2048];
-    record_room(first, w, weights, costs, &mut rows, &mut rests, out);
+    let mut rows = [0u8; sizes::MOST_EXPANSION];
+    let mut rests = [0u8; sizes::MOST_EXPANSION];
+    record_room(first, q, weights, costs, &mut rows, &mut rests, out);
 }
 
 // The record and the sent costs, in room of the caller's.
@@ -167,13 +169,13 @@ fn messages_with(
 {
     record_with(first, weights, costs, rows, rests, out);
     let d = weights.len();
-    let w = rules::size(first);
-    send::columns(w, side(w), rows, &out[..d], rests, sent);
+    let q = rules::size(first);
+    send::columns(q, side(q), rows, &out[..d], rests, sent);
 }
 
 fn messages_room(
     first: u8,
-    w: usize,
+    q: usize,
     weights: &[u8],
     costs: &[u8],
     rows: &mut [u8],
@@ -183,16 +185,16 @@ fn messages_room(
 )
     requires { ⌜ Ready first (now weights) (now costs) ⌝ }
     requires { ⌜
-        (w ≡ sizeOf first)
-        × ((length (now weights) * w ≤ length (now rows))
-        × ((length (now weights) * max 16 w ≤ length (now rests))
+        (q ≡ sizeOf first)
+        × ((length (now weights) * q ≤ length (now rows))
+        × ((length (now weights) * max 16 q ≤ length (now rests))
         × ((length (now out) ≡ recordLength (ruleFor first) (length (now weights)))
         × (length (now sent) ≡ length (now weights) * sizeOf first)))) ⌝ }
     ensures { λ _. ⌜ now (out .exit) ≡ recordOf (ruleFor first) (columnsOf (sizeOf first) (now (weights .entry)) (now (costs .entry))) ⌝ }
     ensures { λ _. ⌜ now (sent .exit) ≡ allSent (ruleFor first) (columnsOf (sizeOf first) (now (weights .entry)) (now (costs .entry))) ⌝ }
 {
-    let a = weights.len() * w;
-    let b = weights.len() * side(w);
+    let a = weights.len() * q;
+    let b = weights.len() * side(q);
     messages_with(
         first,
         weights,
@@ -207,28 +209,28 @@ fn messages_room(
 // The record and the sent costs, with the room that they take.
 pub fn messages_in(
     first: u8,
-    w: usize,
+    q: usize,
     weights: &[u8],
     costs: &[u8],
     out: &mut [u8],
     sent: &mut [u8],
 )
     requires { ⌜ Ready first (now weights) (now costs) ⌝ }
-    requires { ⌜ w ≤ 64 ⌝ }
+    requires { ⌜ q ≤ 64 ⌝ }
     requires { ⌜
-        (w ≡ sizeOf first)
+        (q ≡ sizeOf first)
         × ((length (now out) ≡ recordLength (ruleFor first) (length (now weights)))
         × (length (now sent) ≡ length (now weights) * sizeOf first)) ⌝ }
     ensures { λ _. ⌜ now (out .exit) ≡ recordOf (ruleFor first) (columnsOf (sizeOf first) (now (weights .entry)) (now (costs .entry))) ⌝ }
     ensures { λ _. ⌜ now (sent .exit) ≡ allSent (ruleFor first) (columnsOf (sizeOf first) (now (weights .entry)) (now (costs .entry))) ⌝ }
 {
-    if w <= 16 {
+    if q <= 16 {
         let mut rows = [0u8; 512];
         let mut rests = [0u8; 512];
-        messages_room(first, w, weights, costs, &mut rows, &mut rests, out, sent);
+        messages_room(first, q, weights, costs, &mut rows, &mut rests, out, sent);
         return;
     }
-    let mut rows = [0u8; 2048];
-    let mut rests = [0u8; 2048];
-    messages_room(first, w, weights, costs, &mut rows, &mut rests, out, sent);
+    let mut rows = [0u8; sizes::MOST_EXPANSION];
+    let mut rests = [0u8; sizes::MOST_EXPANSION];
+    messages_room(first, q, weights, costs, &mut rows, &mut rests, out, sent);
 }

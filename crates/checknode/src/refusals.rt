@@ -22,15 +22,15 @@ fn has_zero(costs: &[u8]) -> bool
 }
 
 // Whether each of d columns has one.
-fn zeros_ok(costs: &[u8], d: usize, w: usize) -> bool
-    requires { ⌜ length (now costs) ≡ d * w ⌝ }
-    ensures { λ r. ⌜ r ≡ allTo (zeroOk w (now (costs .entry))) d ⌝ }
+fn zeros_ok(costs: &[u8], d: usize, q: usize) -> bool
+    requires { ⌜ length (now costs) ≡ d * q ⌝ }
+    ensures { λ r. ⌜ r ≡ allTo (zeroOk q (now (costs .entry))) d ⌝ }
 {
     let mut ok = true;
     let mut n = 0;
     while n < d {
-        let a = n * w;
-        let e = a + w;
+        let a = n * q;
+        let e = a + q;
         ok = scalar::both(ok, has_zero(&costs[a..e]));
         n += 1;
     }
@@ -46,11 +46,11 @@ pub fn check_fault(first: u8, weights: &[u8], costs: &[u8], room: usize) -> u8
         return k;
     }
     let d = weights.len();
-    let w = rules::size(first);
-    if costs.len() != d * w {
+    let q = rules::size(first);
+    if costs.len() != d * q {
         return 12;
     }
-    if !zeros_ok(costs, d, w) {
+    if !zeros_ok(costs, d, q) {
         return 13;
     }
     if room < record::record_bytes(first, d) {

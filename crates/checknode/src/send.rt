@@ -24,17 +24,17 @@ fn column(row: &[u8], s: u8, rests: &[u8], out: &mut [u8])
     }
 }
 
-// All columns: w products and l rests each.
-pub fn columns(w: usize, l: usize, rows: &[u8], shifts: &[u8], rests: &[u8], out: &mut [u8])
-    requires { ⌜ SendsRoom w l (now rows) (now shifts) (now rests) (now out) ⌝ }
+// All columns: q products and l rests each.
+pub fn columns(q: usize, l: usize, rows: &[u8], shifts: &[u8], rests: &[u8], out: &mut [u8])
+    requires { ⌜ SendsRoom q l (now rows) (now shifts) (now rests) (now out) ⌝ }
     ensures { λ _. ⌜
         now (out .exit)
-        ≡ blocks (sentColumn w l (now (rows .entry)) (now (shifts .entry)) (now (rests .entry))) (length (now (shifts .entry))) ⌝ }
+        ≡ blocks (sentColumn q l (now (rows .entry)) (now (shifts .entry)) (now (rests .entry))) (length (now (shifts .entry))) ⌝ }
 {
     let mut n = 0;
     while n < shifts.len() {
-        let a = n * w;
-        let e = a + w;
+        let a = n * q;
+        let e = a + q;
         let b = n * l;
         let f = b + l;
         column(&rows[a..e], shifts[n], &rests[b..f], &mut out[a..e]);

@@ -1,9 +1,11 @@
 // The checks of a code line, read front to back, each field once, into tables: the degrees, and all columns and weights end to end.
 use crate::reader;
+use scalar::sizes;
 ghost use mathlib.Core.Path.{_≡_};
 ghost use mathlib.Core.List.{[]};
 ghost use Prim.Native.Nat.{_+_, _*_, _≤_};
 ghost use lib.ListN.{length, take};
+ghost use Rattle.trellis.specs.Sizes.{mostEdges};
 ghost use Rattle.machine.specs.CodeLine.{readEdge};
 ghost use Rattle.machine.specs.inner.Tables.{edgesInto, checkInto, checksInto};
 ghost use Rattle.codeline.specs.inner.Reading.{edgeRead, EdgeEnds, edgesRead, EdgesEnd, checkRead, CheckFits, checksRead, ChecksFit};
@@ -101,7 +103,7 @@ fn check_at(
     weights: &mut [u8],
     total: usize,
 ) -> Check
-    requires { ⌜ (1024 ≤ length (now columns)) × (1024 ≤ length (now weights)) ⌝ }
+    requires { ⌜ (mostEdges ≤ length (now columns)) × (mostEdges ≤ length (now weights)) ⌝ }
     ensures { λ r. ⌜ checkRead r total (now (columns .exit)) (now (weights .exit))
         ≡ checkInto (now (code .entry)) at n q total (take total (now (columns .entry))) (take total (now (weights .entry))) ⌝ }
     ensures { λ r. ⌜ CheckFits r (now (code .entry)) at total ⌝ }
@@ -114,10 +116,10 @@ fn check_at(
     if d < 2 {
         return Check::Refused(9);
     }
-    if 32 < d {
+    if sizes::MOST_DEGREE < d {
         return Check::Refused(9);
     }
-    if 1024 - d < total {
+    if sizes::MOST_EDGES - d < total {
         return Check::Refused(9);
     }
     if reader::left_at(code, f.next) < 3 * d {
@@ -141,7 +143,7 @@ pub fn checks_at(
     weights: &mut [u8],
 ) -> Checks
     requires { ⌜ (at ≤ length (now code)) × ((count ≤ length (now degrees))
-        × ((1024 ≤ length (now columns)) × (1024 ≤ length (now weights)))) ⌝ }
+        × ((mostEdges ≤ length (now columns)) × (mostEdges ≤ length (now weights)))) ⌝ }
     ensures { λ r. ⌜ checksRead r count (now (degrees .exit)) (now (columns .exit)) (now (weights .exit))
         ≡ checksInto count (now (code .entry)) at n q 0 [] [] [] ⌝ }
     ensures { λ r. ⌜ ChecksFit r ⌝ }

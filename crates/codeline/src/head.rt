@@ -2,6 +2,7 @@
 use crate::answers::Header;
 use crate::answers::Numbers;
 use crate::reader;
+use scalar::sizes;
 ghost use mathlib.Core.Path.{_≡_};
 ghost use Rattle.codeline.specs.Answers.{headerNumbers};
 ghost use Rattle.codeline.specs.inner.Reading.{isOutside, headOf, HeadFits};
@@ -44,11 +45,11 @@ pub fn head(code: &[u8]) -> Front
         return refused(6);
     }
     let n = reader::word_at(code, f.next);
-    if outside(n.value, 1, 256) {
+    if outside(n.value, 1, sizes::MOST_SYMBOLS) {
         return refused(7);
     }
     let m = reader::byte_at(code, n.next);
-    if outside(m.value, 1, 128) {
+    if outside(m.value, 1, sizes::MOST_CHECKS) {
         return refused(7);
     }
     let g = reader::byte_at(code, m.next);

@@ -8,6 +8,7 @@ mod tables;
 
 use crate::answers::Header;
 use crate::answers::Summary;
+use scalar::sizes;
 ghost use mathlib.Core.Path.{_≡_};
 ghost use Rattle.machine.specs.CodeLine.{parse, numbersOf};
 ghost use Rattle.codeline.specs.Answers.{headerNumbers, summaryOf, Tells, degreeTable, columnTable, weightTable, leftIn};
@@ -16,9 +17,9 @@ ghost use Rattle.codeline.specs.Answers.{headerNumbers, summaryOf, Tells
 pub fn code_line(code: &[u8]) -> Header
     ensures { λ r. ⌜ headerNumbers r ≡ numbersOf (parse (now (code .entry))) ⌝ }
 {
-    let mut degrees = [0u8; 128];
-    let mut columns = [0u16; 1024];
-    let mut weights = [0u8; 1024];
+    let mut degrees = [0u8; sizes::MOST_CHECKS];
+    let mut columns = [0u16; sizes::MOST_EDGES];
+    let mut weights = [0u8; sizes::MOST_EDGES];
     let r = tables::read(code, &mut degrees, &mut columns, &mut weights);
     r.header
 }
@@ -46,18 +47,18 @@ pub fn describe(code: &[u8]) -> Summary
 // accepted.
 pub fn code_tables(
     code: &[u8],
-    degrees: &mut [u8; 128],
-    columns: &mut [u16; 1024],
-    weights: &mut [u8; 1024],
+    degrees: &mut [u8; sizes::MOST_CHECKS],
+    columns: &mut [u16; sizes::MOST_EDGES],
+    weights: &mut [u8; sizes::MOST_EDGES],
 ) -> Header
     ensures { λ r. ⌜ headerNumbers r ≡ numbersOf (parse (now (code .entry))) ⌝ }
     ensures { λ _. ⌜ now (degrees .exit) ≡ leftIn degreeTable (parse (now (code .entry))) (now (degrees .entry)) ⌝ }
     ensures { λ _. ⌜ now (columns .exit) ≡ leftIn columnTable (parse (now (code .entry))) (now (columns .entry)) ⌝ }
     ensures { λ _. ⌜ now (weights .exit) ≡ leftIn weightTable (parse (now (code .entry))) (now (weights .entry)) ⌝ }
 {
-    let mut ds = [0u8; 128];
-    let mut cs = [0u16; 1024];
-    let mut ws = [0u8; 1024];
+    let mut ds = [0u8; sizes::MOST_CHECKS];
+    let mut cs = [0u16; sizes::MOST_EDGES];
+    let mut ws = [0u8; sizes::MOST_EDGES];
     let r = tables::read(code, &mut ds, &mut cs, &mut ws);
     tables::hand_over(r, &ds, &cs, &ws, degrees, columns, weights);
     r.header

@@ -5,25 +5,26 @@ use crate::checks::Checks;
 use crate::head;
 ghost use mathlib.Core.Path.{_≡_};
 ghost use lib.ListN.{length};
+ghost use Rattle.trellis.specs.Sizes.{mostEdges, mostChecks};
 ghost use Rattle.machine.specs.CodeLine.{Code, good, parse, numbersOf};
 ghost use Rattle.codeline.specs.Answers.{headerNumbers};
 ghost use Rattle.codeline.specs.inner.Reading.{Filled, CountFits, checksIn, handed};
 
 // The header, and how many edges the checks have together.
-pub struct Counted {
+pub struct LineRead {
     pub header: Header,
     pub edges: usize,
 }
 
-fn refused(header: Header) -> Counted
+fn refused(header: Header) -> LineRead
     ensures { λ r. ⌜ r .header ≡ header ⌝ }
 {
-    Counted { header, edges: 0 }
+    LineRead { header, edges: 0 }
 }
 
 // The whole line. Where it is refused, the tables may hold anything.
-pub fn read(code: &[u8], degrees: &mut [u8], columns: &mut [u16], weights: &mut [u8]) -> Counted
-    requires { ⌜ (length (now degrees) ≡ 128) × ((length (now columns) ≡ 1024) × (length (now weights) ≡ 1024)) ⌝ }
+pub fn read(code: &[u8], degrees: &mut [u8], columns: &mut [u16], weights: &mut [u8]) -> LineRead
+    requires { ⌜ (length (now degrees) ≡ mostChecks) × ((length (now columns) ≡ mostEdges) × (length (now weights) ≡ mostEdges)) ⌝ }
     ensures { λ r. ⌜ headerNumbers (r .header) ≡ numbersOf (parse (now (code .entry))) ⌝ }
     ensures { λ r. ⌜ CountFits (r .header) (r .edges) ⌝ }
     ensures { λ r. ⌜ ((C : Code) → parse (now (code .entry)) ≡ good C
@@ -46,13 +47,13 @@ pub fn read(code: &[u8], degrees: &mut [u8], columns: &mut [u16], weights: &mut 
         weights,
     ) {
         Checks::Refused(k) => refused(Header::Refused(k)),
-        Checks::Total(edges) => Counted { header: h, edges },
+        Checks::Total(edges) => LineRead { header: h, edges },
     }
 }
 
 // What was read of an accepted line, in front of what the tables hold.
 pub fn hand_over(
-    r: Counted,
+    r: LineRead,
     ds: &[u8],
     cs: &[u16],
     ws: &[u8],
@@ -61,8 +62,8 @@ pub fn hand_over(
     weights: &mut [u8],
 )
     requires { ⌜ CountFits (r .header) (r .edges) ⌝ }
-    requires { ⌜ (length (now ds) ≡ 128) × ((length (now cs) ≡ 1024) × (length (now ws) ≡ 1024)) ⌝ }
-    requires { ⌜ (length (now degrees) ≡ 128) × ((length (now columns) ≡ 1024) × (length (now weights) ≡ 1024)) ⌝ }
+    requires { ⌜ (length (now ds) ≡ mostChecks) × ((length (now cs) ≡ mostEdges) × (length (now ws) ≡ mostEdges)) ⌝ }
+    requires { ⌜ (length (now degrees) ≡ mostChecks) × ((length (now columns) ≡ mostEdges) × (length (now weights) ≡ mostEdges)) ⌝ }
     ensures { λ _. ⌜ now (degrees .exit) ≡ handed (r .header) (checksIn (r .header)) (now (ds .entry)) (now (degrees .entry)) ⌝ }
     ensures { λ _. ⌜ now (columns .exit) ≡ handed (r .header) (r .edges) (now (cs .entry)) (now (columns .entry)) ⌝ }
     ensures { λ _. ⌜ now (weights .exit) ≡ handed (r .header) (r .edges) (now (ws .entry)) (now (weights .entry)) ⌝ }

@@ -18,7 +18,7 @@ use Rattle.trellis.specs.Reply.{Reply, accepted, refusal}
 use Rattle.trellis.specs.Display.{displayed, Stored}
 use Rattle.trellis.proofs.Display.{form-front}
 use Rattle.field.specs.Answers.{weightTests, weightsOk, weightsFault}
-use Rattle.field.proofs.Weighed.{Weighed, no-fault, fault-case, rest-case, weight-at}
+use Rattle.field.proofs.Weighed.{WeightsAccepted, no-fault, fault-case, rest-case, weight-at}
 use Rattle.display.specs.Answers.{displayCases, displayFault, displayReply, displayLeaves}
 use Rattle.display.specs.inner.Showing.{ShowRoom}
 
@@ -32,7 +32,7 @@ module _ (f : ℕ) (ws r : List ℕ) where
     unfolding displayFault
     weight-fault k e n = fault-case f ws (λ k. k) (pick formed (pick (ltb room (length ws)) 2 0) 16) e n
 
-    module _ (W : Weighed f ws) where
+    module _ (W : WeightsAccepted f ws) where
       pub form-fault : formed ≡ false → 16 ≡ displayFault f ws r room
       unfolding displayFault
       form-fault o = sym (rest-case f ws W (λ k. k) _ ∙ rw o)
@@ -56,7 +56,7 @@ module _ (f : ℕ) (ws r : List ℕ) where
 
   -- a call that is not refused
   pub record Passed (room : ℕ) : Type 0 where
-    pub weighed : Weighed f ws
+    pub weighed : WeightsAccepted f ws
     pub form : recordOk (ruleFor f) (length ws) r ≡ true
     pub enough : length ws ≤ room
 

@@ -26,7 +26,7 @@ use Rattle.field.specs.Answers.{weightsFault}
 use Rattle.field.proofs.Weighed.{no-fault, fault-case, rest-case, ready-weighed}
 use Rattle.display.proofs.CheckThenExpand.{demand-2-messages}
 use Rattle.display.specs.Answers.{displayFault, displayReply, displayLeaves}
-use Rattle.display.specs.Views.{Displays, Displays-equal, Refuses-alike, Two-views}
+use Rattle.display.specs.Views.{Displays, Displays-equal, Display-refuses-alike, Two-views}
 use Rattle.display.proofs.Refusals.{passes, stored, by-fault, accepts}
 
 -- a display that is not refused
@@ -71,7 +71,7 @@ displays-equal f f′ ws r r′ out out′ n n′ o o′ e D D′ =
       equal = (λ i. E .0 (sym (S .front) ∙ i ∙ S′ .front), λ i. S .front ∙ E .1 i ∙ sym (S′ .front));
     }
 
-pub refuses-alike : Refuses-alike
+pub refuses-alike : Display-refuses-alike
 unfolding displayReply expandReply
 refuses-alike f ws r out buffer h l =
     elim (ℕ-discrete (weightsFault f ws) 0) [

@@ -31,7 +31,7 @@ Kept-entries-expand =
     → FromStored f weights costs (take n out′) buffer′
 
 -- what a call of messages promises: its reply, the record buffer and the buffer of the sent costs afterwards
-pub record Tells (f : ℕ) (weights costs out sent : List ℕ) (reply : Reply) (out′ sent′ : List ℕ) : Type 0 where
+pub record SendsMessages (f : ℕ) (weights costs out sent : List ℕ) (reply : Reply) (out′ sent′ : List ℕ) : Type 0 where
   pub replies : reply ≡ messagesReply f weights costs out sent
   pub out-then : out′ ≡ messagesLeaves f weights costs out sent
   pub sent-then : sent′ ≡ messagesSent f weights costs out sent
@@ -39,5 +39,5 @@ pub record Tells (f : ℕ) (weights costs out sent : List ℕ) (reply : Reply) (
 -- the same of the call that writes record and sent costs at once
 abbrev pub Kept-entries-messages : Type 0
 Kept-entries-messages =
-    (f : ℕ) (weights costs : List ℕ) (n : ℕ) (out sent out′ sent′ : List ℕ) → Tells f weights costs out sent (accepted n) out′ sent′
+    (f : ℕ) (weights costs : List ℕ) (n : ℕ) (out sent out′ sent′ : List ℕ) → SendsMessages f weights costs out sent (accepted n) out′ sent′
     → FromStored f weights costs (take n out′) sent′

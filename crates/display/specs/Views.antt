@@ -30,8 +30,8 @@ Displays-equal =
     → Displays f weights r out (accepted n) o → Displays f′ weights r′ out′ (accepted n′) o′ → SameShown (length weights) n n′ r r′ o o′
 
 -- "Both refuse as expansion does": where both buffers are long enough, by the same number
-abbrev pub Refuses-alike : Type 0
-Refuses-alike =
+abbrev pub Display-refuses-alike : Type 0
+Display-refuses-alike =
     (f : ℕ) (weights bytes out buffer : List ℕ) → length weights ≤ length out → length weights * sizeOf f ≤ length buffer
     → displayReply f weights bytes out .number ≡ expandReply f weights bytes buffer .number
 

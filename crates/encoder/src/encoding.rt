@@ -5,6 +5,7 @@ use crate::message;
 use codeline::answers::Header;
 use codeline::answers::Numbers;
 use field::Written;
+use scalar::sizes;
 ghost use mathlib.Core.Path.{_≡_};
 ghost use Rattle.field.specs.Answers.{writtenReply};
 ghost use Rattle.machine.specs.CodeLine.{good};
@@ -74,9 +75,9 @@ pub fn encode_in(
     code: &[u8],
     message: &[u8],
     symbols: &mut [u8],
-    degrees: &mut [u8; 128],
-    columns: &mut [u16; 1024],
-    weights: &mut [u8; 1024],
+    degrees: &mut [u8; sizes::MOST_CHECKS],
+    columns: &mut [u16; sizes::MOST_EDGES],
+    weights: &mut [u8; sizes::MOST_EDGES],
 ) -> Written
     ensures { λ r. ⌜ writtenReply r ≡ encoding (now (code .entry)) (now (message .entry)) (now (symbols .entry)) .reply ⌝ }
     ensures { λ _. ⌜ now (symbols .exit) ≡ encoding (now (code .entry)) (now (message .entry)) (now (symbols .entry)) .out ⌝ }

@@ -9,13 +9,13 @@ ghost use Rattle.machine.specs.inner.Tables.{term, EdgeRoom};
 ghost use Rattle.codeline.specs.inner.Coding.{codeOf};
 ghost use Rattle.encoder.specs.inner.Rooms.{OwnRoom, FillRoom};
 
-// What edge k adds to its check's sum.
-fn term_at(numbers: Numbers, columns: &[u16], weights: &[u8], symbols: &[u8], k: usize) -> u8
-    requires { ⌜ EdgeRoom (powerOf (numbers .first)) (now columns) (now weights) (now symbols) k ⌝ }
-    ensures { λ r. ⌜ r ≡ term (powerOf (numbers .first)) (now (columns .entry)) (now (weights .entry)) (now (symbols .entry)) k ⌝ }
+// What one edge adds to its check's sum.
+fn term_at(numbers: Numbers, columns: &[u16], weights: &[u8], symbols: &[u8], edge: usize) -> u8
+    requires { ⌜ EdgeRoom (powerOf (numbers .first)) (now columns) (now weights) (now symbols) edge ⌝ }
+    ensures { λ r. ⌜ r ≡ term (powerOf (numbers .first)) (now (columns .entry)) (now (weights .entry)) (now (symbols .entry)) edge ⌝ }
 {
-    let c = scalar::u16_to_usize(columns[k]);
-    division::times(rules::power(numbers.first), weights[k], symbols[c])
+    let c = scalar::u16_to_usize(columns[edge]);
+    division::times(rules::power(numbers.first), weights[edge], symbols[c])
 }
 
 // The symbol that satisfies check m, whose edges start at place `at` and whose last column is its own: the sum of h times x over the

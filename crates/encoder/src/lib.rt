@@ -5,6 +5,7 @@ mod form;
 mod message;
 
 use field::Written;
+use scalar::sizes;
 ghost use mathlib.Core.Path.{_≡_};
 ghost use Rattle.field.specs.Answers.{writtenReply};
 ghost use Rattle.machine.specs.Encoding.{encoding};
@@ -17,9 +18,9 @@ pub fn encode(code: &[u8], message: &[u8], symbols: &mut [u8]) -> Written
     ensures { λ r. ⌜ writtenReply r ≡ encoding (now (code .entry)) (now (message .entry)) (now (symbols .entry)) .reply ⌝ }
     ensures { λ _. ⌜ now (symbols .exit) ≡ encoding (now (code .entry)) (now (message .entry)) (now (symbols .entry)) .out ⌝ }
 {
-    let mut degrees = [0u8; 128];
-    let mut columns = [0u16; 1024];
-    let mut weights = [0u8; 1024];
+    let mut degrees = [0u8; sizes::MOST_CHECKS];
+    let mut columns = [0u16; sizes::MOST_EDGES];
+    let mut weights = [0u8; sizes::MOST_EDGES];
     encoding::encode_in(
         code,
         message,

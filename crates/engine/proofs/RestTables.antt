@@ -10,7 +10,7 @@ use Rattle.trellis.specs.Lists.{others}
 use Rattle.trellis.specs.Field.{xor}
 use Rattle.trellis.specs.Check.{column, blank, Rule, Column, Allowed, IsLeast, decided, shift, sentAt, costOf}
 use Rattle.trellis.proofs.Sent.{Sound, Proper, sent-is}
-use Rattle.engine.specs.inner.Rests.{atMost, rest, lineAt, across, grown, between}
+use Rattle.engine.specs.inner.Rests.{atMost, rest, lineAt, joinedAt, grown, between}
 use Rattle.engine.proofs.BestRests.{BestRest, best-one, Meets}
 use Rattle.engine.proofs.Rests.{Costs, All, rest-best, rest-one, rest-more, rest-first, rest-between, rest-turn}
 

@@ -22,7 +22,7 @@ use Rattle.trellis.proofs.Xor.{xor-zero, xor-comm, xor-right, xor-assoc, xor-se
 use Rattle.trellis.proofs.Total.{Gathers, fits-append, fits-split, total-append}
 use Rattle.trellis.proofs.Sent.{Joins, Sound, Proper, xors, sums, same-symbol, deviates-cases, deviates-small, sent-is}
 use Rattle.trellis.proofs.Ranks.{first-passes}
-use Rattle.engine.specs.inner.Rests.{atMost, rest, lineAt, mostTo, across, grown, between}
+use Rattle.engine.specs.inner.Rests.{atMost, rest, lineAt, mostTo, joinedAt, grown, between}
 use Rattle.engine.proofs.BestRests.{BestRest, best-one, best-iff, best-of, best-max, best-to, best-fold, best-meet, best-small, Meets}
 
 -- m is the cost of a choice with at most j deviations and weighted difference a
@@ -200,8 +200,8 @@ module _ (R : Rule) (meet : ℕ → ℕ → ℕ) (M : Meets (R .join) meet) (p :
 
   across-best : (P Q : ℕ → ℕ → Type 0) (f g : ℕ → ℕ) → ((a : ℕ) → a < R .size → BestRest (P a) (f a))
       → ((a : ℕ) → a < R .size → BestRest (Q a) (g a))
-      → (a : ℕ) → a < R .size → BestRest (Across P Q a) (across meet (R .size) f g a)
-  unfolding across
+      → (a : ℕ) → a < R .size → BestRest (Across P Q a) (joinedAt meet (R .size) f g a)
+  unfolding joinedAt
   across-best P Q f g F G a l =
       best-to (λ b m. (x y : ℕ) × P (xor a b) x × Q b y × (m ≡ R .join x y)) (λ b. meet (f (xor a b)) (g b)) (R .size)
       (λ b h. best-meet (R .join) meet M (P (xor a b)) (Q b) (f (xor a b)) (g b) (F (xor a b) (size-xor a b l h)) (G b h))
@@ -309,7 +309,7 @@ module _ (R : Rule) (meet : ℕ → ℕ → ℕ) (M : Meets (R .join) meet) (p :
 
       pub rest-more : (j a : ℕ) → a < R .size
           → rest R (cs ++ (c ∷ [])) (suc (suc j)) a ≡ max (rest R cs (suc (suc j)) a)
-          (across meet (R .size) (rest R cs (suc j)) (lineAt R c) a)
+          (joinedAt meet (R .size) (rest R cs (suc j)) (lineAt R c) a)
       rest-more j a l =
           best-one (rest-best R (cs ++ (c ∷ [])) (suc (suc j)) a)
           (best-iff (λ m. grow-there j a m l) (λ m. grow-back j a m)
@@ -427,6 +427,6 @@ module _ (R : Rule) (meet : ℕ → ℕ → ℕ) (M : Meets (R .join) meet) (p :
         (best-iff (λ m. between-there a m l) (λ m. between-back a m)
         (best-max (best-max (rest-best R cs k a) (rest-best R ds k a))
         (best-to (λ i m. Across (Costs R cs (k - suc i)) (Costs R ds (suc i)) a m)
-        (λ i. across meet (R .size) (rest R cs (k - suc i)) (rest R ds (suc i)) a) (k - 1)
+        (λ i. joinedAt meet (R .size) (rest R cs (k - suc i)) (rest R ds (suc i)) a) (k - 1)
         (λ i h. across-best (Costs R cs (k - suc i)) (Costs R ds (suc i)) (rest R cs (k - suc i)) (rest R ds (suc i))
         (λ b j. rest-best R cs (k - suc i) b) (λ b j. rest-best R ds (suc i) b) a l))))

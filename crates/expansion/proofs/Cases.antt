@@ -7,10 +7,10 @@ use borrow.Author.Tests.{lt-ltb, le-ltb}
 use lib.ListN.{length}
 use Rattle.trellis.specs.Record.{recordOk}
 use Rattle.trellis.specs.Rules.{ruleFor, sizeOf}
-use Rattle.field.proofs.Weighed.{Weighed, rest-case}
+use Rattle.field.proofs.Weighed.{WeightsAccepted, rest-case}
 use Rattle.expansion.specs.Answers.{expandCases}
 
-module _ (first : ℕ) (ws : List ℕ) (W : Weighed first ws) where
+module _ (first : ℕ) (ws : List ℕ) (W : WeightsAccepted first ws) where
   module _ {A : Type 0} (room : ℕ) (bad : ℕ → A) (good : A) where
     module _ (r : List ℕ) where
       pub case-16 : recordOk (ruleFor first) (length ws) r ≡ false → bad 16 ≡ expandCases first ws r room bad good

@@ -10,8 +10,8 @@ use Rattle.trellis.specs.Rules.{ruleFor, powerOf, sizeOf, mostOf}
 use Rattle.trellis.specs.Reply.{accepted, refusal}
 use Rattle.expansion.specs.Answers.{expandReply, expandLeaves}
 use Rattle.field.specs.Answers.{weightsFault}
-use Rattle.expansion.specs.inner.Asks.{Expandable}
-use Rattle.field.proofs.Weighed.{Weighed, fault-case}
+use Rattle.expansion.specs.inner.Asks.{ExpandRoom}
+use Rattle.field.proofs.Weighed.{WeightsAccepted, fault-case}
 use Rattle.expansion.proofs.Cases.{case-16, case-2, expand-case}
 use Rattle.expansion.proofs.Expanding.{expandable}
 
@@ -24,7 +24,7 @@ module _ (first : ℕ) (ws r out : List ℕ) where
   unfolding expandReply expandLeaves
   refused-fault e n = (fault-case first ws (λ k. refusal k) _ e n, fault-case first ws (λ k. out) _ e n)
 
-  module _ (W : Weighed first ws) (w : ℕ) (s : w ≡ sizeOf first) {o : Bool} (f : o ≡ recordOk (ruleFor first) (length ws) r) where
+  module _ (W : WeightsAccepted first ws) (w : ℕ) (s : w ≡ sizeOf first) {o : Bool} (f : o ≡ recordOk (ruleFor first) (length ws) r) where
     form : {b : Bool} → o ≡ b → recordOk (ruleFor first) (length ws) r ≡ b
     form u = sym f ∙ u
 
@@ -33,7 +33,7 @@ module _ (first : ℕ) (ws r out : List ℕ) where
     refused-16 u = (case-16 first ws W (length out) (λ k. refusal k) _ r (form u), case-16 first ws W (length out) (λ k. out) _ r (form u))
 
     module _ (u : o ≡ true) where
-      pub accepts : Expandable (powerOf first) (mostOf first) ws r
+      pub accepts : ExpandRoom (powerOf first) (mostOf first) ws r
       accepts = expandable first ws r W (form u)
 
       pub refused-2 : length out < length ws * w → RefusedBy 2

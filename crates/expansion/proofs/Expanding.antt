@@ -19,13 +19,13 @@ use Rattle.trellis.proofs.Tests.{of-true, all-at}
 use Rattle.trellis.proofs.Recurrence.{size-64}
 use Rattle.trellis.proofs.FieldLaws.{fields-at, has-inverse}
 use Rattle.trellis.proofs.Loops.{length-tab, getD-tab, tab-ext, map-tab, each-blocks, blocks-ext, length-even}
-use Rattle.expansion.specs.inner.Asks.{Expandable, columnBytes}
-use Rattle.expansion.specs.inner.Transposed.{zeroRow, everyAt, listOf, unpacked, byteIn, besideFrom, valueIn, bySymbol, turned, Shifted, Turnable}
+use Rattle.expansion.specs.inner.Asks.{ExpandRoom, columnBytes}
+use Rattle.expansion.specs.inner.Transposed.{zeroRow, everyAt, listOf, unpacked, byteIn, besideFrom, valueIn, bySymbol, turned, ShiftRoom, TurnRoom}
 use Rattle.field.specs.Answers.{rowOf}
 use Rattle.field.specs.inner.Asks.{Factors}
 use Rattle.field.proofs.Blocks.{block-at}
 use Rattle.field.proofs.Filling.{row-full}
-use Rattle.field.proofs.Weighed.{Weighed, weight-at}
+use Rattle.field.proofs.Weighed.{WeightsAccepted, weight-at}
 
 -- only the row's own bytes count
 beside-ext : (f g : ℕ → ℕ) (n k : ℕ) → ((i : ℕ) → i < 1 + 2 * k → f i ≡ g i) → (m j : ℕ) → j + m ≤ k → besideFrom f n j m ≡ besideFrom g n j m
@@ -89,14 +89,14 @@ module _ (k d q : ℕ) (r t : List ℕ) (e : take ((1 + 2 * k) * q) t ≡ unpack
       ∙ beside-group r at n k 0 room
       ∙ beside-open r at n k (omega arith)
 
-module _ {p k : ℕ} {ws r : List ℕ} (X : Expandable p k ws r) where
+module _ {p k : ℕ} {ws r : List ℕ} (X : ExpandRoom p k ws r) where
   closed-at : (n : ℕ) → n < length ws → (x : ℕ) → x < 2 ^ p → product p (getD ws n 0) x < 2 ^ p
   closed-at n h = has-inverse p (fields-at p (X .low) (X .high)) (getD ws n 0) (X .weight-small n h) (X .weight-some n h) .closed
 
   pub factors : Factors p ws
   factors = record { low = X .low; high = X .high; few = X .few; elements = X .weight-small }
 
-  pub shifted-at : (n : ℕ) → n < length ws → {row : List ℕ} → row ≡ tab (product p (getD ws n 0)) (2 ^ p) → Shifted row (getD r n 0)
+  pub shifted-at : (n : ℕ) → n < length ws → {row : List ℕ} → row ≡ tab (product p (getD ws n 0)) (2 ^ p) → ShiftRoom row (getD r n 0)
   shifted-at n h {row} e =
       let l : length row ≡ 2 ^ p = ap length e ∙ length-tab _ (2 ^ p) in
       record {
@@ -128,11 +128,11 @@ module _ {p k : ℕ} {ws r : List ℕ} (X : Expandable p k ws r) where
   expansion-is = sym (each-blocks (columnBytes p k ws r) 0 (length ws) ∙ blocks-ext _ _ (length ws) (λ n l. ap (columnBytes p k ws r) (zero-add n)))
 
 -- the products of all columns, and what they are turned into
-module _ {p k : ℕ} {ws r : List ℕ} (X : Expandable p k ws r) (q : ℕ) (s : q ≡ 2 ^ p) (out : List ℕ) (o : out ≡ blocks (rowOf p ws) (length ws)) where
+module _ {p k : ℕ} {ws r : List ℕ} (X : ExpandRoom p k ws r) (q : ℕ) (s : q ≡ 2 ^ p) (out : List ℕ) (o : out ≡ blocks (rowOf p ws) (length ws)) where
   row-at : (n : ℕ) → n < length ws → part out (n * q) q ≡ rowOf p ws n
   row-at n h = rw (o, s) (block-at (2 ^ p) (rowOf p ws) (row-full p ws) (length ws) n h)
 
-  pub turnable : Turnable (length ws) q r out
+  pub turnable : TurnRoom (length ws) q r out
   turnable =
       record {
         few = X .few;
@@ -145,12 +145,12 @@ module _ {p k : ℕ} {ws r : List ℕ} (X : Expandable p k ws r) (q : ℕ) (s : 
   pub turned-is : (t : List ℕ) → take ((1 + 2 * k) * q) t ≡ unpacked k (length ws) q r → blocks (turned k t q r out) (length ws) ≡ expansion (ruleOf p _+_ k) ws r
   turned-is t u = blocks-ext (turned k t q r out) (columnBytes p k ws r) (length ws) (λ n h. column-is X n q t h s u (row-at n h) refl) ∙ expansion-is X
 
-pub expandable : (first : ℕ) (ws r : List ℕ) → Weighed first ws → recordOk (ruleFor first) (length ws) r ≡ true → Expandable (powerOf first) (mostOf first) ws r
+pub expandable : (first : ℕ) (ws r : List ℕ) → WeightsAccepted first ws → recordOk (ruleFor first) (length ws) r ≡ true → ExpandRoom (powerOf first) (mostOf first) ws r
 unfolding recordOk
 expandable first ws r W o = go (eqb (length r) (recordLength (ruleFor first) (length ws))) refl (allTo (λ n. ltb (getD r n 0) (sizeOf first)) (length ws)) refl o
   where
     go : (a : Bool) → eqb (length r) (recordLength (ruleFor first) (length ws)) ≡ a → (b : Bool) → allTo (λ n. ltb (getD r n 0) (sizeOf first)) (length ws) ≡ b
-        → pick a (pick b (allTo (groupOk (ruleFor first) (length ws) r) (sizeOf first - 1)) false) false ≡ true → Expandable (powerOf first) (mostOf first) ws r
+        → pick a (pick b (allTo (groupOk (ruleFor first) (length ws) r) (sizeOf first - 1)) false) false ≡ true → ExpandRoom (powerOf first) (mostOf first) ws r
     go false u b v o = let z : _≡_ {A = ℕ} 0 1 = cc in absurd (omega arith)
     go true u false v o = let z : _≡_ {A = ℕ} 0 1 = cc in absurd (omega arith)
     go true u true v o =

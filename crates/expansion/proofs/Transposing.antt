@@ -12,7 +12,7 @@ use Rattle.trellis.specs.Lists.{tab, part, blocks}
 use Rattle.trellis.specs.Field.{xor}
 use Rattle.trellis.proofs.Loops.{tab-more, tab-seam, tab-ext, length-tab, getD-tab, length-even}
 use Rattle.field.proofs.Blocks.{part-room}
-use Rattle.expansion.specs.inner.Transposed.{everyAt, byteIn, besideIn, besideFrom, valueIn, bySymbol, turned, Unpackable, Listed, Shifted, Turnable}
+use Rattle.expansion.specs.inner.Transposed.{everyAt, byteIn, besideIn, besideFrom, valueIn, bySymbol, turned, UnpackRoom, ListsRoom, ShiftRoom, TurnRoom}
 
 -- one list
 module _ (r : List ℕ) (at g f : ℕ) where
@@ -31,7 +31,7 @@ module _ (r : List ℕ) (at g f : ℕ) where
   every-turn l out a o h e = rw (e, every-next a o) (tab-more (everyAt r at g f) l a h)
 
 -- all lists
-module _ {k d q : ℕ} {r out : List ℕ} (U : Unpackable k d q r out) (i : ℕ) (h : i < 1 + 2 * k) where
+module _ {k d q : ℕ} {r out : List ℕ} (U : UnpackRoom k d q r out) (i : ℕ) (h : i < 1 + 2 * k) where
   -- list i's part of the room
   pub list-room : i * q + q ≤ length out
   list-room = rw (U .room, ← suc-mul i q) (mul-le-mul-right q h)
@@ -47,7 +47,7 @@ module _ (k q : ℕ) (t : List ℕ) (h : q ≤ 64) (room : (1 + 2 * k) * 64 ≤ 
   pub lists-room : (1 + 2 * k) * q ≤ length t
   lists-room = omega (arith, mul-le-mul-left (1 + 2 * k) h)
 
-  pub listed : k ≤ 3 → (l : List ℕ) → length l ≡ length t → Listed k q l
+  pub listed : k ≤ 3 → (l : List ℕ) → length l ≡ length t → ListsRoom k q l
   listed p l e = record { pairs = p; most = h; long = omega (arith, mul-le-mul-left (2 * k) h) }
 
 -- a list's rows from place c on
@@ -106,7 +106,7 @@ pub values-end : (f : ℕ → ℕ) (q a : ℕ) (l : List ℕ) {v : List ℕ} →
 values-end f q a l h e = rw e (take-tab f q a (drop a l) h)
 
 -- one column by symbols, in place
-pub symbol-room : (v out : List ℕ) (s x : ℕ) {row : List ℕ} → Shifted row s → length v ≡ length row → x < length row → out ≡ tab (bySymbol v row s) x ++ drop x row
+pub symbol-room : (v out : List ℕ) (s x : ℕ) {row : List ℕ} → ShiftRoom row s → length v ≡ length row → x < length row → out ≡ tab (bySymbol v row s) x ++ drop x row
     → {a : ℕ} → a ≡ bitXor (getD out x 0) s → a < length v
 symbol-room v out s x {row} S l h o e =
     let g : getD out x 0 ≡ getD row x 0 = rw o (tab-seam (bySymbol v row s) row x h) in
@@ -137,7 +137,7 @@ pub turned-column : (k q : ℕ) (t r out₀ : List ℕ) (n : ℕ) {l : List ℕ}
 turned-column k q t r out₀ n e = rw e refl
 
 -- column n's place
-pub columns-room : {d q : ℕ} {r out : List ℕ} → Turnable d q r out → (n : ℕ) → n < d → (n * q + q ≤ 2048) × (n * q + q ≤ length out)
+pub columns-room : {d q : ℕ} {r out : List ℕ} → TurnRoom d q r out → (n : ℕ) → n < d → (n * q + q ≤ 2048) × (n * q + q ≤ length out)
 columns-room {d} {q} R n h =
     let a : n * q + q ≤ d * q = part-room n d q h in
     (omega (arith, a, mul-le-mul (R .few) (R .most)), omega (arith, a, R .room))

@@ -8,12 +8,12 @@ use Rattle.trellis.specs.Record.{recordOk}
 use Rattle.trellis.specs.Rules.{ruleFor, powerOf, sizeOf}
 use Rattle.trellis.specs.Reply.{accepted}
 use Rattle.trellis.proofs.Recurrence.{size-64}
-use Rattle.field.proofs.Values.{Short, either, none, under}
+use Rattle.field.proofs.Values.{Short, either, none, short-under}
 use Rattle.expansion.specs.Answers.{expandReply}
 
 pub expand-short : (first : ℕ) (ws r out : List ℕ) → expandReply first ws r out .value ≤ 2048
 unfolding expandReply
 expand-short first ws r out =
-    under first ws _ (λ W.
+    short-under first ws _ (λ W.
     let l : Short (accepted (length ws * sizeOf first)) = record { small = mul-le-mul (W .few) (size-64 (powerOf first) (W .high)) } in
     either (recordOk (ruleFor first) (length ws) r) _ _ (either (ltb (length out) (length ws * sizeOf first)) _ _ (none 2) l) (none 16)) .small

@@ -18,14 +18,14 @@ pub fn expand(first: u8, weights: &[u8], bytes: &[u8], out: &mut [u8]) -> Writte
         return Written::Refused(k);
     }
     let d = weights.len();
-    let w = rules::size(first);
+    let q = rules::size(first);
     if !form::record_ok(first, bytes, d) {
         return Written::Refused(16);
     }
-    let n = d * w;
+    let n = d * q;
     if out.len() < n {
         return Written::Refused(2);
     }
-    expansion::expand_in(first, w, weights, bytes, &mut out[..n]);
+    expansion::expand_in(first, q, weights, bytes, &mut out[..n]);
     Written::Bytes(n)
 }

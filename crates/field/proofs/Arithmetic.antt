@@ -7,8 +7,8 @@ use borrow.Author.Tests.{eq-eqb, ne-eqb}
 use Rattle.trellis.specs.Field.{xor, polynomial, doubled}
 use Rattle.trellis.proofs.Recurrence.{size-64}
 
-pub power : (p : ℕ) → p ≤ 6 → 1 * 2 ^ p % 256 ≡ 2 ^ p
-power p h = omega (arith, size-64 p h)
+pub byte-power : (p : ℕ) → p ≤ 6 → 1 * 2 ^ p % 256 ≡ 2 ^ p
+byte-power p h = omega (arith, size-64 p h)
 
 shifted : (p a : ℕ) → p ≤ 6 → a < 2 ^ p → a * 2 % 256 ≡ a * 2
 shifted p a h k = omega (arith, size-64 p h)

@@ -8,7 +8,7 @@ use native.Mathlib.Omega.{arith}
 use Rattle.trellis.specs.Lists.{pick}
 use Rattle.trellis.specs.Reply.{Reply, refusal}
 use Rattle.field.specs.Answers.{weightCases, weightsFault}
-use Rattle.field.proofs.Weighed.{Weighed, no-fault, fault-case, rest-case}
+use Rattle.field.proofs.Weighed.{WeightsAccepted, no-fault, fault-case, rest-case}
 
 pub record Short (r : Reply) : Type 0 where
   pub small : r .value ≤ 2048
@@ -20,8 +20,8 @@ either false x y h k = k
 pub none : (k : ℕ) → Short (refusal k)
 none k = record { small = omega arith }
 
-pub under : (first : ℕ) (ws : List ℕ) (rest : Reply) → (Weighed first ws → Short rest) → Short (weightCases first ws (λ k. refusal k) rest)
-under first ws rest h =
+pub short-under : (first : ℕ) (ws : List ℕ) (rest : Reply) → (WeightsAccepted first ws → Short rest) → Short (weightCases first ws (λ k. refusal k) rest)
+short-under first ws rest h =
     elim (ℕ-discrete (weightsFault first ws) 0) [
       | yes e ↦ let W = no-fault first ws e in rw (rest-case first ws W (λ k. refusal k) rest) (h W)
       | no e ↦ rw (← fault-case first ws (λ k. refusal k) rest refl e) (none (weightsFault first ws))

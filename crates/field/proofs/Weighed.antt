@@ -28,7 +28,7 @@ weight-true q h t = go (eqb h 0) refl t
     go false u v = ((λ k. no-true (eq-eqb h 0 k) u), ltb→lt h q v)
 
 -- first byte and weights of a check that none of 6, 9, 11 refuses
-pub record Weighed (first : ℕ) (ws : List ℕ) : Type 0 where
+pub record WeightsAccepted (first : ℕ) (ws : List ℕ) : Type 0 where
   pub accepted : firstOk first ≡ true
   pub low : 2 ≤ powerOf first
   pub high : powerOf first ≤ 6
@@ -43,12 +43,12 @@ at-least {m} {n} e =
       | no h ↦ absurd (no-true (lt-ltb m n (omega arith)) e)
     ]
 
-pub no-fault : (first : ℕ) (ws : List ℕ) → weightsFault first ws ≡ 0 → Weighed first ws
+pub no-fault : (first : ℕ) (ws : List ℕ) → weightsFault first ws ≡ 0 → WeightsAccepted first ws
 unfolding weightsFault
 no-fault first ws e = go (firstOk first) refl (ltb (length ws) 2) refl (ltb 32 (length ws)) refl (weightsOk (sizeOf first) ws) refl e
   where
     go : (a : Bool) → firstOk first ≡ a → (c : Bool) → ltb (length ws) 2 ≡ c → (d : Bool) → ltb 32 (length ws) ≡ d → (o : Bool) → weightsOk (sizeOf first) ws ≡ o
-        → _≡_ {A = ℕ} (pick (not a) 6 (pick c 9 (pick d 9 (pick o 0 11)))) 0 → Weighed first ws
+        → _≡_ {A = ℕ} (pick (not a) 6 (pick c 9 (pick d 9 (pick o 0 11)))) 0 → WeightsAccepted first ws
     go false i c k d l o m e = absurd (omega arith)
     go true i true k d l o m e = absurd (omega arith)
     go true i false k true l o m e = absurd (omega arith)
@@ -68,7 +68,7 @@ fault-case first ws bad rest e n = go (firstOk first) (ltb (length ws) 2) (ltb 3
     go true false false false e n = ap bad e
     go true false false true e n = absurd (n e)
 
-module _ (first : ℕ) (ws : List ℕ) (W : Weighed first ws) where
+module _ (first : ℕ) (ws : List ℕ) (W : WeightsAccepted first ws) where
   pub rest-case : {A : Type 0} (bad : ℕ → A) (rest : A) → weightCases first ws bad rest ≡ rest
   rest-case bad rest = simp (W .accepted, le-ltb _ _ (W .two), le-ltb _ _ (W .few), W .ok)
 
@@ -76,7 +76,7 @@ module _ (first : ℕ) (ws : List ℕ) (W : Weighed first ws) where
   weight-at n k = weight-true (sizeOf first) (getD ws n 0) (all-at _ (length ws) (of-true (W .ok)) n k)
 
 -- the weights of an accepted check
-pub ready-weighed : (first : ℕ) (ws cs : List ℕ) → Ready first ws cs → Weighed first ws
+pub ready-weighed : (first : ℕ) (ws cs : List ℕ) → Ready first ws cs → WeightsAccepted first ws
 unfolding weightOk
 ready-weighed first ws cs D =
     record {

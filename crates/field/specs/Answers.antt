@@ -9,6 +9,7 @@ use Rattle.trellis.specs.Field.{product}
 use Rattle.trellis.specs.Rules.{firstOk, sizeOf}
 use Rattle.trellis.specs.Refusals.{Test, when, unless, refusedBy}
 use Rattle.trellis.specs.Reply.{Reply, accepted, refusal}
+use Rattle.trellis.specs.Sizes.{mostDegree}
 use Rattle.field.specs.declared.Element.{Element}
 use Rattle.field.specs.declared.Element.the-variants.{Is, Refused as NoElement}
 use Rattle.field.specs.declared.Written.{Written}
@@ -45,7 +46,7 @@ abbrev pub weightTests : ℕ → List ℕ → List Test
 weightTests f ws =
     when (not (firstOk f)) 6
     ∷ when (ltb (length ws) 2) 9
-    ∷ when (ltb 32 (length ws)) 9
+    ∷ when (ltb mostDegree (length ws)) 9
     ∷ unless (weightsOk (sizeOf f) ws) 11
     ∷ []
 
@@ -66,7 +67,7 @@ rowOf p ws n = tab (product p (getD ws n 0)) (2 ^ p)
 
 -- p is 2 to 6, there are at most 32 weights, all of them elements, and their products take `room` bytes
 unfoldable pub rowsFit : ℕ → List ℕ → ℕ → Bool
-rowsFit p ws room = leb 2 p && (leb p 6 && (leb (length ws) 32 && (eqb room (length ws * 2 ^ p) && elementsOk (2 ^ p) ws)))
+rowsFit p ws room = leb 2 p && (leb p 6 && (leb (length ws) mostDegree && (eqb room (length ws * 2 ^ p) && elementsOk (2 ^ p) ws)))
 
 -- the products of all weights end to end, where they fit; else out is as it was
 unfoldable pub rowsLeave : ℕ → List ℕ → List ℕ → List ℕ

@@ -1,6 +1,7 @@
 // The products of weights with every symbol, and whether there is room for them.
 use crate::field;
 use crate::table;
+use scalar::sizes;
 ghost use mathlib.Core.Path.{_≡_};
 ghost use mathlib.Core.Bool.{cond};
 ghost use mathlib.Core.List.{[], _∷_};
@@ -89,16 +90,16 @@ fn row(p: u8, h: u8, row: &mut [u8])
     by_bits(p, h, row);
 }
 
-// The rows of all weights, w products each, worked out one by one.
-fn each_row(p: u8, w: usize, weights: &[u8], out: &mut [u8])
+// The rows of all weights, q products each, worked out one by one.
+fn each_row(p: u8, q: usize, weights: &[u8], out: &mut [u8])
     requires { ⌜ Factors p (now weights) ⌝ }
-    requires { ⌜ (w ≡ 2 ^ p) × (length (now out) ≡ length (now weights) * 2 ^ p) ⌝ }
+    requires { ⌜ (q ≡ 2 ^ p) × (length (now out) ≡ length (now weights) * 2 ^ p) ⌝ }
     ensures { λ _. ⌜ now (out .exit) ≡ blocks (rowOf p (now (weights .entry))) (length (now (weights .entry))) ⌝ }
 {
     let mut n = 0;
     while n < weights.len() {
-        let a = n * w;
-        let e = a + w;
+        let a = n * q;
+        let e = a + q;
         row(p, weights[n], &mut out[a..e]);
         n += 1;
     }
@@ -115,8 +116,8 @@ pub fn fill(p: u8, weights: &[u8], out: &mut [u8])
         table::rows_from(&table, weights, out);
         return;
     }
-    let w = scalar::u8_to_usize(field::size(p));
-    each_row(p, w, weights, out);
+    let q = scalar::u8_to_usize(field::size(p));
+    each_row(p, q, weights, out);
 }
 
 // Whether every weight is an element.
@@ -142,7 +143,7 @@ pub fn rows_fit(p: u8, weights: &[u8], room: usize) -> bool
     if 6 < p {
         return false;
     }
-    if 32 < weights.len() {
+    if sizes::MOST_DEGREE < weights.len() {
         return false;
     }
     let q = field::size(p);

@@ -1,5 +1,6 @@
 // The tests of a first code byte and of weights.
 use crate::field;
+use scalar::sizes;
 ghost use mathlib.Core.Path.{_≡_};
 ghost use Rattle.field.specs.Answers.{weightOk, weightsOk, weightsFault};
 
@@ -35,7 +36,7 @@ pub fn weights_fault(first: u8, weights: &[u8]) -> u8
     if weights.len() < 2 {
         return 9;
     }
-    if 32 < weights.len() {
+    if sizes::MOST_DEGREE < weights.len() {
         return 9;
     }
     if weights_ok(field::size(rules::power(first)), weights) {

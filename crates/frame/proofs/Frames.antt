@@ -1,21 +1,19 @@
--- The laws behind a frame's tests: a turn of the loops over columns and costs, the tests in their order, and the copy.
+-- The laws behind a frame's tests: a turn of the loops over columns and costs, and the tests in their order.
 use mathlib.Core.Path.{_≡_, refl, sym, ap, _∙_}
 use mathlib.Core.Bool.{Bool, true, false}
-use mathlib.Core.List.{List, _++_}
+use mathlib.Core.List.{List}
 use Prim.Native.Nat.{ℕ, _+_, _-_, _*_, _≤_, _<_, min}
 use native.Mathlib.Nat.{add-sub-cancel-left}
 use native.Mathlib.Numerals.{add-one}
 use native.Mathlib.Omega.{arith}
 use lib.Dec.{eqb}
 use borrow.Author.Tests.{eqb-true, eq-eqb, ne-eqb, lt-ltb, le-ltb}
-use lib.ListN.{length, getD, take, drop}
-use lib.Seq.{ext-getD}
-use Rattle.trellis.specs.Lists.{tab, part, allTo, pick}
+use lib.ListN.{length}
+use Rattle.trellis.specs.Lists.{part, allTo, pick}
 use Rattle.trellis.specs.Check.{firstZero}
 use Rattle.trellis.specs.Refusals.{faultBy}
 use Rattle.trellis.specs.Rules.{sizeOf}
 use Rattle.trellis.proofs.Margins.{first-most}
-use Rattle.trellis.proofs.Loops.{tab-whole, length-tab, getD-tab}
 use Rattle.trellis.proofs.Refusals.{in-order, by-number, Numbered}
 use Rattle.machine.specs.CodeLine.{columnOf, zeroIn, frameTests}
 use Rattle.machine.specs.Decoding.{roomTests, decodeTests}
@@ -24,24 +22,7 @@ use Rattle.machine.proofs.Faults.{frame-numbered}
 use Rattle.machine.proofs.Lists.{all-not}
 use Rattle.machine.proofs.Places.{length-part}
 use Rattle.codeline.specs.declared.answers.Numbers.{Numbers}
-use Rattle.frame.specs.Answers.{frameFaultOf, roomFaultOf, faultOf, copiedTo}
-
--- the frame copied whole
-list-tab : (l : List ℕ) → tab (λ k. getD l k 0) (length l) ≡ l
-list-tab l = ext-getD 0 (tab (λ k. getD l k 0) (length l)) l (length-tab _ (length l)) (λ i h. getD-tab (λ k. getD l k 0) (length l) i (omega (arith, length-tab (λ k. getD l k 0) (length l))))
-
-pub copied : (f d out : List ℕ) (i : ℕ) → length f ≡ length d → i ≡ length d → out ≡ tab (λ k. getD f k 0) i ++ drop i d → out ≡ f
-copied f d out i e k o = o ∙ rw k (tab-whole (λ k. getD f k 0) d ∙ rw (← e) (list-tab f))
-
--- nothing copied, or the frame
-pub copied-none : (f c : List ℕ) → (length f ≡ length c → ⊥) → c ≡ copiedTo f c
-copied-none f c h = rw (ne-eqb (length f) (length c) h)
-
-pub copied-frame : (f c r : List ℕ) → length f ≡ length c → r ≡ f → r ≡ copiedTo f c
-copied-frame f c r h e = e ∙ rw (eq-eqb (length f) (length c) h)
-
-pub copied-is : (f c r : List ℕ) → length f ≡ length c → r ≡ copiedTo f c → r ≡ f
-copied-is f c r h e = e ∙ rw (eq-eqb (length f) (length c) h)
+use Rattle.frame.specs.Answers.{frameFaultOf, roomFaultOf, faultOf}
 
 -- a turn of the loop over the frame's columns
 module _ (q n c z : ℕ) (f : List ℕ) (room : c * q + q ≤ length f) (e : z ≡ firstZero (part f (c * q) (c * q + q - c * q))) where

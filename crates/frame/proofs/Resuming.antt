@@ -97,7 +97,7 @@ module _ (first : ℕ) (ds s : List ℕ) (count m place d n groups : ℕ) (h : m
   unfolding recordOk
   form-short u =
       let z : length (part s (bytesBefore first ds m) (recordLength (ruleFor first) (getD ds m 0))) ≢ recordLength (ruleFor first) (getD ds m 0) =
-          λ e. let a : length (part s place n) ≡ n = rw (record-end, b) e in let c : length (part s place n) ≡ min n (length s - place) = simp (length-take, length-drop) in omega (arith, a, c) in
+      λ e. let a : length (part s place n) ≡ n = rw (record-end, b) e in let c : length (part s place n) ≡ min n (length s - place) = simp (length-take, length-drop) in omega (arith, a, c) in
       all-not (formedAt first ds s) m count h (rw (ne-eqb _ _ z))
 
   record-is : part s place (place + n - place) ≡ part s (bytesBefore first ds m) (recordLength (ruleFor first) (getD ds m 0))

@@ -1,11 +1,11 @@
--- What each public call answers, by the numbers of a line and its degrees: refusals in the documents' order, 0 for none, and the costs that a
--- copy leaves. layered/proofs/{Decoded,Steps}.antt show that under a code these are the machine's.
+-- What each public call answers, by the numbers of a line and its degrees: refusals in the documents' order, 0 for none.
+-- layered/proofs/{Decoded,Steps}.antt show that under a code these are the machine's.
 use mathlib.Core.Bool.{Bool, _&&_, _||_}
 use mathlib.Core.List.{List, [], _∷_}
 use Prim.Native.Nat.{ℕ, _*_, min}
 use lib.Dec.{eqb, leb}
 use lib.ListN.{length, getD}
-use Rattle.trellis.specs.Lists.{pick, allTo, part}
+use Rattle.trellis.specs.Lists.{allTo, part}
 use Rattle.trellis.specs.Refusals.{unless, faultBy}
 use Rattle.trellis.specs.Record.{recordLength, recordOk}
 use Rattle.trellis.specs.Rules.{sizeOf, ruleFor}
@@ -26,10 +26,6 @@ roomFaultOf n w u y c s v = faultBy (roomTests n w u y c s v)
 unfoldable pub faultOf : Numbers → List ℕ → List ℕ → ℕ → ℕ → ℕ → ℕ → ℕ
 faultOf k ds f y c s v =
     faultBy (decodeTests (sizeOf (k .first)) (k .columns) (bytesBefore (k .first) ds (min (k .checks) (length ds))) f y c s v)
-
--- costs as long as the frame are the frame's then; else nothing changes
-abbrev pub copiedTo : List ℕ → List ℕ → List ℕ
-copiedTo f c = pick (eqb (length f) (length c)) f c
 
 -- n columns of q costs, neither "a cost above 510" nor "a column without a 0"
 abbrev pub lowCost : List ℕ → ℕ → Bool

@@ -8,7 +8,8 @@ ghost use mathlib.Core.Path.{_≡_};
 ghost use Prim.Native.Nat.{min};
 ghost use lib.ListN.{length};
 ghost use Rattle.machine.specs.inner.Tables.{bytesBefore};
-ghost use Rattle.frame.specs.Answers.{frameFaultOf, roomFaultOf, faultOf, copiedTo, resumeFault};
+ghost use Rattle.slices.specs.Copies.{copiedTo};
+ghost use Rattle.frame.specs.Answers.{frameFaultOf, roomFaultOf, faultOf, resumeFault};
 
 // "12, cost count wrong; 13, a column without a cost of 0"; 0 for none.
 pub fn frame_fault(numbers: Numbers, frame: &[u8]) -> u8

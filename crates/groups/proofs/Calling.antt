@@ -8,15 +8,15 @@ use borrow.Author.Tests.{le-leb, lt-leb}
 use lib.ListN.{length, take, drop}
 use Rattle.tables.specs.Calls.{side, inRange}
 use Rattle.tables.specs.inner.Tables.{Shaped}
-use Rattle.tables.proofs.Ranges.{power, shaped-for}
+use Rattle.tables.proofs.Ranges.{index-power, shaped-for}
 use Rattle.groups.specs.declared.layout.Shape.{Shape}
 use Rattle.groups.specs.inner.Pairs.{groupRows}
-use Rattle.groups.specs.Calls.{shapeFor, groupsLength, groupsFit, groupsLeave}
+use Rattle.groups.specs.Calls.{groupShape, groupsLength, groupsFit, groupsLeave}
 
 pub shape-is : (p k : ℕ) {q l : ℕ} → 2 ≤ p → p ≤ 6 → 2 ≤ k → k ≤ 3 → q ≡ 1 * 2 ^ p % 18446744073709551616 → l ≡ max 16 q
-    → let S : Shape = record { q = q; l = l; k = k } in (S ≡ shapeFor p k) × (Shaped q l k × (4 ≤ q))
+    → let S : Shape = record { q = q; l = l; k = k } in (S ≡ groupShape p k) × (Shaped q l k × (4 ≤ q))
 shape-is p k {q} {l} a b c d eq el =
-    let u : q ≡ 2 ^ p = eq ∙ power p b in
+    let u : q ≡ 2 ^ p = eq ∙ index-power p b in
     let v : l ≡ side p = el ∙ ap (max 16) u in
     (ap₂ {C = Shape} (λ x y. record { q = x; l = y; k = k }) u v, rw (v, u) (shaped-for p k a b c d))
 
@@ -25,7 +25,7 @@ module _ (p k d : ℕ) (lines out : List ℕ) where
   unfolding groupsLeave groupsFit
   groups-none e = rw e refl
 
-  module _ (S : Shape) (e : S ≡ shapeFor p k) (within : inRange p k d ≡ true) where
+  module _ (S : Shape) (e : S ≡ groupShape p k) (within : inRange p k d ≡ true) where
     count : d * S .l ≡ d * side p
     count = ap (λ (T : Shape). d * T .l) e
 

@@ -19,7 +19,7 @@ use Rattle.engine.specs.inner.Groups.{listedGroup}
 use Rattle.engine.proofs.RestGroups.{group-is}
 use Rattle.tables.specs.Calls.{side, inRange}
 use Rattle.tables.proofs.Parts.{part-room}
-use Rattle.tables.proofs.Meaning.{Asked, ruleWith, rule-is}
+use Rattle.tables.proofs.Meaning.{CallRoom, ruleWith, rule-is}
 use Rattle.groups.specs.inner.Pairs.{restAt, groupOf, groupRows}
 use Rattle.groups.specs.Calls.{groupsLength, groupsFit, groupsLeave}
 
@@ -72,7 +72,7 @@ module _ (p k d : ℕ) (greatest : Bool) (times : ℕ → ℕ → ℕ) (cs : Lis
           ∙ sym (group-is R cs P (suc b) (omega arith) (λ n j. sent-byte B (suc b) (omega arith) n j) (restAt l (take (d * l) sent) (suc b)) (λ n j. at b n i j)))
 
 -- `groups`: where row a of row n is the rest of the cost sent to column n at a, and costs are bytes, the bytes are the record's behind its shifts
-pub groups-mean : (p k d : ℕ) (greatest : Bool) (R : Rule) (cs : List Column) → Asked p k d greatest R cs
+pub groups-mean : (p k d : ℕ) (greatest : Bool) (R : Rule) (cs : List Column) → CallRoom p k d greatest R cs
     → ((n y : ℕ) → n < length cs → getD (column cs n .costs) y 0 ≤ 255)
     → (sent out : List ℕ) → d * side p ≤ length sent → groupsLength p k ≤ length out
     → ((n a : ℕ) → n < d → a < 2 ^ p → getD sent (n * side p + a) 0 ≡ 255 - sentAt R cs n a)

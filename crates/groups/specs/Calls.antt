@@ -10,8 +10,8 @@ use Rattle.tables.specs.Calls.{side, inRange}
 use Rattle.groups.specs.declared.layout.Shape.{Shape}
 use Rattle.groups.specs.inner.Pairs.{groupRows}
 
-abbrev pub shapeFor : ℕ → ℕ → Shape
-shapeFor p k = record { q = 2 ^ p; l = side p; k = k }
+abbrev pub groupShape : ℕ → ℕ → Shape
+groupShape p k = record { q = 2 ^ p; l = side p; k = k }
 
 -- bytes of all groups
 abbrev pub groupsLength : ℕ → ℕ → ℕ

@@ -1,6 +1,7 @@
 // The shape of the rests, and where parts of a list start.
 ghost use mathlib.Core.Path.{_≡_};
 ghost use Prim.Native.Nat.{_+_, _*_, _≤_, _<_};
+ghost use Rattle.trellis.specs.Sizes.{mostDegree};
 
 // Rests of l rows a column, of which q are asked for; k pairs a group.
 pub struct Shape {
@@ -11,7 +12,7 @@ pub struct Shape {
 
 // Where part j of n parts, each w long, starts.
 pub fn part_at(j: usize, n: usize, w: usize) -> usize
-    requires { ⌜ (j < n) × ((n ≤ 32) × (w ≤ 192)) ⌝ }
+    requires { ⌜ (j < n) × ((n ≤ mostDegree) × (w ≤ 192)) ⌝ }
     ensures { λ r. ⌜ (r ≡ j * w) × ((r + w ≤ n * w) × (n * w ≤ 6144)) ⌝ }
 {
     j * w

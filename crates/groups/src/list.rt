@@ -7,6 +7,7 @@ ghost use Prim.Native.Nat.{_+_, _-_, _*_, _%_, _≤_, _<_, min};
 ghost use lib.Dec.{ltb};
 ghost use lib.ListN.{length, getD, replicate};
 ghost use Rattle.trellis.specs.Lists.{blocks, part, patch, pick};
+ghost use Rattle.trellis.specs.Sizes.{mostDegree};
 ghost use Rattle.blocks.specs.Calls.{lanes};
 ghost use Rattle.tables.specs.inner.Tables.{Shaped};
 ghost use Rattle.groups.specs.inner.Pairs.{lowAt, Pushes, Best, Listed, pairBytes, bytesAt, groupOf, groupRows};
@@ -92,7 +93,7 @@ fn column(k: usize, n: u8, s: &[u8], e: &[u8], columns: &mut [u8], rests: &mut [
 // Where the rows from v on of column n start.
 fn row_at(shape: Shape, d: usize, n: usize, v: usize) -> usize
     requires { ⌜ Shaped (shape .q) (shape .l) (shape .k) ⌝ }
-    requires { ⌜ ((n < d) × (d ≤ 32)) × ((v % 16 ≡ 0) × (v < shape .l)) ⌝ }
+    requires { ⌜ ((n < d) × (d ≤ mostDegree)) × ((v % 16 ≡ 0) × (v < shape .l)) ⌝ }
     ensures { λ r. ⌜ (r ≡ n * shape .l + v) × (r + 16 ≤ d * shape .l) ⌝ }
 {
     layout::part_at(n, d, shape.l) + v
@@ -101,7 +102,7 @@ fn row_at(shape: Shape, d: usize, n: usize, v: usize) -> usize
 // e: the best rest of each row from v on.
 fn best(shape: Shape, d: usize, v: usize, sent: &[u8], e: &mut [u8])
     requires { ⌜ Shaped (shape .q) (shape .l) (shape .k) ⌝ }
-    requires { ⌜ ((2 ≤ d) × (d ≤ 32)) × ((v % 16 ≡ 0) × (v < shape .l)) ⌝ }
+    requires { ⌜ ((2 ≤ d) × (d ≤ mostDegree)) × ((v % 16 ≡ 0) × (v < shape .l)) ⌝ }
     requires { ⌜ (length (now sent) ≡ d * shape .l) × (length (now e) ≡ 16) ⌝ }
     ensures { λ _. ⌜ Best (shape .l) d v (now (sent .entry)) (now (e .exit)) ⌝ }
 {
@@ -128,7 +129,7 @@ fn list(
     rests: &mut [u8],
 )
     requires { ⌜ Shaped (shape .q) (shape .l) (shape .k) ⌝ }
-    requires { ⌜ ((2 ≤ d) × (d ≤ 32)) × ((v % 16 ≡ 0) × (v < shape .l)) ⌝ }
+    requires { ⌜ ((2 ≤ d) × (d ≤ mostDegree)) × ((v % 16 ≡ 0) × (v < shape .l)) ⌝ }
     requires { ⌜ (length (now sent) ≡ d * shape .l) × (length (now e) ≡ 16) ⌝ }
     requires { ⌜ (now columns ≡ replicate 64 255) × (now rests ≡ replicate 64 255) ⌝ }
     ensures { λ _. ⌜ Listed (shape .k) (shape .l) d v d (now (sent .entry)) (now (e .entry)) (now (columns .exit)) (now (rests .exit)) ⌝ }
@@ -201,7 +202,7 @@ fn skipped(v: usize) -> usize
 // The bytes of m rows of the block from v on.
 fn block(shape: Shape, d: usize, v: usize, m: usize, sent: &[u8], out: &mut [u8])
     requires { ⌜ Shaped (shape .q) (shape .l) (shape .k) ⌝ }
-    requires { ⌜ ((2 ≤ d) × (d ≤ 32)) × ((v % 16 ≡ 0) × (v < shape .l)) ⌝ }
+    requires { ⌜ ((2 ≤ d) × (d ≤ mostDegree)) × ((v % 16 ≡ 0) × (v < shape .l)) ⌝ }
     requires { ⌜ (length (now sent) ≡ d * shape .l) × ((1 - v + m ≤ 16) × (length (now out) ≡ m * (shape .k * 2 + 1))) ⌝ }
     ensures { λ _. ⌜ now (out .exit) ≡ blocks (λ b. groupOf (shape .l) (shape .k) (now (sent .entry)) d (v - 1 + b)) m ⌝ }
 {
@@ -228,7 +229,7 @@ fn written(q: usize, v: usize) -> usize
 // The bytes of all rows but the first.
 pub fn groups_in(shape: Shape, d: usize, sent: &[u8], out: &mut [u8])
     requires { ⌜ Shaped (shape .q) (shape .l) (shape .k) ⌝ }
-    requires { ⌜ ((2 ≤ d) × (d ≤ 32)) × ((4 ≤ shape .q) × (length (now sent) ≡ d * shape .l)) ⌝ }
+    requires { ⌜ ((2 ≤ d) × (d ≤ mostDegree)) × ((4 ≤ shape .q) × (length (now sent) ≡ d * shape .l)) ⌝ }
     requires { ⌜ length (now out) ≡ (shape .q - 1) * (shape .k * 2 + 1) ⌝ }
     ensures { λ _. ⌜ now (out .exit) ≡ groupRows (shape .q) (shape .l) (shape .k) (now (sent .entry)) d ⌝ }
 {

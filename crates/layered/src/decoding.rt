@@ -4,8 +4,10 @@ use crate::answers::Counted;
 use crate::iterate;
 use codeline::answers::Header;
 use codeline::answers::Numbers;
+use scalar::sizes;
 ghost use mathlib.Core.Path.{_≡_};
 ghost use Prim.Native.Nat.{_≤_};
+ghost use Rattle.trellis.specs.Sizes.{mostSymbols};
 ghost use Rattle.machine.specs.CodeLine.{parse, numbersOf, columnsRead};
 ghost use Rattle.machine.specs.Decoding.{lending, Leaves, Decodes};
 ghost use Rattle.layered.specs.Answers.{answerReply};
@@ -63,16 +65,16 @@ pub fn decode_in(
     costs: &mut [u16],
     store: &mut [u8],
     margins: &mut [u16],
-    degrees: &mut [u8; 128],
-    columns: &mut [u16; 1024],
-    weights: &mut [u8; 1024],
-    arrived: &mut [u8; 2048],
-    sent: &mut [u8; 2048],
+    degrees: &mut [u8; sizes::MOST_CHECKS],
+    columns: &mut [u16; sizes::MOST_EDGES],
+    weights: &mut [u8; sizes::MOST_EDGES],
+    arrived: &mut [u8; sizes::MOST_EXPANSION],
+    sent: &mut [u8; sizes::MOST_EXPANSION],
 ) -> Counted
     ensures { λ r. ⌜ Decodes (now (code .entry)) (now (frame .entry))
         (lending (now (symbols .entry)) (now (costs .entry)) (now (store .entry)) (now (margins .entry))) (answerReply (r .answer))
         (lending (now (symbols .exit)) (now (costs .exit)) (now (store .exit)) (now (margins .exit))) ⌝ }
-    ensures { λ r. ⌜ (r .columns ≡ columnsRead (numbersOf (parse (now (code .entry))))) × (r .columns ≤ 256) ⌝ }
+    ensures { λ r. ⌜ (r .columns ≡ columnsRead (numbersOf (parse (now (code .entry))))) × (r .columns ≤ mostSymbols) ⌝ }
 {
     match codeline::code_tables(code, degrees, columns, weights) {
         Header::Refused(k) => Counted {

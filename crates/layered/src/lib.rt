@@ -14,8 +14,10 @@ use crate::answers::Answer;
 use crate::answers::Counted;
 use crate::answers::EarlyAnswer;
 use crate::answers::Stage;
+use scalar::sizes;
 ghost use mathlib.Core.Path.{_≡_};
 ghost use Prim.Native.Nat.{_≤_};
+ghost use Rattle.trellis.specs.Sizes.{mostSymbols};
 ghost use Rattle.machine.specs.CodeLine.{parse, numbersOf, columnsRead};
 ghost use Rattle.machine.specs.Decoding.{lending, Decodes};
 ghost use Rattle.machine.specs.Early.{DecodesEarly};
@@ -52,13 +54,13 @@ pub fn decode_counted(
     ensures { λ r. ⌜ Decodes (now (code .entry)) (now (frame .entry))
         (lending (now (symbols .entry)) (now (costs .entry)) (now (store .entry)) (now (margins .entry))) (answerReply (r .answer))
         (lending (now (symbols .exit)) (now (costs .exit)) (now (store .exit)) (now (margins .exit))) ⌝ }
-    ensures { λ r. ⌜ (r .columns ≡ columnsRead (numbersOf (parse (now (code .entry))))) × (r .columns ≤ 256) ⌝ }
+    ensures { λ r. ⌜ (r .columns ≡ columnsRead (numbersOf (parse (now (code .entry))))) × (r .columns ≤ mostSymbols) ⌝ }
 {
-    let mut degrees = [0u8; 128];
-    let mut columns = [0u16; 1024];
-    let mut weights = [0u8; 1024];
-    let mut arrived = [0u8; 2048];
-    let mut sent = [0u8; 2048];
+    let mut degrees = [0u8; sizes::MOST_CHECKS];
+    let mut columns = [0u16; sizes::MOST_EDGES];
+    let mut weights = [0u8; sizes::MOST_EDGES];
+    let mut arrived = [0u8; sizes::MOST_EXPANSION];
+    let mut sent = [0u8; sizes::MOST_EXPANSION];
     decoding::decode_in(
         code,
         frame,
@@ -89,11 +91,11 @@ pub fn decode_early(
         (lending (now (symbols .entry)) (now (costs .entry)) (now (store .entry)) (now (margins .entry))) (earlyReply r)
         (lending (now (symbols .exit)) (now (costs .exit)) (now (store .exit)) (now (margins .exit))) ⌝ }
 {
-    let mut degrees = [0u8; 128];
-    let mut columns = [0u16; 1024];
-    let mut weights = [0u8; 1024];
-    let mut arrived = [0u8; 2048];
-    let mut sent = [0u8; 2048];
+    let mut degrees = [0u8; sizes::MOST_CHECKS];
+    let mut columns = [0u16; sizes::MOST_EDGES];
+    let mut weights = [0u8; sizes::MOST_EDGES];
+    let mut arrived = [0u8; sizes::MOST_EXPANSION];
+    let mut sent = [0u8; sizes::MOST_EXPANSION];
     stopping::decode_early_in(
         code,
         frame,
@@ -123,9 +125,9 @@ pub fn load(
         (lending (now (symbols .entry)) (now (costs .entry)) (now (store .entry)) (now (margins .entry)))) (stageOf r)
         (lending (now (symbols .exit)) (now (costs .exit)) (now (store .entry)) (now (margins .exit))) ⌝ }
 {
-    let mut degrees = [0u8; 128];
-    let mut columns = [0u16; 1024];
-    let mut weights = [0u8; 1024];
+    let mut degrees = [0u8; sizes::MOST_CHECKS];
+    let mut columns = [0u16; sizes::MOST_EDGES];
+    let mut weights = [0u8; sizes::MOST_EDGES];
     stages::load_in(
         code,
         frame,
@@ -154,11 +156,11 @@ pub fn step(
         (lending (now (symbols .entry)) (now (costs .entry)) (now (store .entry)) (now (margins .entry)))) (stageOf r)
         (lending (now (symbols .exit)) (now (costs .exit)) (now (store .exit)) (now (margins .exit))) ⌝ }
 {
-    let mut degrees = [0u8; 128];
-    let mut columns = [0u16; 1024];
-    let mut weights = [0u8; 1024];
-    let mut arrived = [0u8; 2048];
-    let mut sent = [0u8; 2048];
+    let mut degrees = [0u8; sizes::MOST_CHECKS];
+    let mut columns = [0u16; sizes::MOST_EDGES];
+    let mut weights = [0u8; sizes::MOST_EDGES];
+    let mut arrived = [0u8; sizes::MOST_EXPANSION];
+    let mut sent = [0u8; sizes::MOST_EXPANSION];
     stages::step_in(
         t,
         code,

@@ -57,13 +57,13 @@ fn times(p: u8, a: u8, b: u8) -> u8
     }
 }
 
-// What edge k adds to its check's sum.
-fn term_at(numbers: Numbers, columns: &[u16], weights: &[u8], symbols: &[u8], k: usize) -> u8
-    requires { ⌜ EdgeRoom (powerOf (numbers .first)) (now columns) (now weights) (now symbols) k ⌝ }
-    ensures { λ r. ⌜ r ≡ term (powerOf (numbers .first)) (now (columns .entry)) (now (weights .entry)) (now (symbols .entry)) k ⌝ }
+// What one edge adds to its check's sum.
+fn term_at(numbers: Numbers, columns: &[u16], weights: &[u8], symbols: &[u8], edge: usize) -> u8
+    requires { ⌜ EdgeRoom (powerOf (numbers .first)) (now columns) (now weights) (now symbols) edge ⌝ }
+    ensures { λ r. ⌜ r ≡ term (powerOf (numbers .first)) (now (columns .entry)) (now (weights .entry)) (now (symbols .entry)) edge ⌝ }
 {
-    let c = scalar::u16_to_usize(columns[k]);
-    times(rules::power(numbers.first), weights[k], symbols[c])
+    let c = scalar::u16_to_usize(columns[edge]);
+    times(rules::power(numbers.first), weights[edge], symbols[c])
 }
 
 // A check by its number, with its first edge in the tables.

@@ -5,6 +5,7 @@ use crate::iterate;
 use crate::parity;
 use codeline::answers::Header;
 use codeline::answers::Numbers;
+use scalar::sizes;
 ghost use mathlib.Core.Path.{_≡_};
 ghost use Rattle.machine.specs.Machine.{settled, symbols as symbolsOf, margins as marginsOf};
 ghost use Rattle.machine.specs.Lent.{lent, iterationLent};
@@ -190,9 +191,9 @@ pub fn load_in(
     costs: &mut [u16],
     store: &[u8],
     margins: &mut [u16],
-    degrees: &mut [u8; 128],
-    columns: &mut [u16; 1024],
-    weights: &mut [u8; 1024],
+    degrees: &mut [u8; sizes::MOST_CHECKS],
+    columns: &mut [u16; sizes::MOST_EDGES],
+    weights: &mut [u8; sizes::MOST_EDGES],
 ) -> Stage
     ensures { λ r. ⌜ Moves (loading (now (code .entry)) (now (frame .entry))
         (lending (now (symbols .entry)) (now (costs .entry)) (now (store .entry)) (now (margins .entry)))) (stageOf r)
@@ -223,11 +224,11 @@ pub fn step_in(
     costs: &mut [u16],
     store: &mut [u8],
     margins: &mut [u16],
-    degrees: &mut [u8; 128],
-    columns: &mut [u16; 1024],
-    weights: &mut [u8; 1024],
-    arrived: &mut [u8; 2048],
-    sent: &mut [u8; 2048],
+    degrees: &mut [u8; sizes::MOST_CHECKS],
+    columns: &mut [u16; sizes::MOST_EDGES],
+    weights: &mut [u8; sizes::MOST_EDGES],
+    arrived: &mut [u8; sizes::MOST_EXPANSION],
+    sent: &mut [u8; sizes::MOST_EXPANSION],
 ) -> Stage
     ensures { λ r. ⌜ Moves (iterating (now (code .entry)) (now (frame .entry)) t
         (lending (now (symbols .entry)) (now (costs .entry)) (now (store .entry)) (now (margins .entry)))) (stageOf r)

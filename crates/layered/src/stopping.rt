@@ -3,6 +3,7 @@ use crate::answers::EarlyAnswer;
 use crate::early;
 use codeline::answers::Header;
 use codeline::answers::Numbers;
+use scalar::sizes;
 ghost use mathlib.Core.Path.{_≡_};
 ghost use Rattle.machine.specs.Decoding.{lending, Leaves};
 ghost use Rattle.machine.specs.Early.{DecodesEarly};
@@ -61,11 +62,11 @@ pub fn decode_early_in(
     costs: &mut [u16],
     store: &mut [u8],
     margins: &mut [u16],
-    degrees: &mut [u8; 128],
-    columns: &mut [u16; 1024],
-    weights: &mut [u8; 1024],
-    arrived: &mut [u8; 2048],
-    sent: &mut [u8; 2048],
+    degrees: &mut [u8; sizes::MOST_CHECKS],
+    columns: &mut [u16; sizes::MOST_EDGES],
+    weights: &mut [u8; sizes::MOST_EDGES],
+    arrived: &mut [u8; sizes::MOST_EXPANSION],
+    sent: &mut [u8; sizes::MOST_EXPANSION],
 ) -> EarlyAnswer
     ensures { λ r. ⌜ DecodesEarly (now (code .entry)) (now (frame .entry))
         (lending (now (symbols .entry)) (now (costs .entry)) (now (store .entry)) (now (margins .entry))) (earlyReply r)

@@ -7,8 +7,8 @@ use Rattle.trellis.specs.Field.{xor}
 use Rattle.trellis.specs.Check.{sent, leastCost, choices}
 use Rattle.machine.specs.Machine.{iteration, update, spread, arriving, outgoing, incoming, message}
 use Rattle.machine.proofs.Examples.{code-3, frame-6}
-use Rattle.machine.proofs.Offset.{beforeUpdate, costIn, oldIn}
+use Rattle.machine.proofs.Offset.{beforeUpdate, edgeCostIn, oldIn}
 
-pub attained : (costIn code-3 (beforeUpdate code-3 frame-6 1 0) 0 2 1 ≡ 0) × (oldIn code-3 (beforeUpdate code-3 frame-6 1 0) 0 2 1 ≡ 255)
+pub attained : (edgeCostIn code-3 (beforeUpdate code-3 frame-6 1 0) 0 2 1 ≡ 0) × (oldIn code-3 (beforeUpdate code-3 frame-6 1 0) 0 2 1 ≡ 255)
 unfolding iteration update spread arriving outgoing incoming message sent leastCost choices xor
 attained = (refl, refl)

@@ -90,7 +90,7 @@ pub admits-of : (code f : List ℕ) (b : Buffers) (C : Code) → parse code ≡ 
 unfolding decoding admitted
 admits-of code f b C e h =
     let g : decodingUnder (pick (eqb (frameFault C f) 0) (pick (eqb (roomFault C b) 0) (good C) (bad (roomFault C b))) (bad (frameFault C f))) f b .reply .refused ≡ false =
-        ap (λ r. decodingUnder r f b .reply .refused) (sym (admitted-by C f b)) ∙ ap (λ r. decodingUnder (admittedUnder r f b) f b .reply .refused) (sym e) ∙ h in
+    ap (λ r. decodingUnder r f b .reply .refused) (sym (admitted-by C f b)) ∙ ap (λ r. decodingUnder (admittedUnder r f b) f b .reply .refused) (sym e) ∙ h in
     let z = go (eqb (frameFault C f) 0) refl (eqb (roomFault C b) 0) refl g in
     record { line = e; fits = z .0; room = room-of C b (z .1) }
   where

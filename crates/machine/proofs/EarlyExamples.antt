@@ -12,7 +12,7 @@ use Rattle.machine.specs.CodeLine.{parse, checks, checkAt, edges, readEd
 use Rattle.machine.specs.Machine.{run, go, iteration, update, spread, arriving, outgoing, incoming, message, settled, symbols, place, held, margins}
 use Rattle.machine.specs.Decoding.{lending, admitted, decoding, After}
 use Rattle.machine.specs.Early.{momentAfter, updates, decodingEarly}
-use Rattle.machine.proofs.Examples.{Gives}
+use Rattle.machine.proofs.Examples.{CallGives}
 
 -- N = 3, checks 0 1 and 1 2, at most I iterations
 abbrev line-1 : ℕ → List ℕ
@@ -22,7 +22,7 @@ abbrev call : ℕ → List ℕ → After
 call I f = decodingEarly (line-1 I) f (lending (replicate 4 7) (replicate 13 7) (replicate 35 7) (replicate 4 7))
 
 -- inside the first iteration: check 0 has its record, check 1 was not updated and its 17 bytes are as they were
-pub inside : Gives (call 1 (0 ∷ 8 ∷ 2 ∷ 6 ∷ 7 ∷ 3 ∷ 1 ∷ 0 ∷ 7 ∷ 2 ∷ 1 ∷ 0 ∷ [])) (foundIn 1) (2 ∷ 2 ∷ 3 ∷ 7 ∷ [])
+pub inside : CallGives (call 1 (0 ∷ 8 ∷ 2 ∷ 6 ∷ 7 ∷ 3 ∷ 1 ∷ 0 ∷ 7 ∷ 2 ∷ 1 ∷ 0 ∷ [])) (foundIn 1) (2 ∷ 2 ∷ 3 ∷ 7 ∷ [])
     (4 ∷ 8 ∷ 0 ∷ 3 ∷ 4 ∷ 8 ∷ 0 ∷ 3 ∷ 7 ∷ 2 ∷ 1 ∷ 0 ∷ 7 ∷ [])
     ((3 ∷ 0 ∷ 1 ∷ 1 ∷ 8 ∷ 255 ∷ 0 ∷ 2 ∷ 0 ∷ 3 ∷ 255 ∷ 0 ∷ 6 ∷ 0 ∷ 7 ∷ 255 ∷ 0 ∷ []) ++ replicate 18 7)
     (3 ∷ 3 ∷ 1 ∷ 7 ∷ [])
@@ -30,7 +30,7 @@ unfolding decodingEarly momentAfter updates admitted parse firstOk checks checkA
 inside = (refl, (refl, (refl, (refl, refl))))
 
 -- at the start: no update, the store is untouched
-pub at-start : Gives (call 1 (0 ∷ 8 ∷ 1 ∷ 1 ∷ 0 ∷ 4 ∷ 5 ∷ 0 ∷ 0 ∷ 1 ∷ 8 ∷ 5 ∷ [])) (foundIn 0) (0 ∷ 0 ∷ 0 ∷ 7 ∷ [])
+pub at-start : CallGives (call 1 (0 ∷ 8 ∷ 1 ∷ 1 ∷ 0 ∷ 4 ∷ 5 ∷ 0 ∷ 0 ∷ 1 ∷ 8 ∷ 5 ∷ [])) (foundIn 0) (0 ∷ 0 ∷ 0 ∷ 7 ∷ [])
     (0 ∷ 8 ∷ 1 ∷ 1 ∷ 0 ∷ 4 ∷ 5 ∷ 0 ∷ 0 ∷ 1 ∷ 8 ∷ 5 ∷ 7 ∷ []) (replicate 35 7) (1 ∷ 0 ∷ 1 ∷ 7 ∷ [])
 unfolding decodingEarly momentAfter updates admitted parse firstOk checks checkAt edges readEdge frameFault place held update spread arriving outgoing incoming message settled symbols margins marginOf sent leastCost choices xor recordOf shifts group above extra sentAt shift decided
 at-start = (refl, (refl, (refl, (refl, refl))))
@@ -39,7 +39,7 @@ abbrev frame-1 : List ℕ
 frame-1 = 0 ∷ 5 ∷ 7 ∷ 9 ∷ 4 ∷ 0 ∷ 8 ∷ 3 ∷ 6 ∷ 2 ∷ 0 ∷ 10 ∷ []
 
 -- not found with I = 1: M times I is 2
-pub missed : Gives (call 1 frame-1) (notFoundIn 2) (0 ∷ 1 ∷ 2 ∷ 7 ∷ [])
+pub missed : CallGives (call 1 frame-1) (notFoundIn 2) (0 ∷ 1 ∷ 2 ∷ 7 ∷ [])
     (0 ∷ 1 ∷ 11 ∷ 8 ∷ 5 ∷ 0 ∷ 20 ∷ 9 ∷ 5 ∷ 9 ∷ 0 ∷ 20 ∷ 7 ∷ [])
     (1 ∷ 0 ∷ 4 ∷ 1 ∷ 5 ∷ 255 ∷ 0 ∷ 3 ∷ 1 ∷ 7 ∷ 255 ∷ 0 ∷ 8 ∷ 1 ∷ 9 ∷ 255 ∷ 0
     ∷ 1 ∷ 0 ∷ 1 ∷ 0 ∷ 6 ∷ 255 ∷ 0 ∷ 2 ∷ 1 ∷ 11 ∷ 255 ∷ 0 ∷ 8 ∷ 0 ∷ 10 ∷ 255 ∷ 0 ∷ 7 ∷ [])
@@ -48,7 +48,7 @@ unfolding decodingEarly momentAfter updates admitted parse firstOk checks checkA
 missed = (refl, (refl, (refl, (refl, refl))))
 
 -- the same frame with I = 2: inside the second iteration check 0 has its second record and check 1 its first
-pub inside-second : Gives (call 2 frame-1) (foundIn 3) (1 ∷ 1 ∷ 2 ∷ 7 ∷ [])
+pub inside-second : CallGives (call 2 frame-1) (foundIn 3) (1 ∷ 1 ∷ 2 ∷ 7 ∷ [])
     (5 ∷ 0 ∷ 20 ∷ 9 ∷ 5 ∷ 0 ∷ 20 ∷ 9 ∷ 5 ∷ 9 ∷ 0 ∷ 20 ∷ 7 ∷ [])
     (1 ∷ 0 ∷ 5 ∷ 0 ∷ 10 ∷ 255 ∷ 0 ∷ 5 ∷ 1 ∷ 7 ∷ 255 ∷ 0 ∷ 9 ∷ 0 ∷ 18 ∷ 255 ∷ 0
     ∷ 1 ∷ 0 ∷ 1 ∷ 0 ∷ 6 ∷ 255 ∷ 0 ∷ 2 ∷ 1 ∷ 11 ∷ 255 ∷ 0 ∷ 8 ∷ 0 ∷ 10 ∷ 255 ∷ 0 ∷ 7 ∷ [])

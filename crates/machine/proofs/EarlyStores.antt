@@ -21,7 +21,7 @@ use Rattle.machine.specs.Early.{momentAfter, updates, stateEarly, status
 use Rattle.machine.specs.inner.Accepted.{GoodCode}
 use Rattle.machine.proofs.Lines.{parse-good}
 use Rattle.machine.proofs.Literal.{sent-least}
-use Rattle.machine.proofs.Updates.{Made, made-proper, IsMade, Kept, update-kept, last-same, last-other, columns-made}
+use Rattle.machine.proofs.Updates.{Made, made-proper, IsMade, GoodUpdates, update-kept, last-same, last-other, columns-made}
 use Rattle.machine.proofs.Lent.{length-held, held-part}
 use Rattle.machine.proofs.Buffers.{admits}
 use Rattle.machine.proofs.Early.{true-false, moment-suc, moment-start}
@@ -33,7 +33,7 @@ module _ (C : Code) (G : GoodCode C) (f : List ℕ) where
   pub update-small : (u : ℕ) → u % M < M
   update-small u = mod-lt u (G .checks-low)
 
-  pub moment-kept : (u : ℕ) → Kept C (momentAfter C f u)
+  pub moment-kept : (u : ℕ) → GoodUpdates C (momentAfter C f u)
   moment-kept zero = rw (moment-start C f) (record { full = length-replicate M none; fine = λ m h. rw (getD-replicate M m none none h) tt })
   moment-kept (suc u) = rw (moment-suc C f u) (update-kept C G (momentAfter C f u) (moment-kept u) (u % M) (update-small u))
 

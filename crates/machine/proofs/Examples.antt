@@ -45,11 +45,11 @@ abbrev call : List ℕ → After
 call f = decoding line f (lending (replicate 4 7) (replicate 13 7) (replicate 19 7) (replicate 4 7))
 
 -- the reply and the four buffers
-abbrev pub Gives : After → Reply → List ℕ → List ℕ → List ℕ → List ℕ → Type 0
-Gives o r y c s v = (o .reply ≡ r) × ((o .buffers .symbols ≡ y) × ((o .buffers .costs ≡ c) × ((o .buffers .store ≡ s) × (o .buffers .margins ≡ v))))
+abbrev pub CallGives : After → Reply → List ℕ → List ℕ → List ℕ → List ℕ → Type 0
+CallGives o r y c s v = (o .reply ≡ r) × ((o .buffers .symbols ≡ y) × ((o .buffers .costs ≡ c) × ((o .buffers .store ≡ s) × (o .buffers .margins ≡ v))))
 
 -- found after one iteration: symbols 1, 1, 0, the costs, the record, margins 1, 1, 1; the last element of each buffer as it was
-pub example-1 : Gives (call frame-1) (foundIn 1) (1 ∷ 1 ∷ 0 ∷ 7 ∷ [])
+pub example-1 : CallGives (call frame-1) (foundIn 1) (1 ∷ 1 ∷ 0 ∷ 7 ∷ [])
     (1 ∷ 0 ∷ 7 ∷ 6 ∷ 1 ∷ 0 ∷ 11 ∷ 1 ∷ 0 ∷ 2 ∷ 1 ∷ 13 ∷ 7 ∷ [])
     (0 ∷ 1 ∷ 1 ∷ 4 ∷ 1 ∷ 5 ∷ 255 ∷ 0 ∷ 2 ∷ 2 ∷ 7 ∷ 255 ∷ 0 ∷ 3 ∷ 1 ∷ 7 ∷ 255 ∷ 0 ∷ 7 ∷ [])
     (1 ∷ 1 ∷ 1 ∷ 7 ∷ [])
@@ -57,7 +57,7 @@ unfolding decoding admitted parse firstOk checks checkAt edges readEdge frameFau
 example-1 = (refl, (refl, (refl, (refl, refl))))
 
 -- found at t = 0: the store is untouched, the margins are the frame's
-pub example-0 : Gives (call frame-0) (foundIn 0) (0 ∷ 0 ∷ 0 ∷ 7 ∷ []) (frame-0 ++ (7 ∷ [])) (replicate 19 7) (5 ∷ 3 ∷ 2 ∷ 7 ∷ [])
+pub example-0 : CallGives (call frame-0) (foundIn 0) (0 ∷ 0 ∷ 0 ∷ 7 ∷ []) (frame-0 ++ (7 ∷ [])) (replicate 19 7) (5 ∷ 3 ∷ 2 ∷ 7 ∷ [])
 unfolding decoding admitted parse firstOk checks checkAt edges readEdge frameFault place records run go iteration update spread arriving outgoing incoming message settled symbols margins marginOf sent leastCost choices xor recordOf shifts group above extra sentAt shift decided
 example-0 = (refl, (refl, (refl, (refl, refl))))
 
@@ -110,21 +110,21 @@ abbrev frame-5 : List ℕ
 frame-5 = 255 ∷ 0 ∷ 255 ∷ 4 ∷ 255 ∷ 0 ∷ 2 ∷ 9 ∷ 6 ∷ 255 ∷ 0 ∷ 255 ∷ 255 ∷ 0 ∷ 29 ∷ 21 ∷ []
 
 -- status, t, P, the decisions, the records
-pub record Ends (C : Code) (f : List ℕ) (o : Status) (t : ℕ) (P z rs : List ℕ) : Type 0 where
+pub record RunEnds (C : Code) (f : List ℕ) (o : Status) (t : ℕ) (P z rs : List ℕ) : Type 0 where
   pub status : run C f .status ≡ o
   pub iterations : run C f .end .t ≡ t
   pub costs : run C f .end .costs ≡ P
   pub decisions : symbols C (run C f .end .costs) ≡ z
   pub store : records C (run C f .end) ≡ rs
 
-pub one-iteration : Ends (code-2 1) frame-5 notFound 1
+pub one-iteration : RunEnds (code-2 1) frame-5 notFound 1
     (256 ∷ 0 ∷ 258 ∷ 9 ∷ 242 ∷ 0 ∷ 13 ∷ 4 ∷ 3 ∷ 242 ∷ 0 ∷ 247 ∷ 249 ∷ 0 ∷ 21 ∷ 8 ∷ [])
     (1 ∷ 1 ∷ 2 ∷ 1 ∷ [])
     (1 ∷ 2 ∷ 3 ∷ 2 ∷ 1 ∷ 10 ∷ 255 ∷ 0 ∷ 4 ∷ 0 ∷ 8 ∷ 255 ∷ 0 ∷ 6 ∷ 255 ∷ 0 ∷ 255 ∷ 0 ∷ 0 ∷ 2 ∷ 2 ∷ 21 ∷ 255 ∷ 0 ∷ 255 ∷ 0 ∷ 12 ∷ 0 ∷ 29 ∷ 255 ∷ 0 ∷ 8 ∷ 0 ∷ 9 ∷ 255 ∷ 0 ∷ [])
 unfolding run go iteration update spread arriving outgoing incoming message settled symbols records sent leastCost choices xor recordOf shifts group above extra sentAt shift decided
 one-iteration = record { status = refl; iterations = refl; costs = refl; decisions = refl; store = refl }
 
-pub two-iterations : Ends (code-2 2) frame-5 found 2
+pub two-iterations : RunEnds (code-2 2) frame-5 found 2
     (259 ∷ 0 ∷ 255 ∷ 8 ∷ 243 ∷ 1 ∷ 8 ∷ 0 ∷ 0 ∷ 244 ∷ 2 ∷ 246 ∷ 251 ∷ 0 ∷ 22 ∷ 12 ∷ [])
     (1 ∷ 3 ∷ 0 ∷ 1 ∷ [])
     (2 ∷ 1 ∷ 3 ∷ 4 ∷ 0 ∷ 7 ∷ 2 ∷ 5 ∷ 4 ∷ 0 ∷ 7 ∷ 255 ∷ 0 ∷ 0 ∷ 2 ∷ 1 ∷ 255 ∷ 0 ∷ 0 ∷ 2 ∷ 2 ∷ 15 ∷ 0 ∷ 21 ∷ 1 ∷ 21 ∷ 9 ∷ 0 ∷ 27 ∷ 255 ∷ 0 ∷ 4 ∷ 0 ∷ 6 ∷ 255 ∷ 0 ∷ [])
@@ -139,7 +139,7 @@ code-3 = record { first = 2; columns = 5; scale = 16; limit = 2; checks = (edge 
 abbrev pub frame-6 : List ℕ
 frame-6 = 0 ∷ 255 ∷ 255 ∷ 255 ∷ 0 ∷ 255 ∷ 255 ∷ 255 ∷ 9 ∷ 0 ∷ 0 ∷ 9 ∷ 0 ∷ 255 ∷ 255 ∷ 255 ∷ 255 ∷ 0 ∷ 255 ∷ 255 ∷ []
 
-pub whole-offset : Ends code-3 frame-6 found 2
+pub whole-offset : RunEnds code-3 frame-6 found 2
     (0 ∷ 0 ∷ 255 ∷ 255 ∷ 0 ∷ 0 ∷ 255 ∷ 255 ∷ 0 ∷ 0 ∷ 255 ∷ 255 ∷ 0 ∷ 0 ∷ 255 ∷ 255 ∷ 0 ∷ 0 ∷ 255 ∷ 255 ∷ [])
     (0 ∷ 0 ∷ 0 ∷ 0 ∷ 0 ∷ [])
     (1 ∷ 1 ∷ 0 ∷ 255 ∷ 255 ∷ 0 ∷ 255 ∷ 0 ∷ 255 ∷ 255 ∷ 0 ∷ 255 ∷ 0 ∷ 255 ∷ 255 ∷ 0 ∷ 255 ∷ 0 ∷ 1 ∷ 1 ∷ 0 ∷ 255 ∷ 255 ∷ 0 ∷ 255 ∷ 0 ∷ 255 ∷ 255 ∷ 0 ∷ 255 ∷ 0 ∷ 255 ∷ 255 ∷ 0 ∷ 255 ∷ 0 ∷ [])
@@ -150,7 +150,7 @@ whole-offset = record { status = refl; iterations = refl; costs = refl; decision
 abbrev code-4 : Code
 code-4 = record { first = 2; columns = 3; scale = 16; limit = 2; checks = (edge 0 1 ∷ edge 1 1 ∷ []) ∷ (edge 1 1 ∷ edge 2 3 ∷ []) ∷ [] }
 
-pub two-columns : Ends code-4 (0 ∷ 5 ∷ 7 ∷ 9 ∷ 4 ∷ 0 ∷ 8 ∷ 3 ∷ 6 ∷ 2 ∷ 0 ∷ 10 ∷ []) found 2
+pub two-columns : RunEnds code-4 (0 ∷ 5 ∷ 7 ∷ 9 ∷ 4 ∷ 0 ∷ 8 ∷ 3 ∷ 6 ∷ 2 ∷ 0 ∷ 10 ∷ []) found 2
     (5 ∷ 0 ∷ 20 ∷ 9 ∷ 5 ∷ 0 ∷ 20 ∷ 9 ∷ 5 ∷ 9 ∷ 0 ∷ 20 ∷ [])
     (1 ∷ 1 ∷ 2 ∷ [])
     (1 ∷ 0 ∷ 5 ∷ 0 ∷ 10 ∷ 255 ∷ 0 ∷ 5 ∷ 1 ∷ 7 ∷ 255 ∷ 0 ∷ 9 ∷ 0 ∷ 18 ∷ 255 ∷ 0 ∷ 1 ∷ 0 ∷ 1 ∷ 0 ∷ 6 ∷ 255 ∷ 0 ∷ 2 ∷ 1 ∷ 11 ∷ 255 ∷ 0 ∷ 8 ∷ 0 ∷ 10 ∷ 255 ∷ 0 ∷ [])
@@ -165,28 +165,28 @@ abbrev call-2 : After
 call-2 =
     decoding line-2 (0 ∷ 5 ∷ 7 ∷ 9 ∷ 4 ∷ 0 ∷ 8 ∷ 3 ∷ []) (lending (replicate 3 7) (replicate 9 7) (replicate 18 7) (replicate 3 7))
 
-pub least-code : Gives call-2 (foundIn 1) (0 ∷ 0 ∷ 7 ∷ []) (0 ∷ 1 ∷ 11 ∷ 8 ∷ 0 ∷ 1 ∷ 11 ∷ 8 ∷ 7 ∷ [])
+pub least-code : CallGives call-2 (foundIn 1) (0 ∷ 0 ∷ 7 ∷ []) (0 ∷ 1 ∷ 11 ∷ 8 ∷ 0 ∷ 1 ∷ 11 ∷ 8 ∷ 7 ∷ [])
     (1 ∷ 0 ∷ 4 ∷ 1 ∷ 5 ∷ 255 ∷ 0 ∷ 3 ∷ 1 ∷ 7 ∷ 255 ∷ 0 ∷ 8 ∷ 1 ∷ 9 ∷ 255 ∷ 0 ∷ 7 ∷ [])
     (1 ∷ 1 ∷ 7 ∷ [])
 unfolding decoding admitted parse firstOk checks checkAt edges readEdge frameFault place records run go iteration update spread arriving outgoing incoming message settled symbols margins marginOf sent leastCost choices xor recordOf shifts group above extra sentAt shift decided
 least-code = (refl, (refl, (refl, (refl, refl))))
 
 -- refusals, in their order
-pub record Case : Type 0 where
+pub record RefusalCase : Type 0 where
   pub code-bytes : List ℕ
   pub frame-bytes : List ℕ
   pub room : ℕ × (ℕ × (ℕ × ℕ))
   pub gives : ℕ
 
-abbrev answerTo : Case → ℕ
+abbrev answerTo : RefusalCase → ℕ
 answerTo c =
     decoding (c .code-bytes) (c .frame-bytes)
     (lending (replicate (c .room .0) 7) (replicate (c .room .1 .0) 7) (replicate (c .room .1 .1 .0) 7) (replicate (c .room .1 .1 .1) 7)) .reply .number
 
-abbrev case : List ℕ → List ℕ → ℕ → ℕ → ℕ → ℕ → ℕ → Case
+abbrev case : List ℕ → List ℕ → ℕ → ℕ → ℕ → ℕ → ℕ → RefusalCase
 case l f a b c d r = record { code-bytes = l; frame-bytes = f; room = (a, (b, (c, d))); gives = r }
 
-abbrev table : List Case
+abbrev table : List RefusalCase
 table =
     case [] [] 0 0 0 0 5 ∷
     case (1 ∷ 0 ∷ 0 ∷ 0 ∷ 0 ∷ []) [] 0 0 0 0 5 ∷

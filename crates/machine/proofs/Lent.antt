@@ -23,7 +23,7 @@ use Rattle.trellis.proofs.Records.{expand-record}
 use Rattle.trellis.proofs.Form.{record-length}
 use Rattle.trellis.proofs.Loops.{length-blocks, blocks-ext}
 use Rattle.machine.specs.inner.Accepted.{GoodCheck, GoodCode}
-use Rattle.machine.proofs.Updates.{Made, made-proper, arriving-made, Fine, IsMade, Kept, MadeTo, updates-kept, last-same, last-other, iteration-kept}
+use Rattle.machine.proofs.Updates.{Made, made-proper, arriving-made, Fine, IsMade, GoodUpdates, MadeTo, updates-kept, last-same, last-other, iteration-kept}
 
 -- blocks: one of them, and one of them replaced
 blocks-split : (f : ℕ → List ℕ) (n : ℕ) (r : List ℕ) (m : ℕ) → m < n → (t : List ℕ) × (blocks f n ++ r ≡ blocks f m ++ (f m ++ t))
@@ -90,7 +90,7 @@ module _ (C : Code) (G : GoodCode C) (s₀ : List ℕ) (room : used C ≤ length
   length-piece m h (made cs) f =
       record-length (rule C) cs (made-proper C G (check C m) (G .each-check m h) cs f) ∙ ap (recordLength (rule C)) (f .count)
 
-  module _ (s : State) (K : Kept C s) where
+  module _ (s : State) (K : GoodUpdates C s) where
     length-front : (m : ℕ) → m ≤ length (C .checks) → length (blocks (λ m. pieceOf C s₀ m (lastOf s m)) m) ≡ place C m
     unfolding place
     length-front m h = length-blocks (λ m. pieceOf C s₀ m (lastOf s m)) (len C) m (λ k i. length-piece k (omega arith) (lastOf s k) (K .fine k (omega arith)))
@@ -132,7 +132,7 @@ module _ (C : Code) (G : GoodCode C) (s₀ : List ℕ) (room : used C ≤ length
   message-lent es H false m none f w n h = absurd w
   message-lent es H false m (made cs) f w n h = message-made es H cs f n h
 
-  pub update-stands : (start : Bool) (s : State) → Kept C s → (m : ℕ) → m < length (C .checks) → When C start (lastOf s m)
+  pub update-stands : (start : Bool) (s : State) → GoodUpdates C s → (m : ℕ) → m < length (C .checks) → When C start (lastOf s m)
       → updateLent C start m (lentOf C s₀ s) ≡ lentOf C s₀ (update C m s)
   unfolding updateLent costsLent recordLent update
   update-stands start s K m h w =
@@ -159,19 +159,19 @@ module _ (C : Code) (G : GoodCode C) (s₀ : List ℕ) (room : used C ≤ length
           (arriving-ext (size C) es _ _ (s .costs) (message-lent es H start m (lastOf s m) (K .fine m h) w))
 
   -- the checks from k on are as they were
-  pub untouched : (s : State) → Kept C s → (k : ℕ) → k ≤ length (C .checks) → (j : ℕ) → k ≤ j → lastOf (upto (update C) k s) j ≡ lastOf s j
+  pub untouched : (s : State) → GoodUpdates C s → (k : ℕ) → k ≤ length (C .checks) → (j : ℕ) → k ≤ j → lastOf (upto (update C) k s) j ≡ lastOf s j
   untouched s K zero h j i = refl
   untouched s K (suc k) h j i =
       last-other C G (upto (update C) k s) (updates-kept C G s K k (omega arith) .0) k h j (omega arith) ∙ untouched s K k (omega arith) j (omega arith)
 
-  pub updates-stand : (start : Bool) (s : State) → Kept C s → ((m : ℕ) → m < length (C .checks) → When C start (lastOf s m)) → (k : ℕ) → k ≤ length (C .checks)
+  pub updates-stand : (start : Bool) (s : State) → GoodUpdates C s → ((m : ℕ) → m < length (C .checks) → When C start (lastOf s m)) → (k : ℕ) → k ≤ length (C .checks)
       → upto (updateLent C start) k (lentOf C s₀ s) ≡ lentOf C s₀ (upto (update C) k s)
   updates-stand start s K w zero h = refl
   updates-stand start s K w (suc k) h =
       ap (updateLent C start k) (updates-stand start s K w k (omega arith))
       ∙ update-stands start (upto (update C) k s) (updates-kept C G s K k (omega arith) .0) k h (rw (untouched s K k (omega arith) k (omega arith)) (w k h))
 
-  pub iteration-stands : (start : Bool) (s : State) → Kept C s → ((m : ℕ) → m < length (C .checks) → When C start (lastOf s m))
+  pub iteration-stands : (start : Bool) (s : State) → GoodUpdates C s → ((m : ℕ) → m < length (C .checks) → When C start (lastOf s m))
       → iterationLent C start (lentOf C s₀ s) ≡ lentOf C s₀ (iteration C s)
   unfolding iterationLent iteration held
   iteration-stands start s K w = updates-stand start (record { costs = s .costs; last = s .last; t = s .t + 1 }) (record { full = K .full; fine = K .fine }) w (length (C .checks)) (omega arith)
@@ -186,7 +186,7 @@ module _ (C : Code) (G : GoodCode C) (s₀ : List ℕ) (room : used C ≤ length
 
   -- a state of a run, with the records that its t says
   pub record Ready (s : State) : Type 0 where
-    pub kept : Kept C s
+    pub kept : GoodUpdates C s
     pub when : (m : ℕ) → m < length (C .checks) → When C (eqb (s .t) 0) (lastOf s m)
 
   pub iteration-ready : (s : State) → Ready s → Ready (iteration C s)

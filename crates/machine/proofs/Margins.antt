@@ -14,7 +14,7 @@ use Rattle.trellis.proofs.Margins.{margin-least, margin-attained, margin-tie, m
 use Rattle.machine.specs.CodeLine.{Code, size, columnOf}
 use Rattle.machine.specs.Machine.{run, symbols, margins}
 use Rattle.machine.specs.Decoding.{Buffers}
-use Rattle.machine.specs.Margins.{symbolIn, marginIn, costIn, Margin, Margins}
+use Rattle.machine.specs.Margins.{symbolIn, marginIn, bufferCost, Margin, Margins}
 use Rattle.machine.proofs.Lists.{at-upTo}
 use Rattle.machine.specs.inner.Accepted.{GoodCode}
 use Rattle.machine.proofs.Lines.{parse-good}
@@ -59,7 +59,7 @@ module _ (C : Code) (G : GoodCode C) (P : List ℕ) (R : Ranged C P) (o : Buffer
       let n : length (margins C P) ≡ C .columns = length-map (upTo (C .columns)) _ ∙ length-count 0 (C .columns) in
       ap (λ z. getD z c 0) em ∙ List·getD-append (margins C P) m 0 c (omega (arith, n)) ∙ at-upTo _ (C .columns) c 0 h
 
-  cost-at : (x : ℕ) → x < q → costIn q o c x ≡ getD l x 0
+  cost-at : (x : ℕ) → x < q → bufferCost q o c x ≡ getD l x 0
   cost-at x k =
       ap (λ z. getD z (c * q + x) 0) ep ∙ List·getD-append P p 0 (c * q + x) (omega (arith, room))
       ∙ sym (getD-take q (drop (c * q) P) x 0 k ∙ getD-drop (c * q) P x 0)

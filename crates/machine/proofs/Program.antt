@@ -25,7 +25,7 @@ use Rattle.machine.specs.Decoding.{outcome}
 use Rattle.machine.proofs.Lines.{parse-good}
 use Rattle.machine.proofs.Ranges.{frame-fits}
 use Rattle.machine.specs.Program.{lastLine, linesAfter, refusedLine, readCode, afterCode, linesOutput, outputOf}
-use Rattle.machine.specs.inner.Blocks.{Session, first, later, ended, fresh, longer, fedByte, codeKept, codeOut, finished, finishedOut, fed, fedOut, closeOut, fedAll, fedAllOut, allBlocks}
+use Rattle.machine.specs.inner.Blocks.{Session, first, later, ended, fresh, longer, fedByte, codeKept, codeOut, lineFinished, lineFinishedOut, fed, fedOut, closeOut, fedAll, fedAllOut, allBlocks}
 
 take-more : (n : ℕ) (l m : List ℕ) → take n (take n l ++ m) ≡ take n (l ++ m)
 take-more zero l m = refl
@@ -51,32 +51,32 @@ cut-line l =
     ]
 
 -- what is kept, of what came
-abbrev pub cut : Session → Session
-cut (first l) = first (take 32769 l)
-cut (later code l) = later code (take 32769 l)
-cut ended = ended
+abbrev pub cutSession : Session → Session
+cutSession (first l) = first (take 32769 l)
+cutSession (later code l) = later code (take 32769 l)
+cutSession ended = ended
 
 -- all that came
-abbrev pub put : Session → ℕ → Session
-put (first l) b = first (l ++ (b ∷ []))
-put (later code l) b = later code (l ++ (b ∷ []))
-put ended b = ended
+abbrev pub putByte : Session → ℕ → Session
+putByte (first l) b = first (l ++ (b ∷ []))
+putByte (later code l) b = later code (l ++ (b ∷ []))
+putByte ended b = ended
 
-put-cut : (k : Session) (b : ℕ) → fedByte (cut k) b ≡ cut (put k b)
+put-cut : (k : Session) (b : ℕ) → fedByte (cutSession k) b ≡ cutSession (putByte k b)
 put-cut (first l) b = ap {B = Session} (λ r. first r) (take-more 32769 l (b ∷ []))
 put-cut (later code l) b = ap {B = Session} (λ r. later code r) (take-more 32769 l (b ∷ []))
 put-cut ended b = refl
 
-finished-cut : (k : Session) → finished (cut k) ≡ finished k
-unfolding finished
+finished-cut : (k : Session) → lineFinished (cutSession k) ≡ lineFinished k
+unfolding lineFinished
 finished-cut (first l) =
     ⊎-elim (λ (e : take 32769 l ≡ l). rw e refl)
     (λ (h : Long (take 32769 l) × Long l). rw (h .0 .code-line, h .1 .code-line) refl) (cut-line l)
 finished-cut (later code l) = refl
 finished-cut ended = refl
 
-finishedOut-cut : (k : Session) → finishedOut (cut k) ≡ finishedOut k
-unfolding finishedOut
+finishedOut-cut : (k : Session) → lineFinishedOut (cutSession k) ≡ lineFinishedOut k
+unfolding lineFinishedOut
 finishedOut-cut (first l) =
     ⊎-elim (λ (e : take 32769 l ≡ l). rw e refl)
     (λ (h : Long (take 32769 l) × Long l). rw (h .0 .code-line, h .1 .code-line) refl) (cut-line l)
@@ -85,11 +85,11 @@ finishedOut-cut (later code l) =
     (λ (h : Long (take 32769 l) × Long l). h .0 .frame-line code ∙ sym (h .1 .frame-line code)) (cut-line l)
 finishedOut-cut ended = refl
 
-finished-short : (k : Session) → cut (finished k) ≡ finished k
-unfolding finished
+finished-short : (k : Session) → cutSession (lineFinished k) ≡ lineFinished k
+unfolding lineFinished
 finished-short (first l) = go (readCode l)
   where
-    go : (r : Read Code) → cut (codeKept r (lineBytes l)) ≡ codeKept r (lineBytes l)
+    go : (r : Read Code) → cutSession (codeKept r (lineBytes l)) ≡ codeKept r (lineBytes l)
     go (good C) = refl
     go (bad n) = refl
 finished-short (later code l) = refl
@@ -106,8 +106,8 @@ printedFor (first l) ls = linesOutput ls
 printedFor (later code l) ls = each (frameLine code) ls
 printedFor ended ls = []
 
-at-turn : (k : Session) (s : List ℕ) → printedFor k (lineOf k ∷ linesAfter [] s) ≡ finishedOut k ++ printedFor (finished k) (linesAfter (lineOf (finished k)) s)
-unfolding finished finishedOut
+at-turn : (k : Session) (s : List ℕ) → printedFor k (lineOf k ∷ linesAfter [] s) ≡ lineFinishedOut k ++ printedFor (lineFinished k) (linesAfter (lineOf (lineFinished k)) s)
+unfolding lineFinished lineFinishedOut
 at-turn (first l) s = go (readCode l)
   where
     go : (r : Read Code) → afterCode r (lineBytes l) (linesAfter [] s) ≡ codeOut r ++ printedFor (codeKept r (lineBytes l)) (linesAfter (lineOf (codeKept r (lineBytes l))) s)
@@ -116,7 +116,7 @@ at-turn (first l) s = go (readCode l)
 at-turn (later code l) s = refl
 at-turn ended s = refl
 
-at-put : (k : Session) (b : ℕ) (s : List ℕ) → printedFor k (linesAfter (lineOf k ++ (b ∷ [])) s) ≡ printedFor (put k b) (linesAfter (lineOf (put k b)) s)
+at-put : (k : Session) (b : ℕ) (s : List ℕ) → printedFor k (linesAfter (lineOf k ++ (b ∷ [])) s) ≡ printedFor (putByte k b) (linesAfter (lineOf (putByte k b)) s)
 at-put (first l) b s = refl
 at-put (later code l) b s = refl
 at-put ended b s = refl
@@ -125,8 +125,8 @@ empty-code : readCode [] ≡ bad 5
 unfolding readCode lineOk lineBytes parse
 empty-code = refl
 
-at-close : (k : Session) → closeOut (cut k) ≡ printedFor k (lastLine (lineOf k))
-unfolding closeOut finishedOut
+at-close : (k : Session) → closeOut (cutSession k) ≡ printedFor k (lastLine (lineOf k))
+unfolding closeOut lineFinishedOut
 at-close (first []) = rw empty-code refl
 at-close (first (b ∷ l)) = go (readCode (take 32769 (b ∷ l))) (readCode (b ∷ l)) (finishedOut-cut (first (b ∷ l)))
   where
@@ -138,32 +138,32 @@ at-close (later code (b ∷ l)) = rw (finishedOut-cut (later code (b ∷ l))) re
 at-close ended = refl
 
 -- what is kept gives the same output as all that came
-all-said : (k : Session) (s : List ℕ) → fedOut (cut k) s ++ closeOut (fed (cut k) s) ≡ printedFor k (linesAfter (lineOf k) s)
+all-said : (k : Session) (s : List ℕ) → fedOut (cutSession k) s ++ closeOut (fed (cutSession k) s) ≡ printedFor k (linesAfter (lineOf k) s)
 unfolding fed fedOut linesAfter
 all-said k [] = at-close k
-all-said k (b ∷ s) = go (eqb b 0x0A) (all-said (finished k) s) (all-said (put k b) s)
+all-said k (b ∷ s) = go (eqb b 0x0A) (all-said (lineFinished k) s) (all-said (putByte k b) s)
   where
-    go : (t : Bool) → fedOut (cut (finished k)) s ++ closeOut (fed (cut (finished k)) s) ≡ printedFor (finished k) (linesAfter (lineOf (finished k)) s)
-        → fedOut (cut (put k b)) s ++ closeOut (fed (cut (put k b)) s) ≡ printedFor (put k b) (linesAfter (lineOf (put k b)) s)
-        → pick t (finishedOut (cut k) ++ fedOut (finished (cut k)) s) (fedOut (fedByte (cut k) b) s) ++ closeOut (pick t (fed (finished (cut k)) s) (fed (fedByte (cut k) b) s))
+    go : (t : Bool) → fedOut (cutSession (lineFinished k)) s ++ closeOut (fed (cutSession (lineFinished k)) s) ≡ printedFor (lineFinished k) (linesAfter (lineOf (lineFinished k)) s)
+        → fedOut (cutSession (putByte k b)) s ++ closeOut (fed (cutSession (putByte k b)) s) ≡ printedFor (putByte k b) (linesAfter (lineOf (putByte k b)) s)
+        → pick t (lineFinishedOut (cutSession k) ++ fedOut (lineFinished (cutSession k)) s) (fedOut (fedByte (cutSession k) b) s) ++ closeOut (pick t (fed (lineFinished (cutSession k)) s) (fed (fedByte (cutSession k) b) s))
         ≡ printedFor k (pick t (lineOf k ∷ linesAfter [] s) (linesAfter (lineOf k ++ (b ∷ [])) s))
     go true h i =
-        let e : finished (cut k) ≡ cut (finished k) = finished-cut k ∙ sym (finished-short k) in
+        let e : lineFinished (cutSession k) ≡ cutSession (lineFinished k) = finished-cut k ∙ sym (finished-short k) in
         rw (finishedOut-cut k, e)
-        (append-assoc (finishedOut k) (fedOut (cut (finished k)) s) (closeOut (fed (cut (finished k)) s)) ∙ ap (λ r. finishedOut k ++ r) h ∙ sym (at-turn k s))
+        (append-assoc (lineFinishedOut k) (fedOut (cutSession (lineFinished k)) s) (closeOut (fed (cutSession (lineFinished k)) s)) ∙ ap (λ r. lineFinishedOut k ++ r) h ∙ sym (at-turn k s))
     go false h i = rw (put-cut k b) (i ∙ sym (at-put k b s))
 
 -- blocks end to end are one block
 pub fed-more : (k : Session) (s t : List ℕ) → (fed k (s ++ t) ≡ fed (fed k s) t) × (fedOut k (s ++ t) ≡ fedOut k s ++ fedOut (fed k s) t)
 unfolding fed fedOut
 fed-more k [] t = (refl, refl)
-fed-more k (b ∷ s) t = go (eqb b 0x0A) (fed-more (finished k) s t) (fed-more (fedByte k b) s t)
+fed-more k (b ∷ s) t = go (eqb b 0x0A) (fed-more (lineFinished k) s t) (fed-more (fedByte k b) s t)
   where
-    go : (c : Bool) → (fed (finished k) (s ++ t) ≡ fed (fed (finished k) s) t) × (fedOut (finished k) (s ++ t) ≡ fedOut (finished k) s ++ fedOut (fed (finished k) s) t)
+    go : (c : Bool) → (fed (lineFinished k) (s ++ t) ≡ fed (fed (lineFinished k) s) t) × (fedOut (lineFinished k) (s ++ t) ≡ fedOut (lineFinished k) s ++ fedOut (fed (lineFinished k) s) t)
         → (fed (fedByte k b) (s ++ t) ≡ fed (fed (fedByte k b) s) t) × (fedOut (fedByte k b) (s ++ t) ≡ fedOut (fedByte k b) s ++ fedOut (fed (fedByte k b) s) t)
-        → (pick c (fed (finished k) (s ++ t)) (fed (fedByte k b) (s ++ t)) ≡ fed (pick c (fed (finished k) s) (fed (fedByte k b) s)) t)
-        × (pick c (finishedOut k ++ fedOut (finished k) (s ++ t)) (fedOut (fedByte k b) (s ++ t)) ≡ pick c (finishedOut k ++ fedOut (finished k) s) (fedOut (fedByte k b) s) ++ fedOut (pick c (fed (finished k) s) (fed (fedByte k b) s)) t)
-    go true h i = (h .0, ap (λ r. finishedOut k ++ r) (h .1) ∙ sym (append-assoc (finishedOut k) (fedOut (finished k) s) (fedOut (fed (finished k) s) t)))
+        → (pick c (fed (lineFinished k) (s ++ t)) (fed (fedByte k b) (s ++ t)) ≡ fed (pick c (fed (lineFinished k) s) (fed (fedByte k b) s)) t)
+        × (pick c (lineFinishedOut k ++ fedOut (lineFinished k) (s ++ t)) (fedOut (fedByte k b) (s ++ t)) ≡ pick c (lineFinishedOut k ++ fedOut (lineFinished k) s) (fedOut (fedByte k b) s) ++ fedOut (pick c (fed (lineFinished k) s) (fed (fedByte k b) s)) t)
+    go true h i = (h .0, ap (λ r. lineFinishedOut k ++ r) (h .1) ∙ sym (append-assoc (lineFinishedOut k) (fedOut (lineFinished k) s) (fedOut (fed (lineFinished k) s) t)))
     go false h i = i
 
 all-fed : (k : Session) (bs : List (List ℕ)) → (fedAll k bs ≡ fed k (allBlocks bs)) × (fedAllOut k bs ≡ fedOut k (allBlocks bs))
@@ -183,7 +183,7 @@ blocks-output input bs e =
 
 -- once it has ended, no block prints: the program may stop reading
 pub ended-silent : (s : List ℕ) → (fed ended s ≡ ended) × (fedOut ended s ≡ []) × (closeOut ended ≡ [])
-unfolding fed fedOut finished finishedOut closeOut
+unfolding fed fedOut lineFinished lineFinishedOut closeOut
 ended-silent [] = (refl, refl, refl)
 ended-silent (b ∷ s) = go (eqb b 0x0A) (ended-silent s)
   where
@@ -202,15 +202,15 @@ unfolding printed
 length-printed s = simp (length-append, length-digits (pick (s .reply .refused) [] (s .symbols))) (omega arith)
 
 -- a printed line has at most 517 bytes, and at most five for each byte of its line and the 0A
-pub record Short (text out : List ℕ) : Type 0 where
+pub record ShortLine (text out : List ℕ) : Type 0 where
   pub few : length out ≤ 517
   pub fewer : length out ≤ 5 * (length text + 1)
 
-five-short : (t : List ℕ) (k : ℕ) → Short t (refusedLine k)
+five-short : (t : List ℕ) (k : ℕ) → ShortLine t (refusedLine k)
 five-short t k = let h = length-printed (said (refusal k) []) in record { few = omega arith; fewer = omega arith }
 
 decided-short : (code t : List ℕ) (C : Code) → parse code ≡ good C → frameFault C (lineBytes t) ≡ 0 → (r : Reply) → r .refused ≡ false
-    → Short t (printed (said r (symbols C (run C (lineBytes t) .end .costs))))
+    → ShortLine t (printed (said r (symbols C (run C (lineBytes t) .end .costs))))
 unfolding symbols lineBytes
 decided-short code t C e f r h =
     let y : List ℕ = symbols C (run C (lineBytes t) .end .costs) in
@@ -221,7 +221,7 @@ decided-short code t C e f r h =
     let a : length (printed (said r y)) ≡ C .columns * 2 + 5 = length-printed (said r y) ∙ rw (h, n) refl in
     record { few = omega (arith, a, g .columns-high); fewer = omega (arith, a, i, q) }
 
-pub frame-short : (code t : List ℕ) → Short t (frameLine code t)
+pub frame-short : (code t : List ℕ) → ShortLine t (frameLine code t)
 unfolding frameLine frameSaid
 frame-short code t = go (ltb 32768 (length t)) (lineOk t) (ltb 16384 (length t / 2))
   where
@@ -230,29 +230,29 @@ frame-short code t = go (ltb 32768 (length t)) (lineOk t) (ltb 16384 (length t /
     not-refused notFound n = refl
 
     under : (C : Code) → parse code ≡ good C → (b : Bool) → eqb (frameFault C (lineBytes t)) 0 ≡ b
-        → Short t (printed (pick b (said (outcome (run C (lineBytes t) .status) (run C (lineBytes t) .end .t)) (symbols C (run C (lineBytes t) .end .costs))) (said (refusal (frameFault C (lineBytes t))) [])))
+        → ShortLine t (printed (pick b (said (outcome (run C (lineBytes t) .status) (run C (lineBytes t) .end .t)) (symbols C (run C (lineBytes t) .end .costs))) (said (refusal (frameFault C (lineBytes t))) [])))
     under C e true h = decided-short code t C e (eqb-true _ _ h) _ (not-refused (run C (lineBytes t) .status) (run C (lineBytes t) .end .t))
     under C e false h = five-short t (frameFault C (lineBytes t))
 
-    frame : (r : Read Code) → parse code ≡ r → Short t (printed (ofFrame r (lineBytes t)))
+    frame : (r : Read Code) → parse code ≡ r → ShortLine t (printed (ofFrame r (lineBytes t)))
     frame (bad k) e = five-short t k
     frame (good C) e = under C e (eqb (frameFault C (lineBytes t)) 0) refl
 
-    go : (a b c : Bool) → Short t (printed (pick a (said (refusal 15) []) (pick b (pick c (said (refusal 2) []) (ofFrame (parse code) (lineBytes t))) (said (refusal 14) []))))
+    go : (a b c : Bool) → ShortLine t (printed (pick a (said (refusal 15) []) (pick b (pick c (said (refusal 2) []) (ofFrame (parse code) (lineBytes t))) (said (refusal 14) []))))
     go true b c = five-short t 15
     go false true true = five-short t 2
     go false true false = frame (parse code) refl
     go false false c = five-short t 14
 
-code-short : (t : List ℕ) → Short t (codeOut (readCode t))
+code-short : (t : List ℕ) → ShortLine t (codeOut (readCode t))
 code-short t = go (readCode t)
   where
-    go : (r : Read Code) → Short t (codeOut r)
+    go : (r : Read Code) → ShortLine t (codeOut r)
     go (good C) = record { few = omega arith; fewer = omega arith }
     go (bad k) = five-short t k
 
-pub turn-short : (k : Session) → Short (lineOf k) (finishedOut k)
-unfolding finishedOut
+pub turn-short : (k : Session) → ShortLine (lineOf k) (lineFinishedOut k)
+unfolding lineFinishedOut
 turn-short (first l) = code-short l
 turn-short (later code l) = frame-short code l
 turn-short ended = record { few = omega arith; fewer = omega arith }
@@ -264,8 +264,8 @@ close-short (later code []) = omega arith
 close-short (later code (b ∷ l)) = rw (append-nil (frameLine code (b ∷ l))) (frame-short code (b ∷ l) .few)
 close-short ended = omega arith
 
-finished-empty : (k : Session) → lineOf (finished k) ≡ []
-unfolding finished
+finished-empty : (k : Session) → lineOf (lineFinished k) ≡ []
+unfolding lineFinished
 finished-empty (first l) = go (readCode l)
   where
     go : (r : Read Code) → lineOf (codeKept r (lineBytes l)) ≡ []
@@ -283,14 +283,14 @@ kept-long ended b = omega arith
 fed-fewer : (k : Session) (s : List ℕ) → length (fedOut k s) ≤ 5 * (length (lineOf k) + length s)
 unfolding fedOut
 fed-fewer k [] = omega arith
-fed-fewer k (b ∷ s) = go (eqb b 0x0A) (fed-fewer (finished k) s) (fed-fewer (fedByte k b) s)
+fed-fewer k (b ∷ s) = go (eqb b 0x0A) (fed-fewer (lineFinished k) s) (fed-fewer (fedByte k b) s)
   where
-    go : (c : Bool) → length (fedOut (finished k) s) ≤ 5 * (length (lineOf (finished k)) + length s)
+    go : (c : Bool) → length (fedOut (lineFinished k) s) ≤ 5 * (length (lineOf (lineFinished k)) + length s)
         → length (fedOut (fedByte k b) s) ≤ 5 * (length (lineOf (fedByte k b)) + length s)
-        → length (pick c (finishedOut k ++ fedOut (finished k) s) (fedOut (fedByte k b) s)) ≤ 5 * (length (lineOf k) + suc (length s))
+        → length (pick c (lineFinishedOut k ++ fedOut (lineFinished k) s) (fedOut (fedByte k b) s)) ≤ 5 * (length (lineOf k) + suc (length s))
     go true h i =
-        let e : length (lineOf (finished k)) ≡ 0 = ap length (finished-empty k) in
-        rw (length-append (finishedOut k) (fedOut (finished k) s)) (omega (arith, turn-short k .fewer))
+        let e : length (lineOf (lineFinished k)) ≡ 0 = ap length (finished-empty k) in
+        rw (length-append (lineFinishedOut k) (fedOut (lineFinished k) s)) (omega (arith, turn-short k .fewer))
     go false h i = omega (arith, kept-long k b)
 
 -- the bound: the first line that ends in a block prints at most 517 bytes, each other one at most five for each of its bytes and the 0A
@@ -300,8 +300,8 @@ fed-few k [] = omega arith
 fed-few k (b ∷ s) = go (eqb b 0x0A) (fed-few (fedByte k b) s)
   where
     go : (c : Bool) → length (fedOut (fedByte k b) s) ≤ 512 + 5 * length s
-        → length (pick c (finishedOut k ++ fedOut (finished k) s) (fedOut (fedByte k b) s)) ≤ 512 + 5 * suc (length s)
+        → length (pick c (lineFinishedOut k ++ fedOut (lineFinished k) s) (fedOut (fedByte k b) s)) ≤ 512 + 5 * suc (length s)
     go true i =
-        let e : length (lineOf (finished k)) ≡ 0 = ap length (finished-empty k) in
-        rw (length-append (finishedOut k) (fedOut (finished k) s)) (omega (arith, turn-short k .few, fed-fewer (finished k) s))
+        let e : length (lineOf (lineFinished k)) ≡ 0 = ap length (finished-empty k) in
+        rw (length-append (lineFinishedOut k) (fedOut (lineFinished k) s)) (omega (arith, turn-short k .few, fed-fewer (lineFinished k) s))
     go false i = omega arith

@@ -8,6 +8,7 @@ use Rattle.trellis.specs.Lists.{pick, allTo, part}
 use Rattle.trellis.specs.Check.{Rule, firstZero}
 use Rattle.trellis.specs.Rules.{powerOf, sizeOf, firstOk, ruleFor}
 use Rattle.trellis.specs.Refusals.{Test, when, unless, refusedBy, faultBy}
+use Rattle.trellis.specs.Sizes.{mostDegree, mostEdges, mostChecks, mostSymbols}
 
 -- what was read, or the number of the refusal
 pub data Read (A : Type 0) : Type 0 where
@@ -63,8 +64,8 @@ abbrev pub checkTests : List ℕ → ℕ → ℕ → List Test
 checkTests s at total =
     when (leb (length s) at) 5
     ∷ when (ltb (getD s at 0) 2) 9
-    ∷ when (ltb 32 (getD s at 0)) 9
-    ∷ when (ltb 1024 (total + getD s at 0)) 9
+    ∷ when (ltb mostDegree (getD s at 0)) 9
+    ∷ when (ltb mostEdges (total + getD s at 0)) 9
     ∷ when (ltb (length s - (at + 1)) (3 * getD s at 0)) 5
     ∷ []
 
@@ -86,9 +87,9 @@ headTests s =
     when (ltb (length s) 6) 5
     ∷ when (not (firstOk (getD s 0 0))) 6
     ∷ when (ltb (wordAt s 1) 1) 7
-    ∷ when (ltb 256 (wordAt s 1)) 7
+    ∷ when (ltb mostSymbols (wordAt s 1)) 7
     ∷ when (ltb (getD s 3 0) 1) 7
-    ∷ when (ltb 128 (getD s 3 0)) 7
+    ∷ when (ltb mostChecks (getD s 3 0)) 7
     ∷ when (ltb (getD s 4 0) 1) 8
     ∷ when (ltb 16 (getD s 4 0)) 8
     ∷ when (ltb (getD s 5 0) 1) 8

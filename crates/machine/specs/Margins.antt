@@ -16,23 +16,23 @@ abbrev pub marginIn : Buffers → ℕ → ℕ
 marginIn o c = getD (o .margins) c 0
 
 -- the cost of symbol x in column c of q costs
-abbrev pub costIn : ℕ → Buffers → ℕ → ℕ → ℕ
-costIn q o c x = getD (o .costs) (c * q + x) 0
+abbrev pub bufferCost : ℕ → Buffers → ℕ → ℕ → ℕ
+bufferCost q o c x = getD (o .costs) (c * q + x) 0
 
 -- another symbol than the decision, of cost v
 pub record Other (q : ℕ) (o : Buffers) (c v : ℕ) : Type 0 where
   pub symbol : ℕ
   pub element : symbol < q
   pub differs : symbol ≢ symbolIn o c
-  pub costs : costIn q o c symbol ≡ v
+  pub costs : bufferCost q o c symbol ≡ v
 
 -- "the least cost among the other symbols less the least cost of all", which is 0; "a tie has margin 0"
 pub record Margin (q : ℕ) (o : Buffers) (c : ℕ) : Type 0 where
-  pub free : costIn q o c (symbolIn o c) ≡ 0
+  pub free : bufferCost q o c (symbolIn o c) ≡ 0
   pub attained : Other q o c (marginIn o c)
-  pub least : (x : ℕ) → x < q → x ≢ symbolIn o c → marginIn o c ≤ costIn q o c x
+  pub least : (x : ℕ) → x < q → x ≢ symbolIn o c → marginIn o c ≤ bufferCost q o c x
   pub tie : (marginIn o c ≡ 0) ↔ Other q o c 0
-  pub only : 0 < marginIn o c → (x : ℕ) → x < q → costIn q o c x ≡ 0 → x ≡ symbolIn o c
+  pub only : 0 < marginIn o c → (x : ℕ) → x < q → bufferCost q o c x ≡ 0 → x ≡ symbolIn o c
   pub small : marginIn o c ≤ 510
 
 -- of every column, after every decoding of an accepted frame of bytes in buffers long enough

@@ -38,11 +38,11 @@ fn of_element(e: Element) -> u32
     }
 }
 
-fn of_written(w: Written) -> u32
-    requires { ⌜ writtenReply w .value ≤ 16384 ⌝ }
-    ensures { λ r. ⌜ Packs r (writtenReply w) ⌝ }
+fn of_written(written: Written) -> u32
+    requires { ⌜ writtenReply written .value ≤ 16384 ⌝ }
+    ensures { λ r. ⌜ Packs r (writtenReply written) ⌝ }
 {
-    match w {
+    match written {
         Written::Bytes(n) => n as u32,
         Written::Refused(k) => (k as u32) * 65536,
     }

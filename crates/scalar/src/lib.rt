@@ -1,4 +1,6 @@
 // Small functions on numbers and tests that several crates share. Each is total; the compiler puts it in place at each call.
+pub mod sizes;
+
 ghost use mathlib.Core.Path.{_≡_};
 ghost use mathlib.Core.Bool.{_&&_, _||_};
 ghost use Prim.Native.Nat.{_%_, _<_, min, max};

@@ -11,7 +11,7 @@ use lib.Dec.{ltb}
 use lib.ListN.{length, getD, set, take, drop, length-append, length-drop, length-take, drop-of-length-le}
 use lib.Seq.{drop-cons, set-at, append-snoc, take-at, drop-at, drop-drop, drop-length, take-all}
 use Rattle.trellis.specs.Lists.{pick, blocks}
-use Rattle.sweep.specs.inner.Groups.{lowestTo, pairAt, pairCount, unusedPair, groupBy}
+use Rattle.sweep.specs.inner.Groups.{lowestTo, pairAbove, pairCount, unusedPair, groupBy}
 
 two-sets : (X l : List ℕ) (u v at : ℕ) → length X ≡ at → at + 2 ≤ length l → set (set (X ++ drop at l) at u) (at + 1) v ≡ (X ++ (u ∷ v ∷ [])) ++ drop (at + 2) l
 two-sets X l u v at e h =
@@ -50,11 +50,11 @@ pub block-last : (f : ℕ → List ℕ) (w : ℕ) (l out : List ℕ) (i : ℕ) �
 block-last f w l out i e h = rw (e, ← h, drop-length) (append-nil (blocks f i))
 
 module _ (e : ℕ) (S : ℕ → ℕ) where
-  pub pair-length : (n : ℕ) → length (blocks (pairAt e S) n) ≡ pairCount e S n * 2
+  pub pair-length : (n : ℕ) → length (blocks (pairAbove e S) n) ≡ pairCount e S n * 2
   pair-length zero = refl
-  pair-length (suc n) = length-append (blocks (pairAt e S) n) (pairAt e S n) ∙ go (ltb e (S n)) (pair-length n)
+  pair-length (suc n) = length-append (blocks (pairAbove e S) n) (pairAbove e S n) ∙ go (ltb e (S n)) (pair-length n)
     where
-      go : (b : Bool) → length (blocks (pairAt e S) n) ≡ pairCount e S n * 2 → length (blocks (pairAt e S) n) + length (pick b (n ∷ S n ∷ []) []) ≡ pick b (pairCount e S n + 1) (pairCount e S n) * 2
+      go : (b : Bool) → length (blocks (pairAbove e S) n) ≡ pairCount e S n * 2 → length (blocks (pairAbove e S) n) + length (pick b (n ∷ S n ∷ []) []) ≡ pick b (pairCount e S n + 1) (pairCount e S n) * 2
       go true h = omega arith
       go false h = omega arith
 
@@ -85,40 +85,40 @@ module _ (e : ℕ) (S : ℕ → ℕ) where
   pub count-turn : (n c : ℕ) {s r : ℕ} → c ≡ pairCount e S n → s ≡ S n → r ≡ pick (ltb e s) (c + 1) c → r ≡ pairCount e S (n + 1)
   count-turn n c a b o = o ∙ rw (a, b, add-one n)
 
-  pub pair-turn : (d n c : ℕ) (l out : List ℕ) {m s : ℕ} {r : List ℕ} → n < d → pairCount e S d * 2 ≤ length l → c ≡ pairCount e S n → m ≡ n → s ≡ S n → out ≡ blocks (pairAt e S) n ++ drop (pairCount e S n * 2) l
-      → r ≡ pick (ltb e s) (set (set out (c * 2) m) (c * 2 + 1) s) out → r ≡ blocks (pairAt e S) (n + 1) ++ drop (pairCount e S (n + 1) * 2) l
+  pub pair-turn : (d n c : ℕ) (l out : List ℕ) {m s : ℕ} {r : List ℕ} → n < d → pairCount e S d * 2 ≤ length l → c ≡ pairCount e S n → m ≡ n → s ≡ S n → out ≡ blocks (pairAbove e S) n ++ drop (pairCount e S n * 2) l
+      → r ≡ pick (ltb e s) (set (set out (c * 2) m) (c * 2 + 1) s) out → r ≡ blocks (pairAbove e S) (n + 1) ++ drop (pairCount e S (n + 1) * 2) l
   pair-turn d n c l out h k a b u o q =
       q ∙ rw (a, b, u, o, add-one n) (go (ltb e (S n)) (pair-room d n h))
     where
       go : (t : Bool) → pick t (pairCount e S n * 2 + 2) 0 ≤ pairCount e S d * 2
-          → pick t (set (set (blocks (pairAt e S) n ++ drop (pairCount e S n * 2) l) (pairCount e S n * 2) n) (pairCount e S n * 2 + 1) (S n)) (blocks (pairAt e S) n ++ drop (pairCount e S n * 2) l)
-          ≡ (blocks (pairAt e S) n ++ pick t (n ∷ S n ∷ []) []) ++ drop (pick t (pairCount e S n + 1) (pairCount e S n) * 2) l
+          → pick t (set (set (blocks (pairAbove e S) n ++ drop (pairCount e S n * 2) l) (pairCount e S n * 2) n) (pairCount e S n * 2 + 1) (S n)) (blocks (pairAbove e S) n ++ drop (pairCount e S n * 2) l)
+          ≡ (blocks (pairAbove e S) n ++ pick t (n ∷ S n ∷ []) []) ++ drop (pick t (pairCount e S n + 1) (pairCount e S n) * 2) l
       go true v =
           let x : (pairCount e S n + 1) * 2 ≡ pairCount e S n * 2 + 2 = omega arith in
-          two-sets (blocks (pairAt e S) n) l n (S n) (pairCount e S n * 2) (pair-length n) (omega arith) ∙ ap (λ y. (blocks (pairAt e S) n ++ (n ∷ S n ∷ [])) ++ drop y l) (sym x)
-      go false v = ap {B = List ℕ} (λ y. y ++ drop (pairCount e S n * 2) l) (sym (append-nil (blocks (pairAt e S) n)))
+          two-sets (blocks (pairAbove e S) n) l n (S n) (pairCount e S n * 2) (pair-length n) (omega arith) ∙ ap (λ y. (blocks (pairAbove e S) n ++ (n ∷ S n ∷ [])) ++ drop y l) (sym x)
+      go false v = ap {B = List ℕ} (λ y. y ++ drop (pairCount e S n * 2) l) (sym (append-nil (blocks (pairAbove e S) n)))
 
 -- a group is full
 pub group-full : (k d : ℕ) (S : ℕ → ℕ) → pairCount (lowestTo S d) S d ≤ k → length (groupBy k d S) ≡ 1 + 2 * k
 unfolding groupBy
 group-full k d S h =
-    let x = length-append (blocks (pairAt (lowestTo S d) S) d) (blocks unusedPair (k - pairCount (lowestTo S d) S d)) in
+    let x = length-append (blocks (pairAbove (lowestTo S d) S) d) (blocks unusedPair (k - pairCount (lowestTo S d) S d)) in
     omega (arith, x, pair-length (lowestTo S d) S d, length-blocks-to unusedPair 2 (k - pairCount (lowestTo S d) S d) (λ j l. refl))
 
-group-last : (k d : ℕ) (S : ℕ → ℕ) (e : ℕ) → e ≡ lowestTo S d → e ∷ (blocks (pairAt e S) d ++ blocks unusedPair (k - pairCount e S d)) ≡ groupBy k d S
+group-last : (k d : ℕ) (S : ℕ → ℕ) (e : ℕ) → e ≡ lowestTo S d → e ∷ (blocks (pairAbove e S) d ++ blocks unusedPair (k - pairCount e S d)) ≡ groupBy k d S
 unfolding groupBy
 group-last k d S e a = rw a refl
 
 -- E, the pairs, and the unused pairs behind them
 pub group-done : (k d : ℕ) (S : ℕ → ℕ) (out : List ℕ) (e n c : ℕ) {r s : List ℕ} → length out ≡ 1 + 2 * k → n ≡ length out → e ≡ lowestTo S d → c ≡ pairCount e S d → c ≤ k
-    → r ≡ blocks (pairAt e S) d ++ drop (pairCount e S d * 2) (take (n - 1) (drop 1 (set out 0 e)))
+    → r ≡ blocks (pairAbove e S) d ++ drop (pairCount e S d * 2) (take (n - 1) (drop 1 (set out 0 e)))
     → s ≡ blocks unusedPair (k - c)
     → let two : List ℕ = take 1 (set out 0 e) ++ (r ++ drop (n - 1) (drop 1 (set out 0 e))) in
     take (1 + c * 2) two ++ (s ++ drop (n - (1 + c * 2)) (drop (1 + c * 2) two)) ≡ groupBy k d S
 group-done k d S [] e n c l m a b g o u = absurd (omega arith)
 group-done k d S (x ∷ out) e n c {r} {s} l m a b g o u =
     let C : ℕ = pairCount e S d in
-    let B : List ℕ = blocks (pairAt e S) d in
+    let B : List ℕ = blocks (pairAbove e S) d in
     let N : n - 1 ≡ length out = omega arith in
     let t : take (n - 1) out ≡ out = take-all (n - 1) out (omega arith) in
     let z : drop (n - 1) out ≡ [] = ap (λ y. drop y out) N ∙ drop-length out in
@@ -132,7 +132,7 @@ group-done k d S (x ∷ out) e n c {r} {s} l m a b g o u =
 
 -- what is left behind the pairs
 pub group-rest : (k d : ℕ) (S : ℕ → ℕ) (out : List ℕ) (e n c : ℕ) {r : List ℕ} → length out ≡ 1 + 2 * k → n ≡ length out → c ≡ pairCount e S d → c ≤ k
-    → r ≡ blocks (pairAt e S) d ++ drop (pairCount e S d * 2) (take (n - 1) (drop 1 (set out 0 e)))
+    → r ≡ blocks (pairAbove e S) d ++ drop (pairCount e S d * 2) (take (n - 1) (drop 1 (set out 0 e)))
     → length (take (n - (1 + c * 2)) (drop (1 + c * 2) (take 1 (set out 0 e) ++ (r ++ drop (n - 1) (drop 1 (set out 0 e)))))) ≡ (k - c) * 2
 group-rest k d S [] e n c l m b g o = absurd (omega arith)
 group-rest k d S (x ∷ out) e n c {r} l m b g o =
@@ -140,7 +140,7 @@ group-rest k d S (x ∷ out) e n c {r} l m b g o =
     let t : take (n - 1) out ≡ out = take-all (n - 1) out (omega arith) in
     let z : drop (n - 1) out ≡ [] = ap (λ y. drop y out) N ∙ drop-length out in
     let w : 1 + c * 2 ≡ suc (c * 2) = omega arith in
-    let u : length r ≡ 2 * k = ap length (o ∙ ap (λ y. blocks (pairAt e S) d ++ drop (pairCount e S d * 2) y) t) ∙ length-append (blocks (pairAt e S) d) _ ∙ omega (arith, pair-length e S d, length-drop (pairCount e S d * 2) out, ap (λ y. y * 2) b) in
+    let u : length r ≡ 2 * k = ap length (o ∙ ap (λ y. blocks (pairAbove e S) d ++ drop (pairCount e S d * 2) y) t) ∙ length-append (blocks (pairAbove e S) d) _ ∙ omega (arith, pair-length e S d, length-drop (pairCount e S d * 2) out, ap (λ y. y * 2) b) in
     let v : length (r ++ []) ≡ 2 * k = ap length (append-nil r) ∙ u in
     let h : length (drop (c * 2) (r ++ [])) ≡ (k - c) * 2 = length-drop (c * 2) (r ++ []) ∙ omega arith in
     rw (w, z) (length-take (n - suc (c * 2)) (drop (c * 2) (r ++ [])) ∙ omega arith)

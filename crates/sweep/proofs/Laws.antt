@@ -21,7 +21,7 @@ use Rattle.trellis.proofs.Loops.{tab-more, tab-whole, length-tab, getD-tab}
 use Rattle.trellis.proofs.Rules.{most-few}
 use Rattle.checknode.specs.inner.Asks.{Times}
 use Rattle.sweep.specs.Kept.{cellCount}
-use Rattle.sweep.specs.inner.Cells.{Sums, Steps, deviationAt, layerAt, countAt, stepCells, moveCost, stepBy}
+use Rattle.sweep.specs.inner.Cells.{Sums, Steps, deviationAt, layerAt, countCells, stepCells, moveCost, stepBy}
 
 pub tab-turn : (f : ℕ → ℕ) (out out₀ : List ℕ) (i : ℕ) {v : ℕ} → i < length out₀ → out ≡ tab f i ++ drop i out₀ → v ≡ f i → set out i v ≡ tab f (i + 1) ++ drop (i + 1) out₀
 tab-turn f out out₀ i l e u = rw (e, u) (tab-more f out₀ i l)
@@ -76,21 +76,21 @@ pub below-length : (l : List ℕ) (b q : ℕ) → q ≤ b → b ≤ length l →
 below-length l b q h k = simp (length-take, length-drop) (omega arith)
 
 module _ (g : Bool) (q : ℕ) (row moves cells : List ℕ) (s : ℕ) where
-  pub count-length : (j : ℕ) → length (countAt g q row moves cells s j) ≡ q
-  unfolding countAt
+  pub count-length : (j : ℕ) → length (countCells g q row moves cells s j) ≡ q
+  unfolding countCells
   count-length j = go (eqb j 0)
     where
       go : (b : Bool) → length (pick b (tab (λ t. getD (take q cells) (xor t s) 0) q) (tab (layerAt g row moves (part cells (j * q - q) q) (part cells (j * q) q) s) q)) ≡ q
       go true = length-tab _ q
       go false = length-tab _ q
 
-  pub count-first : (j n : ℕ) {out : List ℕ} → j ≡ 0 → n ≡ q → out ≡ tab (λ t. getD (take q cells) (xor t s) 0) n → out ≡ countAt g q row moves cells s j
-  unfolding countAt
+  pub count-first : (j n : ℕ) {out : List ℕ} → j ≡ 0 → n ≡ q → out ≡ tab (λ t. getD (take q cells) (xor t s) 0) n → out ≡ countCells g q row moves cells s j
+  unfolding countCells
   count-first j n e u o = rw (eq-eqb _ _ e) (o ∙ ap (tab (λ t. getD (take q cells) (xor t s) 0)) u)
 
   pub count-later : (j n : ℕ) {out : List ℕ} → j ≢ 0 → n ≡ q
-      → out ≡ tab (layerAt g row moves (take (j * q - (j * q - q)) (drop (j * q - q) cells)) (take (j * q + q - j * q) (drop (j * q) cells)) s) n → out ≡ countAt g q row moves cells s j
-  unfolding countAt
+      → out ≡ tab (layerAt g row moves (take (j * q - (j * q - q)) (drop (j * q - q) cells)) (take (j * q + q - j * q) (drop (j * q) cells)) s) n → out ≡ countCells g q row moves cells s j
+  unfolding countCells
   count-later j n e u o =
       rw (ne-eqb _ _ e)
       (o ∙ ap₂ (λ x y. tab (layerAt g row moves x y s) n) (below-is cells (j * q) q (past-first j q e)) (cut-is cells (j * q) q)

@@ -14,7 +14,7 @@ use Rattle.trellis.specs.Record.{above, group}
 use Rattle.trellis.proofs.Places.{length-each}
 use Rattle.trellis.proofs.Loops.{blocks-ext, each-blocks}
 use Rattle.trellis.proofs.Sent.{Proper, extra-sent, extra-le, above-few}
-use Rattle.sweep.specs.inner.Groups.{lowestTo, pairAt, pairCount, unusedPair, groupBy}
+use Rattle.sweep.specs.inner.Groups.{lowestTo, pairAbove, pairCount, unusedPair, groupBy}
 use Rattle.sweep.proofs.Grouping.{pair-length}
 
 -- the least of bytes
@@ -68,9 +68,9 @@ module _ (R : Rule) (cs : List Column) (P : Proper R cs) (a : ℕ) (small : a < 
       let v : extra R cs a ≤ lowestTo S (length cs) = lowest-over S (length cs) (extra R cs a) (omega (arith, e, bytes n (r .1))) (λ j l. extra-le R cs P a small j l) in
       omega (arith, e, u, v)
 
-  pairs-are : each (λ n. n ∷ S n ∷ []) (above R cs a) ≡ blocks (pairAt (extra R cs a) S) (length cs)
+  pairs-are : each (λ n. n ∷ S n ∷ []) (above R cs a) ≡ blocks (pairAbove (extra R cs a) S) (length cs)
   unfolding above
-  pairs-are = each-keep (λ n. n ∷ S n ∷ []) (λ n. ltb (extra R cs a) (S n)) (upTo (length cs)) ∙ each-blocks (pairAt (extra R cs a) S) 0 (length cs) ∙ blocks-ext _ _ (length cs) (λ j l. ap (pairAt (extra R cs a) S) (zero-add j))
+  pairs-are = each-keep (λ n. n ∷ S n ∷ []) (λ n. ltb (extra R cs a) (S n)) (upTo (length cs)) ∙ each-blocks (pairAbove (extra R cs a) S) 0 (length cs) ∙ blocks-ext _ _ (length cs) (λ j l. ap (pairAbove (extra R cs a) S) (zero-add j))
 
   above-count : length (above R cs a) ≡ pairCount (extra R cs a) S (length cs)
   above-count = omega (arith, length-each (λ n. n ∷ S n ∷ []) 2 (above R cs a) (λ x. refl), ap length pairs-are, pair-length (extra R cs a) S (length cs))
@@ -82,4 +82,4 @@ module _ (R : Rule) (cs : List Column) (P : Proper R cs) (a : ℕ) (small : a < 
   unfolding group groupBy
   group-is =
       ap₂ {C = List ℕ} (λ x y. extra R cs a ∷ (x ++ y)) pairs-are (each-blocks unusedPair 0 (R .most - length (above R cs a)) ∙ ap (λ c. blocks unusedPair (R .most - c)) above-count)
-      ∙ ap (λ e. e ∷ (blocks (pairAt e S) (length cs) ++ blocks unusedPair (R .most - pairCount e S (length cs)))) extra-lowest
+      ∙ ap (λ e. e ∷ (blocks (pairAbove e S) (length cs) ++ blocks unusedPair (R .most - pairCount e S (length cs)))) extra-lowest

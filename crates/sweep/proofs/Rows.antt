@@ -9,7 +9,7 @@ use lib.ListN.{length, getD, take, drop}
 use Rattle.trellis.specs.Lists.{tab}
 use Rattle.trellis.specs.Field.{xor}
 use Rattle.field.proofs.Blocks.{part-room}
-use Rattle.sweep.specs.inner.Joins.{joinAt, Bytes, cellsBefore, cellsBehind, sentRow}
+use Rattle.sweep.specs.inner.Joins.{joinAt, ByteCostsRoom, cellsBefore, cellsBehind, columnSent}
 
 -- part n from the front and from the back
 pub both-rooms : (n d w : ℕ) → n < d → (n * w + w ≤ d * w) × ((d - 1 - n) * w + w ≤ d * w)
@@ -34,8 +34,8 @@ module _ (g : Bool) (q k : ℕ) (before after shifts : List ℕ) (n : ℕ) {s : 
   abbrev back : List ℕ
   back = take (m * w + w - m * w) (drop (m * w) after)
 
-  pub row-bytes : Bytes g q k (cellsBefore w before n) (cellsBehind w after (length shifts) n) (getD shifts n 0) → Bytes g q k front back s
+  pub row-bytes : ByteCostsRoom g q k (cellsBefore w before n) (cellsBehind w after (length shifts) n) (getD shifts n 0) → ByteCostsRoom g q k front back s
   row-bytes b = rw (e, add-sub-cancel-left (n * w) w, add-sub-cancel-left (m * w) w) b
 
-  pub row-is : {r : List ℕ} → r ≡ tab (λ a. joinAt g q k front back (xor a s)) q → r ≡ sentRow g q k before after shifts n
+  pub row-is : {r : List ℕ} → r ≡ tab (λ a. joinAt g q k front back (xor a s)) q → r ≡ columnSent g q k before after shifts n
   row-is o = o ∙ rw (e, add-sub-cancel-left (n * w) w, add-sub-cancel-left (m * w) w) refl

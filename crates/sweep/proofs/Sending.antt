@@ -26,8 +26,8 @@ use Rattle.field.proofs.Blocks.{block-at, in-block, part-room}
 use Rattle.checknode.proofs.Resting.{column-bytes, shift-at, shifts-length, parts}
 use Rattle.sweep.specs.Kept.{cellCount, cellAt, KeptCells}
 use Rattle.sweep.specs.inner.Cells.{turnsOf, cellsAfter, tableOf, Swept}
-use Rattle.sweep.specs.inner.Joins.{joinAt, cellsBefore, cellsBehind, sentRow, Joinable}
-use Rattle.sweep.specs.inner.Groups.{lowestTo, sentOf, groupBy, Fits}
+use Rattle.sweep.specs.inner.Joins.{joinAt, cellsBefore, cellsBehind, columnSent, JoinRoom}
+use Rattle.sweep.specs.inner.Groups.{lowestTo, sentOf, groupBy, PairsRoom}
 use Rattle.sweep.proofs.Laws.{sums-of}
 use Rattle.sweep.proofs.Swept.{join-within, join-is, sent-byte, size-limit, after-length}
 use Rattle.sweep.proofs.Pairing.{lowest-ext, count-ext, group-ext, few-above, group-is}
@@ -133,7 +133,7 @@ module _ (f : ℕ) (ws cs : List ℕ) (D : Ready f ws cs) where
           ∙ sent-joined n a h l
 
       module _ {g : Bool} {q′ k : ℕ} {s : List ℕ} (eg : g ≡ greatestOf f) (eq : q′ ≡ sizeOf f) (ek : k ≡ mostOf f) (es : s ≡ shiftsOf (powerOf f) ws cs) where
-        pub rows-joinable : (out : List ℕ) → length out ≡ length ws * sizeOf f → Joinable g q′ k before after s out
+        pub rows-joinable : (out : List ℕ) → length out ≡ length ws * sizeOf f → JoinRoom g q′ k before after s out
         rows-joinable out o =
             let d : length shifts ≡ length ws = shifts-length f ws cs D in
             rw (eg, eq, ek, es)
@@ -149,17 +149,17 @@ module _ (f : ℕ) (ws cs : List ℕ) (D : Ready f ws cs) where
               bytes = λ n h. let u : n < length ws = omega (arith, d) in record { small = λ a l. omega (arith, joined-at n u a l, S-byte a l n (omega (arith, d-is))) };
             }
 
-        pub rows-are : {r : List ℕ} → r ≡ blocks (sentRow g q′ k before after s) (length s) → r ≡ blocks (λ n. tab (sentAt R C n) q) (length ws)
+        pub rows-are : {r : List ℕ} → r ≡ blocks (columnSent g q′ k before after s) (length s) → r ≡ blocks (λ n. tab (sentAt R C n) q) (length ws)
         rows-are o =
             o ∙ rw (eg, eq, ek, es, shifts-length f ws cs D)
-            (blocks-ext (sentRow (greatestOf f) q (mostOf f) before after shifts) (λ n. tab (sentAt R C n) q) (length ws) (λ n h. tab-ext _ _ q (λ a l. joined-at n h a l)))
+            (blocks-ext (columnSent (greatestOf f) q (mostOf f) before after shifts) (λ n. tab (sentAt R C n) q) (length ws) (λ n h. tab-ext _ _ q (λ a l. joined-at n h a l)))
 
     -- the record, from the sent costs
     module _ {q′ k : ℕ} (eq : q′ ≡ sizeOf f) (ek : k ≡ mostOf f) (sent : List ℕ) (sent-is : sent ≡ blocks (λ n. tab (sentAt R C n) q) (length ws)) where
       at-sent : (n a : ℕ) → n < length ws → a < q → sentOf sent q a n ≡ sentAt R C n a
       at-sent n a h l = ap (λ y. getD y (n * q + a) 0) sent-is ∙ in-block q (λ n. tab (sentAt R C n) q) (λ n. length-tab _ q) (length ws) n a h l ∙ getD-tab (sentAt R C n) q a l
 
-      pub sent-fits : Fits k (length ws) q′ sent
+      pub sent-fits : PairsRoom k (length ws) q′ sent
       sent-fits =
           rw (eq, ek)
           record {

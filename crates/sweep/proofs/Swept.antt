@@ -26,7 +26,7 @@ use Rattle.checknode.specs.inner.Asks.{Times}
 use Rattle.field.proofs.Blocks.{block-at, part-room}
 use Rattle.checknode.proofs.Turns.{ready-times, part-is}
 use Rattle.sweep.specs.Kept.{cellCount}
-use Rattle.sweep.specs.inner.Cells.{cellsOf, moveCost, deviationAt, layerAt, countAt, stepCells, Sized, stepBy, orderOf, turnsOf, cellsAfter}
+use Rattle.sweep.specs.inner.Cells.{cellsOf, moveCost, deviationAt, layerAt, countCells, stepCells, Sized, stepBy, orderOf, turnsOf, cellsAfter}
 use Rattle.sweep.specs.inner.Joins.{acrossAt, besideAt, joinAt}
 use Rattle.sweep.proofs.Rows.{row-sizes}
 
@@ -92,8 +92,8 @@ module _ (p : ℕ) (g : Bool) (k h : ℕ) (costs : List ℕ) (T : Times p h) (z 
       (rw (length-tab (product p h) q)
       (leastTo-ext _ _ q (λ x u. ap₂ (joinOf g) (getD-tab (moveCost costs (firstZero costs)) q x u) (ap (λ y. getD (tab (f i) q) (xor t y) 0) (getD-tab (product p h) q x u) ∙ getD-tab (f i) q (xor t (product p h x)) (xor-lt p t _ l (T .closed x u))))))
 
-  count-is : (j : ℕ) → j < suc k → countAt g q row moves (cellsOf q k f) (product p h (firstZero costs)) j ≡ tab (stepped (ruleOf p (joinOf g) k) theColumn f j) q
-  unfolding countAt stepped
+  count-is : (j : ℕ) → j < suc k → countCells g q row moves (cellsOf q k f) (product p h (firstZero costs)) j ≡ tab (stepped (ruleOf p (joinOf g) k) theColumn f j) q
+  unfolding countCells stepped
   count-is zero l =
       let e : 0 * q ≡ 0 = omega arith in
       let c : take q (cellsOf q k f) ≡ tab (f 0) q = ap (λ y. take q (drop y (cellsOf q k f))) (sym e) ∙ cell-part q k f 0 l in
@@ -105,7 +105,7 @@ module _ (p : ℕ) (g : Bool) (k h : ℕ) (costs : List ℕ) (T : Times p h) (z 
   -- one column more is one step
   step-is : stepBy p g k h costs (cellsOf q k f) ≡ cellsOf q k (stepped (ruleOf p (joinOf g) k) theColumn f)
   unfolding stepBy stepCells
-  step-is = ap (blocks (countAt g q row moves (cellsOf q k f) (product p h (firstZero costs)))) (add-one k) ∙ blocks-ext _ _ (suc k) (λ j l. count-is j l)
+  step-is = ap (blocks (countCells g q row moves (cellsOf q k f) (product p h (firstZero costs)))) (add-one k) ∙ blocks-ext _ _ (suc k) (λ j l. count-is j l)
 
 module _ (R : Rule) (cs : List Column) (P : Proper R cs) where
   -- after the first i turns and one more

@@ -13,6 +13,6 @@ pub kept-after : workedAfter ≡ printedAfter
 unfolding swept choices xor
 kept-after = refl
 
-pub sent : workedSent ≡ printedSent
+pub sent-printed : workedSent ≡ printedSent
 unfolding sweptSent joined swept choices shift decided xor
-sent = refl
+sent-printed = refl

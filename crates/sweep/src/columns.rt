@@ -2,6 +2,7 @@
 use crate::cells;
 use crate::step;
 use field::Element;
+use scalar::sizes;
 ghost use mathlib.Core.Path.{_≡_};
 ghost use Prim.Native.Nat.{_*_, _^_, _≤_, _<_};
 ghost use lib.ListN.{length};
@@ -12,7 +13,7 @@ ghost use Rattle.trellis.specs.Rules.{powerOf, sizeOf};
 ghost use Rattle.trellis.specs.Ready.{Ready};
 ghost use Rattle.checknode.specs.inner.Asks.{Times};
 ghost use Rattle.sweep.specs.Kept.{cellCount};
-ghost use Rattle.sweep.specs.inner.Cells.{moveCost, Sized, stepFor, stepAt, orderOf, tableOf};
+ghost use Rattle.sweep.specs.inner.Cells.{moveCost, Sized, stepFor, stepColumn, orderOf, tableOf};
 
 // A product of two elements, which is not refused.
 pub fn times(p: u8, a: u8, b: u8) -> u8
@@ -95,7 +96,7 @@ fn turn_in(
     requires { ⌜ Ready first (now weights) (now costs) ⌝ }
     requires { ⌜ (n < length (now weights)) × ((64 ≤ length (now row)) × (64 ≤ length (now moves))) ⌝ }
     requires { ⌜ (length (now cells) ≡ cellCount first) × (length (now out) ≡ cellCount first) ⌝ }
-    ensures { λ _. ⌜ now (out .exit) ≡ stepAt first (now (weights .entry)) (now (costs .entry)) n (now (cells .entry)) ⌝ }
+    ensures { λ _. ⌜ now (out .exit) ≡ stepColumn first (now (weights .entry)) (now (costs .entry)) n (now (cells .entry)) ⌝ }
 {
     let q = rules::size(first);
     let a = n * q;
@@ -115,10 +116,10 @@ fn turn(first: u8, weights: &[u8], costs: &[u8], n: usize, cells: &[u16], out: &
     requires { ⌜ Ready first (now weights) (now costs) ⌝ }
     requires { ⌜ n < length (now weights) ⌝ }
     requires { ⌜ (length (now cells) ≡ cellCount first) × (length (now out) ≡ cellCount first) ⌝ }
-    ensures { λ _. ⌜ now (out .exit) ≡ stepAt first (now (weights .entry)) (now (costs .entry)) n (now (cells .entry)) ⌝ }
+    ensures { λ _. ⌜ now (out .exit) ≡ stepColumn first (now (weights .entry)) (now (costs .entry)) n (now (cells .entry)) ⌝ }
 {
-    let mut row = [0u8; 64];
-    let mut moves = [0u16; 64];
+    let mut row = [0u8; sizes::MOST_SIZE];
+    let mut moves = [0u16; sizes::MOST_SIZE];
     turn_in(first, weights, costs, n, &mut row, &mut moves, cells, out);
 }
 

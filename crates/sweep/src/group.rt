@@ -4,7 +4,7 @@ ghost use Prim.Native.Nat.{_+_, _-_, _*_, _≤_, _<_};
 ghost use lib.Dec.{ltb};
 ghost use lib.ListN.{length, set};
 ghost use Rattle.trellis.specs.Lists.{pick, blocks};
-ghost use Rattle.sweep.specs.inner.Groups.{lowestTo, sentOf, pairAt, pairCount, pairsOver, unusedPair, groupBy, Fits};
+ghost use Rattle.sweep.specs.inner.Groups.{lowestTo, sentOf, pairAbove, pairCount, pairsOver, unusedPair, groupBy, PairsRoom};
 
 // E: the least of the costs sent at a. Column n's cost stands at n q + a.
 fn lowest(sent: &[u8], q: usize, d: usize, a: usize) -> u8
@@ -45,7 +45,7 @@ fn put_above(out: &mut [u8], c: usize, n: u8, s: u8, e: u8) -> usize
 // The pairs of the columns above e, rising. Answers how many there are.
 fn pairs(sent: &[u8], q: usize, d: usize, a: usize, e: u8, out: &mut [u8]) -> usize
     requires { ⌜ (length (now sent) ≡ d * q) × ((a < q) × (d ≤ 255)) ⌝ }
-    requires { ⌜ length (blocks (pairAt e (sentOf (now sent) q a)) d) ≤ length (now out) ⌝ }
+    requires { ⌜ length (blocks (pairAbove e (sentOf (now sent) q a)) d) ≤ length (now out) ⌝ }
     ensures { λ r. ⌜ r ≡ pairCount e (sentOf (now (sent .entry)) q a) d ⌝ }
     ensures { λ _. ⌜ now (out .exit) ≡ pairsOver e (sentOf (now (sent .entry)) q a) d (now (out .entry)) ⌝ }
 {
@@ -89,7 +89,7 @@ fn group(sent: &[u8], q: usize, d: usize, k: usize, a: usize, out: &mut [u8])
 // The bytes of each a from 1 on.
 pub fn groups(sent: &[u8], q: usize, d: usize, k: usize, out: &mut [u8])
     requires { ⌜ (length (now sent) ≡ d * q) × ((d ≤ 255) × ((k ≤ 3) × (0 < q))) ⌝ }
-    requires { ⌜ Fits k d q (now sent) ⌝ }
+    requires { ⌜ PairsRoom k d q (now sent) ⌝ }
     requires { ⌜ length (now out) ≡ (q - 1) * (1 + 2 * k) ⌝ }
     ensures { λ _. ⌜ now (out .exit) ≡ blocks (λ i. groupBy k d (sentOf (now (sent .entry)) q (i + 1))) (q - 1) ⌝ }
 {

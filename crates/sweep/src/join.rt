@@ -6,7 +6,7 @@ ghost use lib.ListN.{length};
 ghost use Rattle.trellis.specs.Lists.{tab};
 ghost use Rattle.trellis.specs.Field.{xor};
 ghost use Rattle.sweep.specs.inner.Cells.{Sums};
-ghost use Rattle.sweep.specs.inner.Joins.{acrossAt, besideAt, joinAt, Bytes, sentRows, Joinable};
+ghost use Rattle.sweep.specs.inner.Joins.{acrossAt, besideAt, joinAt, ByteCostsRoom, columnsSent, JoinRoom};
 
 // The costs f of one count before the column with the costs g of one count after it: their sums make t.
 fn across(f: &[u16], g: &[u16], t: usize, greatest: bool) -> u32
@@ -71,7 +71,7 @@ fn sent_row(
     requires { ⌜ Sums q ⌝ }
     requires { ⌜ (s < q) × ((length (now out) ≡ q) × (k ≤ 3)) ⌝ }
     requires { ⌜ (length (now before) ≡ (k + 1) * q) × (length (now after) ≡ (k + 1) * q) ⌝ }
-    requires { ⌜ Bytes greatest q k (now before) (now after) s ⌝ }
+    requires { ⌜ ByteCostsRoom greatest q k (now before) (now after) s ⌝ }
     ensures { λ _. ⌜ now (out .exit) ≡ tab (λ a. joinAt greatest q k (now (before .entry)) (now (after .entry)) (xor a s)) q ⌝ }
 {
     let mut a = 0;
@@ -91,8 +91,8 @@ pub fn sent_all(
     greatest: bool,
     out: &mut [u8],
 )
-    requires { ⌜ Joinable greatest q k (now before) (now after) (now shifts) (now out) ⌝ }
-    ensures { λ _. ⌜ now (out .exit) ≡ sentRows greatest q k (now (before .entry)) (now (after .entry)) (now (shifts .entry)) ⌝ }
+    requires { ⌜ JoinRoom greatest q k (now before) (now after) (now shifts) (now out) ⌝ }
+    ensures { λ _. ⌜ now (out .exit) ≡ columnsSent greatest q k (now (before .entry)) (now (after .entry)) (now (shifts .entry)) ⌝ }
 {
     let w = (k + 1) * q;
     let d = shifts.len();

@@ -3,6 +3,7 @@ use crate::cells;
 use crate::columns;
 use crate::group;
 use crate::join;
+use scalar::sizes;
 ghost use mathlib.Core.Path.{_≡_};
 ghost use Prim.Native.Nat.{_*_, _≤_, _<_};
 ghost use lib.ListN.{length, getD};
@@ -11,6 +12,7 @@ ghost use Rattle.trellis.specs.Field.{xor};
 ghost use Rattle.trellis.specs.Record.{recordOf, recordLength};
 ghost use Rattle.trellis.specs.Rules.{powerOf, sizeOf, ruleFor, columnsOf};
 ghost use Rattle.trellis.specs.Ready.{Ready};
+ghost use Rattle.trellis.specs.Sizes.{mostExpansion};
 ghost use Rattle.engine.specs.inner.Terms.{termOf, sumTo};
 ghost use Rattle.checknode.specs.inner.Asks.{shiftsOf};
 ghost use Rattle.sweep.specs.Kept.{cellCount, KeptCells};
@@ -148,7 +150,7 @@ fn record_room(
     out: &mut [u8],
 )
     requires { ⌜ Ready first (now weights) (now costs) ⌝ }
-    requires { ⌜ (256 ≤ length (now cells)) × (2048 ≤ length (now sent)) ⌝ }
+    requires { ⌜ (256 ≤ length (now cells)) × (mostExpansion ≤ length (now sent)) ⌝ }
     requires { ⌜ (8192 ≤ length (now before)) × (8192 ≤ length (now after)) ⌝ }
     requires { ⌜ length (now out) ≡ recordLength (ruleFor first) (length (now weights)) ⌝ }
     ensures { λ _. ⌜ now (out .exit) ≡ recordOf (ruleFor first) (columnsOf (sizeOf first) (now (weights .entry)) (now (costs .entry))) ⌝ }
@@ -177,7 +179,7 @@ pub fn record_in(first: u8, weights: &[u8], costs: &[u8], out: &mut [u8])
     let mut cells = [0u16; 256];
     let mut before = [0u16; 8192];
     let mut after = [0u16; 8192];
-    let mut sent = [0u8; 2048];
+    let mut sent = [0u8; sizes::MOST_EXPANSION];
     record_room(
         first,
         weights,

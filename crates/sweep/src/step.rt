@@ -8,7 +8,7 @@ ghost use lib.ListN.{length, getD, set};
 ghost use Rattle.trellis.specs.Lists.{tab};
 ghost use Rattle.trellis.specs.Field.{xor};
 ghost use Rattle.trellis.specs.Sweep.{mark};
-ghost use Rattle.sweep.specs.inner.Cells.{Sums, Steps, moveCost, deviationAt, layers, countAt, stepCells};
+ghost use Rattle.sweep.specs.inner.Cells.{Sums, Steps, moveCost, deviationAt, layers, countCells, stepCells};
 
 // The cheapest deviation of the column that leads to sum t, from the costs of one deviation fewer.
 fn deviation_at(row: &[u8], moves: &[u16], low: &[u16], t: usize, greatest: bool) -> u32
@@ -107,7 +107,7 @@ fn count(
     requires { ⌜ Steps (now row) (now moves) ⌝ }
     requires { ⌜ (length (now row) ≡ q) × (s < q) ⌝ }
     requires { ⌜ (j * q + q ≤ length (now cells)) × (length (now out) ≡ q) ⌝ }
-    ensures { λ _. ⌜ now (out .exit) ≡ countAt greatest q (now (row .entry)) (now (moves .entry)) (now (cells .entry)) s j ⌝ }
+    ensures { λ _. ⌜ now (out .exit) ≡ countCells greatest q (now (row .entry)) (now (moves .entry)) (now (cells .entry)) s j ⌝ }
 {
     if j == 0 {
         kept(&cells[..q], s, out);

@@ -14,9 +14,9 @@ use Rattle.trellis.specs.Lists.{tab}
 use Rattle.trellis.specs.Field.{xor}
 use Rattle.trellis.proofs.Xor.{xor-assoc, xor-lt, xor-right}
 use Rattle.trellis.proofs.Loops.{length-tab, getD-tab, tab-ext}
-use Rattle.engine.specs.inner.Rests.{meetOf, across}
+use Rattle.engine.specs.inner.Rests.{meetOf, joinedAt}
 use Rattle.engine.proofs.RestGroups.{most-ext}
-use Rattle.tables.specs.inner.Lanes.{Flips, Doubled, Copied, cut, taken, rowAt, joinAt}
+use Rattle.tables.specs.inner.Lanes.{Flips, Doubled, Copied, cut, taken, rowAt, joinTo}
 use Rattle.tables.specs.inner.Tables.{Table, risenAt}
 use Rattle.tables.proofs.Blocks.{align}
 use Rattle.tables.proofs.Flipping.{flips-small, flip-lane}
@@ -163,8 +163,8 @@ module _ (g : Bool) (q l : ℕ) (u w s e : List ℕ) (W : Table l) (C : Copied (
       let z = align X y (omega arith) (omega arith) in
       ap (λ v. cut g v (taken g (getD u c 0))) (C .at y (xor a X) m (table-xor l a X W h b) ∙ ap (λ y. getD w y 0) (xor-assoc a X y ∙ ap (xor a) (z ∙ sym t))) ∙ cut-meet (getD w (xor a c) 0) (getD u c 0)
 
-  pub join-across : (a : ℕ) → a < l → joinAt g u s l e q a ≡ max (getD e a 0) (across (meetOf g) q (λ x. getD w x 0) (λ b. getD u b 0) a)
-  unfolding joinAt across
+  pub join-across : (a : ℕ) → a < l → joinTo g u s l e q a ≡ max (getD e a 0) (joinedAt (meetOf g) q (λ x. getD w x 0) (λ b. getD u b 0) a)
+  unfolding joinTo joinedAt
   join-across a h = ap (max (getD e a 0)) (most-ext (rowAt g u s l a) _ q (λ c k. row-meets a c h k))
 
 pub twice-room : (f l : ℕ) → Flips f → Table l → (f * l % 16 ≡ 0) × ((f * l + f * l ≤ 16 * l) × (16 * l ≤ 65536))
@@ -180,6 +180,6 @@ pub take-room : (l : ℕ) (s : List ℕ) → length s ≡ 16 * l → length (tak
 take-room l s e = length-take l s ∙ omega arith
 
 -- copies, then the join
-pub rise-is : (g : Bool) (q l : ℕ) (u low s top : List ℕ) {r : List ℕ} → Table l → q ≤ l → Copied (min 16 q) l low s → r ≡ tab (joinAt g u s l top q) l → r ≡ tab (risenAt g q u low top) l
+pub rise-is : (g : Bool) (q l : ℕ) (u low s top : List ℕ) {r : List ℕ} → Table l → q ≤ l → Copied (min 16 q) l low s → r ≡ tab (joinTo g u s l top q) l → r ≡ tab (risenAt g q u low top) l
 unfolding risenAt
 rise-is g q l u low s top W h C o = o ∙ tab-ext _ _ l (λ a k. join-across g q l u low s top W C h a k)

@@ -9,14 +9,14 @@ use Rattle.trellis.proofs.Loops.{length-tab, tab-ext}
 use native.Mathlib.Omega.{arith}
 use lib.ListN.{length, drop, take, getD, length-append, length-take, length-drop, drop-of-length-le}
 use Rattle.trellis.specs.Lists.{tab, blocks, part, patch}
-use Rattle.tables.specs.inner.Lanes.{Copied, joinAt}
+use Rattle.tables.specs.inner.Lanes.{Copied, joinTo}
 use Rattle.tables.specs.inner.Tables.{Table, risenAt, risenIn, grownAt, grownList, afterTo}
 use Rattle.tables.proofs.Copying.{rise-is, mul-even}
 use Rattle.tables.proofs.Parts.{past-first, part-front, part-twice, take-front, take-twice, blocks-length, blocks-drop, part-of, patch-turn, fill-end}
 
 -- table j with a column taken in, by copies and a join
 pub rise-in-is : (g : Bool) (q l k : ℕ) (line d s : List ℕ) (j m n : ℕ) {r : List ℕ} → 1 ≤ j → m ≡ j * l → n ≡ m + l → Table l → q ≤ l
-    → Copied (min 16 q) l (take (m - (m - l)) (drop (m - l) d)) s → r ≡ tab (joinAt g line s l (take (n - m) (drop m d)) q) l
+    → Copied (min 16 q) l (take (m - (m - l)) (drop (m - l) d)) s → r ≡ tab (joinTo g line s l (take (n - m) (drop m d)) q) l
     → take m d ++ (r ++ drop (n - m) (drop m d)) ≡ risenIn g q l k line d j
 unfolding risenIn
 rise-in-is g q l k line d s j m n {r} h em en W w C o =

@@ -15,7 +15,7 @@ use Rattle.trellis.specs.Check.{Rule, Column, column, sentAt}
 use Rattle.trellis.proofs.Xor.{xor-lt}
 use Rattle.trellis.proofs.Loops.{length-tab, getD-tab}
 use Rattle.trellis.proofs.Sent.{Proper}
-use Rattle.engine.specs.inner.Rests.{mostTo, meetOf, across, grown, between, rest, lineAt}
+use Rattle.engine.specs.inner.Rests.{mostTo, meetOf, joinedAt, grown, between, rest, lineAt}
 use Rattle.engine.proofs.BestRests.{Meets}
 use Rattle.engine.proofs.RestGroups.{most-ext}
 use Rattle.engine.proofs.RestTables.{before-more, after-more, before-first, after-last, sent-between, sent-first, sent-last}
@@ -37,12 +37,12 @@ module _ (g : Bool) (q l p : ℕ) (power : q ≡ 2 ^ p) (within : q ≤ l) where
   small : (a b : ℕ) → a < q → b < q → xor a b < q
   small a b h k = rw power (xor-lt p a b (rw power at h) (rw power at k))
 
-  across-same : (f f' h h' : ℕ → ℕ) → ((a : ℕ) → a < q → f a ≡ f' a) → ((a : ℕ) → a < q → h a ≡ h' a) → (a : ℕ) → a < q → across (meetOf g) q f h a ≡ across (meetOf g) q f' h' a
-  unfolding across
+  across-same : (f f' h h' : ℕ → ℕ) → ((a : ℕ) → a < q → f a ≡ f' a) → ((a : ℕ) → a < q → h a ≡ h' a) → (a : ℕ) → a < q → joinedAt (meetOf g) q f h a ≡ joinedAt (meetOf g) q f' h' a
+  unfolding joinedAt
   across-same f f' h h' e i a k = most-ext _ _ q (λ b m. ap₂ (meetOf g) (e (xor a b) (small a b k m)) (i b m))
 
   -- the rows of u joined with a table
-  pub risen-is : (u low top : List ℕ) (h f t : ℕ → ℕ) → Has q h u → Has q f low → Has q t top → (a : ℕ) → a < q → risenAt g q u low top a ≡ max (t a) (across (meetOf g) q f h a)
+  pub risen-is : (u low top : List ℕ) (h f t : ℕ → ℕ) → Has q h u → Has q f low → Has q t top → (a : ℕ) → a < q → risenAt g q u low top a ≡ max (t a) (joinedAt (meetOf g) q f h a)
   unfolding risenAt
   risen-is u low top h f t U L T a k = ap₂ max (T .at a k) (across-same (λ x. getD low x 0) f (λ b. getD u b 0) h (L .at) (U .at) a k)
 
@@ -88,7 +88,7 @@ table-has q l k within d e D j m = record { at = λ x i. part-is d (j * l) l x (
 -- S from the tables before and after
 module _ (g : Bool) (q l p : ℕ) (power : q ≡ 2 ^ p) (within : q ≤ l) (k : ℕ) (some : 2 ≤ k) (before after : List ℕ) (f h : ℕ → ℕ → ℕ) (B : Holds q l k f before) (A : Holds q l k h after) where
   abbrev Middle : ℕ → ℕ → ℕ
-  Middle a = λ i. across (meetOf g) q (f (k - suc i)) (h (suc i)) a
+  Middle a = λ i. joinedAt (meetOf g) q (f (k - suc i)) (h (suc i)) a
 
   table-row : (d : List ℕ) (e : ℕ → ℕ → ℕ) → Holds q l k e d → (j : ℕ) → j < k → Has q (e (suc j)) (part d (j * l) l)
   table-row = table-has q l k within

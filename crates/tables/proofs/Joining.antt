@@ -11,7 +11,7 @@ use Rattle.trellis.specs.Field.{xor}
 use Rattle.trellis.proofs.Loops.{getD-tab, tab-ext}
 use Rattle.engine.specs.inner.Rests.{mostTo}
 use Rattle.tables.specs.declared.rests.Four.{Four}
-use Rattle.tables.specs.inner.Lanes.{cut, taken, Wide, fourAt, fourOf, rowAt, joinAt}
+use Rattle.tables.specs.inner.Lanes.{cut, taken, Wide, fourAt, fourOf, rowAt, joinTo}
 use Rattle.tables.specs.inner.Tables.{Shaped}
 use Rattle.blocks.proofs.Turns.{list-tab}
 
@@ -36,7 +36,7 @@ four-max d m p q r s = one (max d m) p q r s ∙ two d m p q r s
     two d m p q r s =
         sym (assoc d (max (max (max m p) q) r) s ∙ ap (λ y. max y s) (assoc d (max (max m p) q) r ∙ ap (λ y. max y r) (assoc d (max m p) q ∙ ap (λ y. max y q) (assoc d m p))))
 
-module _ (g : Bool) (u s : List ℕ) (l : ℕ) (d out : List ℕ) (b : ℕ) (four : b % 4 ≡ 0) (filled : out ≡ tab (joinAt g u s l d b) l) where
+module _ (g : Bool) (u s : List ℕ) (l : ℕ) (d out : List ℕ) (b : ℕ) (four : b % 4 ≡ 0) (filled : out ≡ tab (joinTo g u s l d b) l) where
   row-is : (a m x : ℕ) → m < 4 → x ≡ taken g (getD u (b + m) 0) → cut g (getD s (b % 16 * l + xor a (b / 16 * 16) + m * l) 0) x ≡ rowAt g u s l a (b + m)
   row-is a m x h e =
       let p : (b + m) % 16 ≡ b % 16 + m = omega arith in
@@ -50,8 +50,8 @@ module _ (g : Bool) (u s : List ℕ) (l : ℕ) (d out : List ℕ) (b : ℕ) (fou
       plus x (suc m) = let e : x + suc m ≡ suc (x + m) = omega arith in rw e (omega (arith, suc-mul (x + m) l, suc-mul m l, plus x m))
 
   pub join-turn : (f : Four) {r : List ℕ} (at turn : ℕ) → f ≡ fourOf g u b → at ≡ b % 16 * l → turn ≡ b / 16 * 16 → r ≡ tab (fourAt f s at turn l out) l
-      → r ≡ tab (joinAt g u s l d (b + 4)) l
-  unfolding fourAt joinAt
+      → r ≡ tab (joinTo g u s l d (b + 4)) l
+  unfolding fourAt joinTo
   join-turn f {r} at turn ef ea et o =
       o ∙ ap (λ f. tab (fourAt f s at turn l out) l) ef ∙ rw (ea, et) (tab-ext _ _ l (λ a h.
       let e : getD out a 0 ≡ max (getD d a 0) (mostTo (rowAt g u s l a) b) = ap (λ y. getD y a 0) filled ∙ getD-tab _ l a h in
@@ -71,8 +71,8 @@ module _ (g : Bool) (u s : List ℕ) (l : ℕ) (d out : List ℕ) (b : ℕ) (fou
       ∙ four-max (getD d a 0) (mostTo (rowAt g u s l a) b) (rowAt g u s l a b) (rowAt g u s l a (b + 1)) (rowAt g u s l a (b + 2)) (rowAt g u s l a (b + 3))
       ∙ rw (n1, n2, n3, n4)))
 
-pub join-none : (g : Bool) (u s : List ℕ) (l : ℕ) (d : List ℕ) → length d ≡ l → d ≡ tab (joinAt g u s l d 0) l
-unfolding joinAt
+pub join-none : (g : Bool) (u s : List ℕ) (l : ℕ) (d : List ℕ) → length d ≡ l → d ≡ tab (joinTo g u s l d 0) l
+unfolding joinTo
 join-none g u s l d e = sym (list-tab d) ∙ ap (tab (λ i. getD d i 0)) e ∙ tab-ext _ _ l (λ a h. let q : getD d a 0 ≡ max (getD d a 0) 0 = omega arith in q)
 
 pub wide-of : (q l k b : ℕ) → Shaped q l k → b < q → Wide l (b / 16 * 16)
@@ -87,5 +87,5 @@ copies-room q l n e = let m : min 16 q ≤ 16 = omega arith in omega (arith, mul
 pub wide-16 : Wide 16 0
 wide-16 = record { bits = 4; power = refl; least = omega arith; most = omega arith; even = refl; inside = omega arith }
 
-pub join-16 : (g : Bool) (q l : ℕ) (u s e : List ℕ) {r : List ℕ} → l ≡ 16 → r ≡ tab (joinAt g u s 16 e q) 16 → r ≡ tab (joinAt g u s l e q) l
+pub join-16 : (g : Bool) (q l : ℕ) (u s e : List ℕ) {r : List ℕ} → l ≡ 16 → r ≡ tab (joinTo g u s 16 e q) 16 → r ≡ tab (joinTo g u s l e q) l
 join-16 g q l u s e h o = rw h o

@@ -22,14 +22,14 @@ use Rattle.tables.proofs.Passing.{row-length}
 use Rattle.tables.proofs.Holding.{part-is, row-has}
 
 -- such a rule
-pub record Fits (p k : ℕ) (greatest : Bool) (R : Rule) : Type 0 where
+pub record RuleFits (p k : ℕ) (greatest : Bool) (R : Rule) : Type 0 where
   pub size : R .size ≡ 2 ^ p
   pub join : R .join ≡ joinOf greatest
   pub most : R .most ≡ k
 
 -- what is asked of a call: its rule and degree are in range, the slices long enough, the check an accepted one
-pub record Asked (p k d : ℕ) (greatest : Bool) (R : Rule) (cs : List Column) : Type 0 where
-  pub rule : Fits p k greatest R
+pub record CallRoom (p k d : ℕ) (greatest : Bool) (R : Rule) (cs : List Column) : Type 0 where
+  pub rule : RuleFits p k greatest R
   pub degree : d ≡ length cs
   pub range : inRange p k d ≡ true
   pub proper : Proper R cs
@@ -37,7 +37,7 @@ pub record Asked (p k d : ℕ) (greatest : Bool) (R : Rule) (cs : List Column) :
 abbrev pub ruleWith : ℕ → (ℕ → ℕ → ℕ) → Bool → ℕ → Rule
 ruleWith p times greatest k = record { size = 2 ^ p; times = times; join = joinOf greatest; most = k }
 
-pub rule-is : (p k : ℕ) (greatest : Bool) (R : Rule) → Fits p k greatest R → R ≡ ruleWith p (R .times) greatest k
+pub rule-is : (p k : ℕ) (greatest : Bool) (R : Rule) → RuleFits p k greatest R → R ≡ ruleWith p (R .times) greatest k
 rule-is p k greatest R F =
     ap (λ x. record { size = x; times = R .times; join = R .join; most = R .most }) (F .size)
     ∙ ap (λ x. record { size = 2 ^ p; times = R .times; join = x; most = R .most }) (F .join)
@@ -77,7 +77,7 @@ module _ (p k d : ℕ) (greatest : Bool) (times : ℕ → ℕ → ℕ) (cs : Lis
       }) n i .at a j)
 
 -- `sent`: where row a of line n is the rest of column n's symbol in row a, row a of row n of the result is the rest of the cost sent to column n at a
-pub sent-means : (p k d : ℕ) (greatest : Bool) (R : Rule) (cs : List Column) → Asked p k d greatest R cs
+pub sent-means : (p k d : ℕ) (greatest : Bool) (R : Rule) (cs : List Column) → CallRoom p k d greatest R cs
     → (lines out : List ℕ) → d * side p ≤ length lines → d * side p ≤ length out
     → ((n a : ℕ) → n < d → a < 2 ^ p → getD lines (n * side p + a) 0 ≡ lineAt R (column cs n) a)
     → (n a : ℕ) → n < d → a < 2 ^ p → getD (sentLeaves p k greatest d lines out) (n * side p + a) 0 ≡ 255 - sentAt R cs n a

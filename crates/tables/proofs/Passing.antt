@@ -10,7 +10,7 @@ use lib.Dec.{eqb}
 use lib.ListN.{length, drop, take, getD, length-take, length-drop}
 use Rattle.trellis.specs.Lists.{pick, tab, blocks, part}
 use Rattle.trellis.proofs.Loops.{length-tab}
-use Rattle.tables.specs.inner.Lanes.{Copied, joinAt}
+use Rattle.tables.specs.inner.Lanes.{Copied, joinTo}
 use Rattle.tables.specs.inner.Tables.{Table, risenAt, metIn, grownAt, grownList, afterTo, beforeTo, lastTable, sentTo, sentRow, sentRows}
 use Rattle.tables.proofs.Copying.{rise-is}
 use Rattle.tables.proofs.Parts.{past-first, part-of, blocks-length, blocks-part}
@@ -26,7 +26,7 @@ apart-is g q l k before after t n {o} {r} et en eo lo er =
 
 -- some deviations on either side, by copies and a join
 pub met-is : (g : Bool) (q l k : ℕ) (before after out s : List ℕ) (j m a b : ℕ) {r : List ℕ} → 1 ≤ j → m ≡ j * l → a ≡ (k - 1 - j) * l → b ≡ a + l → Table l → q ≤ l
-    → Copied (min 16 q) l (take (m - (m - l)) (drop (m - l) before)) s → r ≡ tab (joinAt g (take (b - a) (drop a after)) s l out q) l
+    → Copied (min 16 q) l (take (m - (m - l)) (drop (m - l) before)) s → r ≡ tab (joinTo g (take (b - a) (drop a after)) s l out q) l
     → r ≡ metIn g q l k before after out j
 unfolding metIn
 met-is g q l k before after out s j m a b h em ea eb W w C o =

@@ -32,8 +32,8 @@ pub size-room : (d l : ℕ) → d ≤ 32 → l ≤ 64 → d * l ≤ 2048
 size-room d l h m = omega (arith, mul-le-mul-right l h)
 
 -- a shift of 1 by p
-pub power : (p : ℕ) → p ≤ 6 → 1 * 2 ^ p % 18446744073709551616 ≡ 2 ^ p
-power p h = rw one-mul (mod-eq-of-lt (pow-lt {j = 64} (omega arith)))
+pub index-power : (p : ℕ) → p ≤ 6 → 1 * 2 ^ p % 18446744073709551616 ≡ 2 ^ p
+index-power p h = rw one-mul (mod-eq-of-lt (pow-lt {j = 64} (omega arith)))
 
 -- the shape for p and k
 pub shaped-for : (p k : ℕ) → 2 ≤ p → p ≤ 6 → 2 ≤ k → k ≤ 3 → Shaped (2 ^ p) (side p) k × (4 ≤ 2 ^ p)
@@ -84,7 +84,7 @@ module _ (p k d : ℕ) where
 pub shape-is : (p k : ℕ) (greatest : Bool) {q l : ℕ} → 2 ≤ p → p ≤ 6 → 2 ≤ k → k ≤ 3 → q ≡ 1 * 2 ^ p % 18446744073709551616 → l ≡ max 16 q
     → let S : Shape = record { q = q; l = l; k = k; greatest = greatest } in (S ≡ shapeFor p k greatest) × (Shaped q l k × (4 ≤ q))
 shape-is p k greatest {q} {l} a b c d eq el =
-    let u : q ≡ 2 ^ p = eq ∙ power p b in
+    let u : q ≡ 2 ^ p = eq ∙ index-power p b in
     let v : l ≡ side p = el ∙ ap (max 16) u in
     (ap₂ {C = Shape} (λ x y. record { q = x; l = y; k = k; greatest = greatest }) u v, rw (v, u) (shaped-for p k a b c d))
 

@@ -6,6 +6,7 @@ use Prim.Native.Nat.{ℕ, _+_, _-_, _*_, _^_, max}
 use lib.Dec.{leb}
 use lib.ListN.{length, take, drop}
 use Rattle.trellis.specs.Lists.{pick}
+use Rattle.trellis.specs.Sizes.{mostDegree}
 use Rattle.tables.specs.declared.layout.Shape.{Shape}
 use Rattle.tables.specs.inner.Tables.{sentRows}
 
@@ -18,7 +19,7 @@ shapeFor p k greatest = record { q = 2 ^ p; l = side p; k = k; greatest = greate
 
 -- p from 2 to 6, k from 2 to 3, d from 2 to 32
 unfoldable pub inRange : ℕ → ℕ → ℕ → Bool
-inRange p k d = leb 2 p && (leb p 6 && (leb 2 k && (leb k 3 && (leb 2 d && leb d 32))))
+inRange p k d = leb 2 p && (leb p 6 && (leb 2 k && (leb k 3 && (leb 2 d && leb d mostDegree))))
 
 -- d lines, and room for d rows
 unfoldable pub sentFits : ℕ → ℕ → ℕ → List ℕ → List ℕ → Bool

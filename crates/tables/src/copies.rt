@@ -167,14 +167,14 @@ fn twice8(l: usize, s: &mut [u8])
 }
 
 // The copies that q rows need: sixteen, or as many as there are rows.
-pub fn copies(shape: Shape, w: &[u8], s: &mut [u8])
+pub fn copies(shape: Shape, table: &[u8], s: &mut [u8])
     requires { ⌜ Shaped (shape .q) (shape .l) (shape .k) ⌝ }
-    requires { ⌜ (length (now w) ≡ shape .l) × (length (now s) ≡ 16 * shape .l) ⌝ }
-    ensures { λ _. ⌜ Copied (min 16 (shape .q)) (shape .l) (now (w .entry)) (now (s .exit)) ⌝ }
+    requires { ⌜ (length (now table) ≡ shape .l) × (length (now s) ≡ 16 * shape .l) ⌝ }
+    ensures { λ _. ⌜ Copied (min 16 (shape .q)) (shape .l) (now (table .entry)) (now (s .exit)) ⌝ }
 {
     let q = shape.q;
     let l = shape.l;
-    blocks::copy(w, &mut s[..l]);
+    blocks::copy(table, &mut s[..l]);
     twice1(l, s);
     twice2(l, s);
     if q <= 4 {

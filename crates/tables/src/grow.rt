@@ -7,43 +7,44 @@ ghost use mathlib.Core.Path.{_≡_};
 ghost use Prim.Native.Nat.{_+_, _-_, _*_, _%_, _≤_, _<_};
 ghost use lib.ListN.{length};
 ghost use Rattle.trellis.specs.Lists.{blocks, part, patch};
+ghost use Rattle.trellis.specs.Sizes.{mostDegree};
 ghost use Rattle.tables.specs.inner.Tables.{Shaped, on, risenIn, grownList, afterTo};
 
-// Table j of d, from table j - 1 and the line. c is room for copies.
-fn rise(shape: Shape, line: &[u8], j: usize, d: &mut [u8], c: &mut [u8])
+// Table j of table, from table j - 1 and the line. c is room for copies.
+fn rise(shape: Shape, line: &[u8], j: usize, table: &mut [u8], c: &mut [u8])
     requires { ⌜ Shaped (shape .q) (shape .l) (shape .k) ⌝ }
     requires { ⌜ (length (now line) ≡ shape .l) × (length (now c) ≡ 16 * shape .l) ⌝ }
-    requires { ⌜ ((1 ≤ j) × (j < shape .k)) × (length (now d) ≡ shape .k * shape .l) ⌝ }
-    ensures { λ _. ⌜ now (d .exit) ≡ on shape risenIn (now (line .entry)) (now (d .entry)) j ⌝ }
+    requires { ⌜ ((1 ≤ j) × (j < shape .k)) × (length (now table) ≡ shape .k * shape .l) ⌝ }
+    ensures { λ _. ⌜ now (table .exit) ≡ on shape risenIn (now (line .entry)) (now (table .entry)) j ⌝ }
 {
     let l = shape.l;
     let m = layout::part_at(j, shape.k, l);
     let n = m + l;
-    copies::copies(shape, &d[m - l..m], c);
-    join::join(shape, line, c, &mut d[m..n]);
+    copies::copies(shape, &table[m - l..m], c);
+    join::join(shape, line, c, &mut table[m..n]);
 }
 
 // One column more, from the last table to the first, so that each is still as it was where the next one takes it.
-fn grow(shape: Shape, line: &[u8], d: &mut [u8], c: &mut [u8])
+fn grow(shape: Shape, line: &[u8], table: &mut [u8], c: &mut [u8])
     requires { ⌜ Shaped (shape .q) (shape .l) (shape .k) ⌝ }
     requires { ⌜ (length (now line) ≡ shape .l) × (length (now c) ≡ 16 * shape .l) ⌝ }
-    requires { ⌜ length (now d) ≡ shape .k * shape .l ⌝ }
-    ensures { λ _. ⌜ now (d .exit) ≡ on shape grownList (now (line .entry)) (now (d .entry)) ⌝ }
+    requires { ⌜ length (now table) ≡ shape .k * shape .l ⌝ }
+    ensures { λ _. ⌜ now (table .exit) ≡ on shape grownList (now (line .entry)) (now (table .entry)) ⌝ }
 {
     let l = shape.l;
     let mut j = shape.k - 1;
     while 0 < j {
-        rise(shape, line, j, d, c);
+        rise(shape, line, j, table, c);
         j -= 1;
     }
-    blocks::raise(line, &mut d[..l]);
+    blocks::raise(line, &mut table[..l]);
 }
 
 // The tables over one column: its line, k times.
-pub fn begin(shape: Shape, line: &[u8], d: &mut [u8])
+pub fn begin(shape: Shape, line: &[u8], table: &mut [u8])
     requires { ⌜ Shaped (shape .q) (shape .l) (shape .k) ⌝ }
-    requires { ⌜ (length (now line) ≡ shape .l) × (length (now d) ≡ shape .k * shape .l) ⌝ }
-    ensures { λ _. ⌜ now (d .exit) ≡ blocks (λ _. now (line .entry)) (shape .k) ⌝ }
+    requires { ⌜ (length (now line) ≡ shape .l) × (length (now table) ≡ shape .k * shape .l) ⌝ }
+    ensures { λ _. ⌜ now (table .exit) ≡ blocks (λ _. now (line .entry)) (shape .k) ⌝ }
 {
     let k = shape.k;
     let l = shape.l;
@@ -51,7 +52,7 @@ pub fn begin(shape: Shape, line: &[u8], d: &mut [u8])
     while j < k {
         let a = layout::part_at(j, k, l);
         let b = a + l;
-        blocks::copy(line, &mut d[a..b]);
+        blocks::copy(line, &mut table[a..b]);
         j += 1;
     }
 }
@@ -59,7 +60,7 @@ pub fn begin(shape: Shape, line: &[u8], d: &mut [u8])
 // The tables take line n of d in.
 fn take_in(shape: Shape, d: usize, n: usize, lines: &[u8], table: &mut [u8], c: &mut [u8])
     requires { ⌜ Shaped (shape .q) (shape .l) (shape .k) ⌝ }
-    requires { ⌜ ((n < d) × (d ≤ 32)) × ((length (now lines) ≡ d * shape .l) × (length (now c) ≡ 16 * shape .l)) ⌝ }
+    requires { ⌜ ((n < d) × (d ≤ mostDegree)) × ((length (now lines) ≡ d * shape .l) × (length (now c) ≡ 16 * shape .l)) ⌝ }
     requires { ⌜ length (now table) ≡ shape .k * shape .l ⌝ }
     ensures { λ _. ⌜ now (table .exit) ≡ on shape grownList (part (now (lines .entry)) (n * shape .l) (shape .l)) (now (table .entry)) ⌝ }
 {
@@ -71,7 +72,7 @@ fn take_in(shape: Shape, d: usize, n: usize, lines: &[u8], table: &mut [u8], c: 
 
 // The tables kept as block i of n.
 fn keep(table: &[u8], i: usize, n: usize, kept: &mut [u8])
-    requires { ⌜ ((i < n) × (n ≤ 32)) × ((length (now table) ≤ 192) × (length (now table) % 16 ≡ 0)) ⌝ }
+    requires { ⌜ ((i < n) × (n ≤ mostDegree)) × ((length (now table) ≤ 192) × (length (now table) % 16 ≡ 0)) ⌝ }
     requires { ⌜ length (now kept) ≡ n * length (now table) ⌝ }
     ensures { λ _. ⌜
         now (kept .exit)
@@ -86,7 +87,7 @@ fn keep(table: &[u8], i: usize, n: usize, kept: &mut [u8])
 // The tables over the last column.
 fn after_first(shape: Shape, d: usize, lines: &[u8], table: &mut [u8])
     requires { ⌜ Shaped (shape .q) (shape .l) (shape .k) ⌝ }
-    requires { ⌜ ((2 ≤ d) × (d ≤ 32)) × ((length (now lines) ≡ d * shape .l) × (length (now table) ≡ shape .k * shape .l)) ⌝ }
+    requires { ⌜ ((2 ≤ d) × (d ≤ mostDegree)) × ((length (now lines) ≡ d * shape .l) × (length (now table) ≡ shape .k * shape .l)) ⌝ }
     ensures { λ _. ⌜ now (table .exit) ≡ on shape afterTo (now (lines .entry)) d 0 ⌝ }
 {
     let l = shape.l;
@@ -105,7 +106,7 @@ pub fn after_all(
     after: &mut [u8],
 )
     requires { ⌜ Shaped (shape .q) (shape .l) (shape .k) ⌝ }
-    requires { ⌜ ((2 ≤ d) × (d ≤ 32)) × ((length (now lines) ≡ d * shape .l) × (length (now c) ≡ 16 * shape .l)) ⌝ }
+    requires { ⌜ ((2 ≤ d) × (d ≤ mostDegree)) × ((length (now lines) ≡ d * shape .l) × (length (now c) ≡ 16 * shape .l)) ⌝ }
     requires { ⌜ (length (now table) ≡ shape .k * shape .l) × (length (now after) ≡ (d - 1) * (shape .k * shape .l)) ⌝ }
     ensures { λ _. ⌜ now (after .exit) ≡ blocks (on shape afterTo (now (lines .entry)) d) (d - 1) ⌝ }
 {

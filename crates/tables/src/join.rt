@@ -8,7 +8,7 @@ ghost use Prim.Native.Nat.{_+_, _*_, _/_, _%_, _≤_, _<_, min};
 ghost use lib.ListN.{length};
 ghost use Rattle.trellis.specs.Field.{xor};
 ghost use Rattle.trellis.specs.Lists.{tab};
-ghost use Rattle.tables.specs.inner.Lanes.{Wide, fourAt, fourOf, joinAt};
+ghost use Rattle.tables.specs.inner.Lanes.{Wide, fourAt, fourOf, joinTo};
 ghost use Rattle.tables.specs.inner.Tables.{Shaped};
 
 // Where the copy of the block from v on starts.
@@ -66,7 +66,7 @@ fn four_of(greatest: bool, u: &[u8], b: usize) -> Four
 fn one_block(greatest: bool, q: usize, u: &[u8], s: &[u8], e: &mut [u8])
     requires { ⌜ (q % 4 ≡ 0) × (q ≤ 16) ⌝ }
     requires { ⌜ (length (now u) ≡ 16) × ((length (now s) ≡ 256) × (length (now e) ≡ 16)) ⌝ }
-    ensures { λ _. ⌜ now (e .exit) ≡ tab (joinAt greatest (now (u .entry)) (now (s .entry)) 16 (now (e .entry)) q) 16 ⌝ }
+    ensures { λ _. ⌜ now (e .exit) ≡ tab (joinTo greatest (now (u .entry)) (now (s .entry)) 16 (now (e .entry)) q) 16 ⌝ }
 {
     let mut b = 0;
     while b < q {
@@ -83,7 +83,7 @@ fn all_blocks(shape: Shape, u: &[u8], s: &[u8], e: &mut [u8])
     requires { ⌜ (length (now u) ≡ shape .l) × ((length (now s) ≡ 16 * shape .l) × (length (now e) ≡ shape .l)) ⌝ }
     ensures { λ _. ⌜
         now (e .exit)
-        ≡ tab (joinAt (shape .greatest) (now (u .entry)) (now (s .entry)) (shape .l) (now (e .entry)) (shape .q)) (shape .l) ⌝ }
+        ≡ tab (joinTo (shape .greatest) (now (u .entry)) (now (s .entry)) (shape .l) (now (e .entry)) (shape .q)) (shape .l) ⌝ }
 {
     let q = shape.q;
     let l = shape.l;
@@ -102,7 +102,7 @@ pub fn join(shape: Shape, u: &[u8], s: &[u8], e: &mut [u8])
     requires { ⌜ (length (now u) ≡ shape .l) × ((length (now s) ≡ 16 * shape .l) × (length (now e) ≡ shape .l)) ⌝ }
     ensures { λ _. ⌜
         now (e .exit)
-        ≡ tab (joinAt (shape .greatest) (now (u .entry)) (now (s .entry)) (shape .l) (now (e .entry)) (shape .q)) (shape .l) ⌝ }
+        ≡ tab (joinTo (shape .greatest) (now (u .entry)) (now (s .entry)) (shape .l) (now (e .entry)) (shape .q)) (shape .l) ⌝ }
 {
     if shape.l == 16 {
         one_block(shape.greatest, shape.q, u, s, e);

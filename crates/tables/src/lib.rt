@@ -9,6 +9,7 @@ mod rows;
 
 use crate::layout::Shape;
 use rules::Rule;
+use scalar::sizes;
 ghost use mathlib.Core.Path.{_≡_};
 ghost use Prim.Native.Nat.{_^_, _≤_};
 ghost use Rattle.tables.specs.inner.Tables.{Shaped};
@@ -33,7 +34,7 @@ pub fn fits(rule: Rule, d: usize) -> bool
     if d < 2 {
         return false;
     }
-    d <= 32
+    d <= sizes::MOST_DEGREE
 }
 
 // The shape of the tables: at least sixteen rows, for that many are taken at a time.

@@ -8,6 +8,7 @@ ghost use mathlib.Core.Path.{_≡_};
 ghost use Prim.Native.Nat.{_+_, _-_, _*_, _≤_, _<_};
 ghost use lib.ListN.{length};
 ghost use Rattle.trellis.specs.Lists.{blocks, part, patch};
+ghost use Rattle.trellis.specs.Sizes.{mostDegree};
 ghost use Rattle.tables.specs.inner.Tables.{Shaped, on, risenIn, metIn, grownList, afterTo, beforeTo, lastTable, sentTo, sentRows};
 
 // Both last tables: all deviations before the column, or all after it.
@@ -81,7 +82,7 @@ fn pass_at(
     out: &mut [u8],
 )
     requires { ⌜ Shaped (shape .q) (shape .l) (shape .k) ⌝ }
-    requires { ⌜ ((1 ≤ n) × (n + 1 < d)) × ((d ≤ 32) × (length (now lines) ≡ d * shape .l)) ⌝ }
+    requires { ⌜ ((1 ≤ n) × (n + 1 < d)) × ((d ≤ mostDegree) × (length (now lines) ≡ d * shape .l)) ⌝ }
     requires { ⌜ (length (now before) ≡ shape .k * shape .l) × (length (now after) ≡ (d - 1) * (shape .k * shape .l)) ⌝ }
     requires { ⌜ (length (now c) ≡ 16 * shape .l) × (length (now out) ≡ d * shape .l) ⌝ }
     ensures { λ _. ⌜
@@ -104,7 +105,7 @@ fn pass_at(
 // The last of k tables as row n of d.
 fn end(shape: Shape, d: usize, n: usize, tables: &[u8], out: &mut [u8])
     requires { ⌜ Shaped (shape .q) (shape .l) (shape .k) ⌝ }
-    requires { ⌜ ((n < d) × (d ≤ 32)) × ((length (now tables) ≡ shape .k * shape .l) × (length (now out) ≡ d * shape .l)) ⌝ }
+    requires { ⌜ ((n < d) × (d ≤ mostDegree)) × ((length (now tables) ≡ shape .k * shape .l) × (length (now out) ≡ d * shape .l)) ⌝ }
     ensures { λ _. ⌜
         now (out .exit) ≡ patch (now (out .entry)) (n * shape .l) (shape .l) (lastTable (shape .l) (shape .k) (now (tables .entry))) ⌝ }
 {
@@ -119,7 +120,7 @@ fn end(shape: Shape, d: usize, n: usize, tables: &[u8], out: &mut [u8])
 // The first row, which has no column before it, and the tables over the first column.
 fn first(shape: Shape, d: usize, lines: &[u8], after: &[u8], before: &mut [u8], out: &mut [u8])
     requires { ⌜ Shaped (shape .q) (shape .l) (shape .k) ⌝ }
-    requires { ⌜ ((2 ≤ d) × (d ≤ 32)) × ((length (now lines) ≡ d * shape .l) × (length (now out) ≡ d * shape .l)) ⌝ }
+    requires { ⌜ ((2 ≤ d) × (d ≤ mostDegree)) × ((length (now lines) ≡ d * shape .l) × (length (now out) ≡ d * shape .l)) ⌝ }
     requires { ⌜ (length (now before) ≡ shape .k * shape .l) × (length (now after) ≡ (d - 1) * (shape .k * shape .l)) ⌝ }
     ensures { λ _. ⌜ now (before .exit) ≡ on shape beforeTo (now (lines .entry)) 0 ⌝ }
     ensures { λ _. ⌜
@@ -146,7 +147,7 @@ fn all(
     out: &mut [u8],
 )
     requires { ⌜ Shaped (shape .q) (shape .l) (shape .k) ⌝ }
-    requires { ⌜ ((2 ≤ d) × (d ≤ 32)) × ((length (now lines) ≡ d * shape .l) × (length (now out) ≡ d * shape .l)) ⌝ }
+    requires { ⌜ ((2 ≤ d) × (d ≤ mostDegree)) × ((length (now lines) ≡ d * shape .l) × (length (now out) ≡ d * shape .l)) ⌝ }
     requires { ⌜ (length (now before) ≡ shape .k * shape .l) × (length (now c) ≡ 16 * shape .l) ⌝ }
     requires { ⌜ now after ≡ blocks (on shape afterTo (now lines) d) (d - 1) ⌝ }
     ensures { λ _. ⌜ now (out .exit) ≡ on shape sentRows (now (lines .entry)) d ⌝ }
@@ -171,7 +172,7 @@ fn sent_in(
     out: &mut [u8],
 )
     requires { ⌜ Shaped (shape .q) (shape .l) (shape .k) ⌝ }
-    requires { ⌜ ((2 ≤ d) × (d ≤ 32)) × ((length (now lines) ≡ d * shape .l) × (length (now out) ≡ d * shape .l)) ⌝ }
+    requires { ⌜ ((2 ≤ d) × (d ≤ mostDegree)) × ((length (now lines) ≡ d * shape .l) × (length (now out) ≡ d * shape .l)) ⌝ }
     requires { ⌜ (length (now table) ≡ shape .k * shape .l) × (length (now c) ≡ 16 * shape .l) ⌝ }
     requires { ⌜ length (now after) ≡ (d - 1) * (shape .k * shape .l) ⌝ }
     ensures { λ _. ⌜ now (out .exit) ≡ on shape sentRows (now (lines .entry)) d ⌝ }
@@ -191,7 +192,7 @@ fn with_room(
     out: &mut [u8],
 )
     requires { ⌜ Shaped (shape .q) (shape .l) (shape .k) ⌝ }
-    requires { ⌜ ((2 ≤ d) × (d ≤ 32)) × ((length (now lines) ≡ d * shape .l) × (length (now out) ≡ d * shape .l)) ⌝ }
+    requires { ⌜ ((2 ≤ d) × (d ≤ mostDegree)) × ((length (now lines) ≡ d * shape .l) × (length (now out) ≡ d * shape .l)) ⌝ }
     requires { ⌜ (93 * shape .l ≤ length (now after)) × ((3 * shape .l ≤ length (now table)) × (16 * shape .l ≤ length (now c))) ⌝ }
     ensures { λ _. ⌜ now (out .exit) ≡ on shape sentRows (now (lines .entry)) d ⌝ }
 {
@@ -212,7 +213,7 @@ fn with_room(
 // Tables of 16 rows: p up to 4. The room is for k = 3 and 32 columns.
 fn small(shape: Shape, d: usize, lines: &[u8], out: &mut [u8])
     requires { ⌜ Shaped (shape .q) (shape .l) (shape .k) ⌝ }
-    requires { ⌜ ((2 ≤ d) × (d ≤ 32)) × ((length (now lines) ≡ d * shape .l) × (length (now out) ≡ d * shape .l)) ⌝ }
+    requires { ⌜ ((2 ≤ d) × (d ≤ mostDegree)) × ((length (now lines) ≡ d * shape .l) × (length (now out) ≡ d * shape .l)) ⌝ }
     requires { ⌜ shape .l ≡ 16 ⌝ }
     ensures { λ _. ⌜ now (out .exit) ≡ on shape sentRows (now (lines .entry)) d ⌝ }
 {
@@ -225,7 +226,7 @@ fn small(shape: Shape, d: usize, lines: &[u8], out: &mut [u8])
 // Tables of 32 and 64 rows.
 fn large(shape: Shape, d: usize, lines: &[u8], out: &mut [u8])
     requires { ⌜ Shaped (shape .q) (shape .l) (shape .k) ⌝ }
-    requires { ⌜ ((2 ≤ d) × (d ≤ 32)) × ((length (now lines) ≡ d * shape .l) × (length (now out) ≡ d * shape .l)) ⌝ }
+    requires { ⌜ ((2 ≤ d) × (d ≤ mostDegree)) × ((length (now lines) ≡ d * shape .l) × (length (now out) ≡ d * shape .l)) ⌝ }
     ensures { λ _. ⌜ now (out .exit) ≡ on shape sentRows (now (lines .entry)) d ⌝ }
 {
     let mut after = [0u8; 5952];
@@ -237,7 +238,7 @@ fn large(shape: Shape, d: usize, lines: &[u8], out: &mut [u8])
 // All rows, with the room that they take: small tables have less to clear.
 pub fn rows(shape: Shape, d: usize, lines: &[u8], out: &mut [u8])
     requires { ⌜ Shaped (shape .q) (shape .l) (shape .k) ⌝ }
-    requires { ⌜ ((2 ≤ d) × (d ≤ 32)) × ((length (now lines) ≡ d * shape .l) × (length (now out) ≡ d * shape .l)) ⌝ }
+    requires { ⌜ ((2 ≤ d) × (d ≤ mostDegree)) × ((length (now lines) ≡ d * shape .l) × (length (now out) ≡ d * shape .l)) ⌝ }
     ensures { λ _. ⌜ now (out .exit) ≡ on shape sentRows (now (lines .entry)) d ⌝ }
 {
     if shape.l == 16 {

@@ -20,7 +20,7 @@ use Rattle.machine.specs.Line.{byteAt, lineBytes, lineOk, lineReply, lineLeaves
 use Rattle.machine.specs.CodeLine.{Read, good, bad, Code, parse, Numbers, numbersOf}
 use Rattle.machine.specs.Printing.{frameSaid, frameLine}
 use Rattle.machine.specs.Program.{readCode, refusedLine}
-use Rattle.machine.specs.inner.Blocks.{Session, first, later, ended, longer, fedByte, codeKept, codeOut, finished, finishedOut, fed, fedOut, closeOut}
+use Rattle.machine.specs.inner.Blocks.{Session, first, later, ended, longer, fedByte, codeKept, codeOut, lineFinished, lineFinishedOut, fed, fedOut, closeOut}
 use Rattle.machine.proofs.Program.{fed-more, turn-short}
 use Rattle.text.specs.inner.Held.{Held, keptOf, putAt, byteHeld, codeBytes, isGood, accepts, codeHeld, finishedHeld, stepHeld, fedHeld, quiet, closeHeld}
 
@@ -50,7 +50,7 @@ byte-stands h b e = go (ltb (h .len) 32769) refl
     go false i = kept-cases (h .over) (eqb (h .code) 0) (take (h .len) (h .line)) _ (take (h .code) (h .bytes)) b (line-full (h .line) (h .len) b e (ltb-false _ _ i))
 
 -- a code line that is accepted, and one that is refused
-pub record Accepted (t : List ℕ) : Type 0 where
+pub record AcceptedCode (t : List ℕ) : Type 0 where
   pub code : Code
   pub read : readCode t ≡ good code
   pub accepted : accepts (codeBytes t) ≡ true
@@ -71,15 +71,15 @@ some-code : (s : List ℕ) (C : Code) → parse s ≡ good C → eqb (length s) 
 some-code [] C e = let z : _≡_ {A = ℕ} 0 1 = cc no-code in absurd (omega arith)
 some-code (b ∷ s) C e = ne-eqb (suc (length s)) 0 (λ (z : suc (length s) ≡ 0). omega arith)
 
-pub code-told : (t : List ℕ) → Accepted t ⊎ Refused t
+pub code-told : (t : List ℕ) → AcceptedCode t ⊎ Refused t
 unfolding readCode codeBytes accepts frameLine frameSaid
 code-told t = go (ltb 32768 (length t)) (lineOk t) (ltb 16384 (length t / 2)) refl refl refl
   where
-    last : ltb 32768 (length t) ≡ false → lineOk t ≡ true → ltb 16384 (length t / 2) ≡ false → (r : Read Code) → parse (lineBytes t) ≡ r → Accepted t ⊎ Refused t
+    last : ltb 32768 (length t) ≡ false → lineOk t ≡ true → ltb 16384 (length t / 2) ≡ false → (r : Read Code) → parse (lineBytes t) ≡ r → AcceptedCode t ⊎ Refused t
     last i j k (good C) e = inl (record { code = C; read = rw (i, j, k) e; accepted = rw (i, j, k, e) refl; same = rw (i, j, k) refl; some = rw (i, j, k) (some-code (lineBytes t) C e) })
     last i j k (bad n) e = inr (record { number = n; read = rw (i, j, k) e; refused = rw (i, j, k, e) refl; prints = rw (i, j, k, e) refl })
 
-    go : (a b c : Bool) → ltb 32768 (length t) ≡ a → lineOk t ≡ b → ltb 16384 (length t / 2) ≡ c → Accepted t ⊎ Refused t
+    go : (a b c : Bool) → ltb 32768 (length t) ≡ a → lineOk t ≡ b → ltb 16384 (length t / 2) ≡ c → AcceptedCode t ⊎ Refused t
     go true b c i j k = inr (record { number = 15; read = rw i refl; refused = rw (i, no-code) refl; prints = rw i refl })
     go false true true i j k = inr (record { number = 2; read = rw (i, j, k) refl; refused = rw (i, j, k, no-code) refl; prints = rw (i, j, k) refl })
     go false true false i j k = last i j k (parse (lineBytes t)) refl
@@ -87,33 +87,33 @@ code-told t = go (ltb 32768 (length t)) (lineOk t) (ltb 16384 (length t / 2)) re
 
 -- what the code line prints
 pub accepted-out : (t : List ℕ) → accepts (codeBytes t) ≡ true → codeOut (readCode t) ≡ []
-accepted-out t e = ⊎-elim (λ (a : Accepted t). rw (a .read) refl) (λ (r : Refused t). absurd (true≢false (sym e ∙ r .refused))) (code-told t)
+accepted-out t e = ⊎-elim (λ (a : AcceptedCode t). rw (a .read) refl) (λ (r : Refused t). absurd (true≢false (sym e ∙ r .refused))) (code-told t)
 
 pub refused-out : (t : List ℕ) → accepts (codeBytes t) ≡ false → codeOut (readCode t) ≡ frameLine (codeBytes t) t
-refused-out t e = ⊎-elim (λ (a : Accepted t). absurd (true≢false (sym (a .accepted) ∙ e))) (λ (r : Refused t). rw (r .read) (sym (r .prints))) (code-told t)
+refused-out t e = ⊎-elim (λ (a : AcceptedCode t). absurd (true≢false (sym (a .accepted) ∙ e))) (λ (r : Refused t). rw (r .read) (sym (r .prints))) (code-told t)
 
 code-stands : (h : Held) (t : List ℕ) → keptOf (codeHeld h t) ≡ codeKept (readCode t) (lineBytes t)
 code-stands h t =
     ⊎-elim
-    (λ (a : Accepted t). rw (a .accepted, a .read, a .some) (ap {B = Session} (λ r. later r []) (take-at (codeBytes t) (drop (length (codeBytes t)) (h .bytes)) (length (codeBytes t)) refl ∙ a .same)))
+    (λ (a : AcceptedCode t). rw (a .accepted, a .read, a .some) (ap {B = Session} (λ r. later r []) (take-at (codeBytes t) (drop (length (codeBytes t)) (h .bytes)) (length (codeBytes t)) refl ∙ a .same)))
     (λ (r : Refused t). rw (r .refused, r .read) refl)
     (code-told t)
 
-turn-stands : (h : Held) → h .over ≡ false → keptOf (finishedHeld h) ≡ finished (keptOf h)
-unfolding finished
+turn-stands : (h : Held) → h .over ≡ false → keptOf (finishedHeld h) ≡ lineFinished (keptOf h)
+unfolding lineFinished
 turn-stands h o = rw o (go (eqb (h .code) 0) refl)
   where
     go : (c : Bool) → eqb (h .code) 0 ≡ c
         → keptOf (pick c (codeHeld h (take (h .len) (h .line))) (record { len = 0; code = h .code; over = false; line = h .line; bytes = h .bytes }))
-        ≡ finished (pick c (first (take (h .len) (h .line))) (later (take (h .code) (h .bytes)) (take (h .len) (h .line))))
+        ≡ lineFinished (pick c (first (take (h .len) (h .line))) (later (take (h .code) (h .bytes)) (take (h .len) (h .line))))
     go true e = code-stands h (take (h .len) (h .line))
     go false e = rw e refl
 
 pub step-stands : (h : Held) (b : ℕ) → length (h .line) ≡ 32769 → keptOf (stepHeld h b) ≡ fed (keptOf h) (b ∷ [])
-unfolding stepHeld fed finished
+unfolding stepHeld fed lineFinished
 step-stands h b e = go (h .over) refl (eqb b 0x0A)
   where
-    go : (o : Bool) → h .over ≡ o → (t : Bool) → keptOf (pick o h (pick t (finishedHeld h) (byteHeld h b))) ≡ pick t (finished (keptOf h)) (fedByte (keptOf h) b)
+    go : (o : Bool) → h .over ≡ o → (t : Bool) → keptOf (pick o h (pick t (finishedHeld h) (byteHeld h b))) ≡ pick t (lineFinished (keptOf h)) (fedByte (keptOf h) b)
     go true i true = rw i refl
     go true i false = rw i refl
     go false i true = turn-stands h i
@@ -242,8 +242,8 @@ module _ (n k : ℕ) (en : Bool) (l c : List ℕ) (m : ℕ) (least : m ≡ min n
   line-front : take m l ≡ take n l
   line-front = least-front n m 32769 l least long
 
-  pub first-out : k ≡ 0 → finishedOut (keptOf here) ≡ codeOut (readCode (take m l))
-  unfolding finishedOut
+  pub first-out : k ≡ 0 → lineFinishedOut (keptOf here) ≡ codeOut (readCode (take m l))
+  unfolding lineFinishedOut
   first-out h =
       let e : eqb k 0 ≡ true = eq-eqb k 0 h in
       rw (runs, e, line-front) refl
@@ -255,8 +255,8 @@ module _ (n k : ℕ) (en : Bool) (l c : List ℕ) (m : ℕ) (least : m ≡ min n
       let e : eqb k 0 ≡ true = eq-eqb k 0 h in
       rw (ea, eb, eo, ec, line-front, e) refl
 
-  pub later-out : (k ≡ 0 → ⊥) → (j : ℕ) → j ≡ min k 16384 → length c ≡ 16384 → finishedOut (keptOf here) ≡ frameLine (take j c) (take m l)
-  unfolding finishedOut
+  pub later-out : (k ≡ 0 → ⊥) → (j : ℕ) → j ≡ min k 16384 → length c ≡ 16384 → lineFinishedOut (keptOf here) ≡ frameLine (take j c) (take m l)
+  unfolding lineFinishedOut
   later-out h j i r =
       let e : eqb k 0 ≡ false = ne-eqb k 0 h in
       let f : take j c ≡ take k c = least-front k j 16384 c i r in
@@ -325,18 +325,18 @@ module _ (n k : ℕ) (en : Bool) (l c : List ℕ) (long : length l ≡ 32769) wh
       go false false true i j = let z : n ≡ 0 = eqb-true n 0 i in rw z (refl, refl)
       go false false false i j = absurd (true≢false (sym j))
 
-  pub close-some : quiet en k n ≡ false → (en ≡ false) × (closeOut (keptOf last) ≡ finishedOut (keptOf last)) × (finishedHeld last .bytes ≡ closeHeld last .bytes)
-  unfolding quiet closeOut finishedOut closeHeld
+  pub close-some : quiet en k n ≡ false → (en ≡ false) × (closeOut (keptOf last) ≡ lineFinishedOut (keptOf last)) × (finishedHeld last .bytes ≡ closeHeld last .bytes)
+  unfolding quiet closeOut lineFinishedOut closeHeld
   close-some h = go en (eqb k 0) (eqb n 0) refl refl refl h
     where
-      some : (m : ℕ) (x : List ℕ) → eqb m 0 ≡ false → 0 < length x → closeOut (later (take k c) (take m x)) ≡ finishedOut (later (take k c) (take m x))
+      some : (m : ℕ) (x : List ℕ) → eqb m 0 ≡ false → 0 < length x → closeOut (later (take k c) (take m x)) ≡ lineFinishedOut (later (take k c) (take m x))
       some zero x i j = absurd (true≢false i)
       some (suc m) [] i j = absurd (omega arith)
       some (suc m) (b ∷ x) i j = append-nil (frameLine (take k c) (b ∷ take m x))
 
       go : (o t e : Bool) → en ≡ o → eqb k 0 ≡ t → eqb n 0 ≡ e → pick o true (pick t false e) ≡ false
           → (o ≡ false)
-          × (closeOut (pick o ended (pick t (first (take n l)) (later (take k c) (take n l)))) ≡ finishedOut (pick o ended (pick t (first (take n l)) (later (take k c) (take n l)))))
+          × (closeOut (pick o ended (pick t (first (take n l)) (later (take k c) (take n l)))) ≡ lineFinishedOut (pick o ended (pick t (first (take n l)) (later (take k c) (take n l)))))
           × (pick t (codeHeld last (take n l)) (record { len = 0; code = k; over = false; line = l; bytes = c }) .bytes ≡ pick o last (pick t (pick t (codeHeld last (take n l)) (record { len = 0; code = k; over = false; line = l; bytes = c })) last) .bytes)
       go true t e a i d j = absurd (true≢false j)
       go false true e a i d j = (refl, refl, refl)
@@ -344,5 +344,5 @@ module _ (n k : ℕ) (en : Bool) (l c : List ℕ) (long : length l ≡ 32769) wh
       go false false false a i d j = (refl, some n l d (omega arith), refl)
 
 -- turn, from an empty output
-pub turn-few : (k : Session) → 0 + length (finishedOut k) ≤ 517
+pub turn-few : (k : Session) → 0 + length (lineFinishedOut k) ≤ 517
 turn-few k = omega (arith, turn-short k .few)

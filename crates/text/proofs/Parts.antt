@@ -11,7 +11,7 @@ use lib.ListN.{length, take, drop, set, getD, length-append, length-take, length
 use lib.Seq.{drop-cons, drop-length, drop-drop, drop-set-lt, take-add, take-suc, take-suc-set, append-snoc, take-all, take-length, getD-drop}
 use borrow.Author.Tests.{eqb-true, eq-eqb, ne-eqb, lt-ltb, le-ltb}
 use Rattle.trellis.specs.Lists.{pick}
-use Rattle.machine.specs.inner.Blocks.{Session, fedByte, finished, finishedOut, fed, fedOut}
+use Rattle.machine.specs.inner.Blocks.{Session, fedByte, lineFinished, lineFinishedOut, fed, fedOut}
 use Rattle.machine.proofs.Program.{fed-more, fed-few, ended-silent}
 use Rattle.text.specs.inner.Held.{Held, keptOf, putAt, byteHeld, stepHeld, fedHeld, finishedHeld, toNewline, roomFor, partHeld}
 use Rattle.text.proofs.Laws.{put-none, put-mid, put-more, fedHeld-more, fed-stands, add-none, put-nothing, part-same}
@@ -58,7 +58,7 @@ plain-out [] k e = refl
 plain-out (b ∷ s) k e = go (eqb b 0x0A) e (λ j. plain-out s (fedByte k b) j)
   where
     go : (t : Bool) → pick t 0 (suc (toNewline s)) ≡ suc (length s) → (toNewline s ≡ length s → fedOut (fedByte k b) s ≡ [])
-        → pick t (finishedOut k ++ fedOut (finished k) s) (fedOut (fedByte k b) s) ≡ []
+        → pick t (lineFinishedOut k ++ fedOut (lineFinished k) s) (fedOut (fedByte k b) s) ≡ []
     go true i h = absurd (omega arith)
     go false i h = h (omega arith)
 
@@ -119,9 +119,9 @@ fed-part (b ∷ s) n k l c h e = go (eqb b 0x0A) e (λ m x i j. fed-part s m k x
               (rw z (set-put l n b (take (roomFor (n + 1) s) s) (omega arith))))
         ]
 
-newline-out : (k : Session) → fedOut k (0x0A ∷ []) ≡ finishedOut k
+newline-out : (k : Session) → fedOut k (0x0A ∷ []) ≡ lineFinishedOut k
 unfolding fedOut
-newline-out k = append-nil (finishedOut k)
+newline-out k = append-nil (lineFinishedOut k)
 
 -- a part and the 0A behind it
 module _ (s : List ℕ) (n k : ℕ) (o : Bool) (l c : List ℕ) (on : o ≡ false) (long : length l ≡ 32769) (plain : toNewline s ≡ length s) where
@@ -135,20 +135,20 @@ module _ (s : List ℕ) (n k : ℕ) (o : Bool) (l c : List ℕ) (on : o ≡ fals
   unfolding fedHeld stepHeld partHeld
   whole-held = fedHeld-more at-part s (0x0A ∷ []) ∙ ap (λ h. stepHeld h 0x0A) part-held ∙ rw on refl
 
-  pub whole-out : fedOut (keptOf at-part) (s ++ (0x0A ∷ [])) ≡ finishedOut (keptOf (partHeld at-part s))
+  pub whole-out : fedOut (keptOf at-part) (s ++ (0x0A ∷ [])) ≡ lineFinishedOut (keptOf (partHeld at-part s))
   whole-out =
       let a : fed (keptOf at-part) s ≡ keptOf (partHeld at-part s) = sym (fed-stands at-part s long) ∙ ap keptOf part-held in
       fed-more (keptOf at-part) s (0x0A ∷ []) .1 ∙ ap₂ (λ x y. x ++ fedOut y (0x0A ∷ [])) (plain-out s (keptOf at-part) plain) a ∙ newline-out (keptOf (partHeld at-part s))
 
   -- the same of what keep and finish_line leave
   module _ (K : Held) (f f′ : ℕ) (kept-at : K ≡ partHeld at-part s) (same : f′ ≡ f) where
-    pub whole-room : (r : ℕ) → f + length (fedOut (keptOf at-part) (s ++ (0x0A ∷ []))) ≤ r → f′ + length (finishedOut (keptOf K)) ≤ r
+    pub whole-room : (r : ℕ) → f + length (fedOut (keptOf at-part) (s ++ (0x0A ∷ []))) ≤ r → f′ + length (lineFinishedOut (keptOf K)) ≤ r
     whole-room r h = rw (kept-at, same, ← whole-out) h
 
-    pub whole-done : (R : Held) (g : ℕ) (out u : List ℕ) → R ≡ finishedHeld K → g ≡ f′ + length (finishedOut (keptOf K)) → u ≡ putAt out f′ (finishedOut (keptOf K))
+    pub whole-done : (R : Held) (g : ℕ) (out u : List ℕ) → R ≡ finishedHeld K → g ≡ f′ + length (lineFinishedOut (keptOf K)) → u ≡ putAt out f′ (lineFinishedOut (keptOf K))
         → (R ≡ fedHeld at-part (s ++ (0x0A ∷ []))) × ((g ≡ f + length (fedOut (keptOf at-part) (s ++ (0x0A ∷ [])))) × (u ≡ putAt out f (fedOut (keptOf at-part) (s ++ (0x0A ∷ [])))))
     whole-done R g out u a b d =
-        let e : finishedOut (keptOf K) ≡ fedOut (keptOf at-part) (s ++ (0x0A ∷ [])) = ap (λ x. finishedOut (keptOf x)) kept-at ∙ sym whole-out in
+        let e : lineFinishedOut (keptOf K) ≡ fedOut (keptOf at-part) (s ++ (0x0A ∷ [])) = ap (λ x. lineFinishedOut (keptOf x)) kept-at ∙ sym whole-out in
         (a ∙ ap finishedHeld kept-at ∙ sym whole-held, (b ∙ ap₂ (λ x y. x + length y) same e, d ∙ ap₂ (λ x y. putAt out x y) same e))
 
 -- once the program has ended

@@ -8,8 +8,8 @@ use lib.Seq.{take-at}
 use Rattle.machine.specs.Program.{outputOf}
 use Rattle.machine.specs.inner.Blocks.{fedOut, closeOut, fedAll, fedAllOut, allBlocks}
 use Rattle.machine.proofs.Program.{blocks-output, fed-few}
-use Rattle.text.specs.inner.Held.{Held, held, keptOf, putAt, fedHeld}
-use Rattle.text.specs.Calls.{Call, Closes, Calls, after, blocksOf, printedBy, begin}
+use Rattle.text.specs.inner.Held.{Held, heldIn, keptOf, putAt, fedHeld}
+use Rattle.text.specs.Calls.{Call, Closes, Calls, heldAfter, blocksOf, printedBy, begin}
 use Rattle.text.proofs.Laws.{fed-stands, fed-line}
 
 -- what block after block leaves held, and what the calls print
@@ -42,20 +42,20 @@ feed-fits h s e = omega (arith, fed-few (keptOf h) s)
 front : (o out x : List ℕ) (n : ℕ) → n ≡ length x → out ≡ putAt o 0 x → take n out ≡ x
 front o out x n e h = rw h (take-at x (drop (length x) o) n (sym e))
 
-calls-held : (h : Held) (cs : List Call) → Calls h cs → (after h cs ≡ heldAll h (blocksOf cs)) × (printedBy cs ≡ heldOut h (blocksOf cs))
-unfolding Calls after blocksOf printedBy heldAll heldOut
+calls-held : (h : Held) (cs : List Call) → Calls h cs → (heldAfter h cs ≡ heldAll h (blocksOf cs)) × (printedBy cs ≡ heldOut h (blocksOf cs))
+unfolding Calls heldAfter blocksOf printedBy heldAll heldOut
 calls-held h [] k = (refl, refl)
 calls-held h (c ∷ cs) k =
     let f = k .0 in
-    let r = calls-held (held (c .state) (c .line) (c .code)) cs (k .1) in
+    let r = calls-held (heldIn (c .state) (c .line) (c .code)) cs (k .1) in
     let a = front (c .before) (c .out) (fedOut (keptOf h) (c .block)) (c .state .full) (f .count) (f .prints) in
     (r .0 ∙ ap (λ x. heldAll x (blocksOf cs)) (f .keeps), ap₂ (λ x y. x ++ y) a (r .1 ∙ ap (λ x. heldOut x (blocksOf cs)) (f .keeps)))
 
 -- the theorem of the calls: whatever the buffers held, and however the input was cut
 pub calls-output : (input : List ℕ) (cs : List Call) (line code : List ℕ) → length line ≡ 32769 → Calls (begin line code) cs → allBlocks (blocksOf cs) ≡ take 4294967295 input
-    → (before : List ℕ) (n : ℕ) (code′ out : List ℕ) → Closes (after (begin line code) cs) before n code′ out
+    → (before : List ℕ) (n : ℕ) (code′ out : List ℕ) → Closes (heldAfter (begin line code) cs) before n code′ out
     → printedBy cs ++ take n out ≡ outputOf input
 calls-output input cs line code h k e before n code′ out q =
     let a = calls-held (begin line code) cs k in
-    let b = front before out (closeOut (keptOf (after (begin line code) cs))) n (q .count) (q .prints) in
+    let b = front before out (closeOut (keptOf (heldAfter (begin line code) cs))) n (q .count) (q .prints) in
     ap₂ (λ x y. x ++ y) (a .1) (b ∙ ap (λ x. closeOut (keptOf x)) (a .0)) ∙ session input (blocksOf cs) line code h e

@@ -6,7 +6,7 @@ use Prim.Native.Nat.{ℕ}
 use lib.ListN.{length, take}
 use Rattle.machine.specs.inner.Blocks.{fedOut, closeOut}
 use Rattle.text.specs.declared.state.State.{State}
-use Rattle.text.specs.inner.Held.{Held, held, keptOf, putAt, fedHeld, closeHeld}
+use Rattle.text.specs.inner.Held.{Held, heldIn, keptOf, putAt, fedHeld, closeHeld}
 
 -- one call of feed: the bytes of its block, the output buffer before it, and the state and the buffers after it
 pub record Call : Type 0 where
@@ -19,7 +19,7 @@ pub record Call : Type 0 where
 
 -- feed's promise, on what was held
 pub record Feeds (h : Held) (c : Call) : Type 0 where
-  pub keeps : held (c .state) (c .line) (c .code) ≡ fedHeld h (c .block)
+  pub keeps : heldIn (c .state) (c .line) (c .code) ≡ fedHeld h (c .block)
   pub count : c .state .full ≡ length (fedOut (keptOf h) (c .block))
   pub prints : c .out ≡ putAt (c .before) 0 (fedOut (keptOf h) (c .block))
 
@@ -31,12 +31,12 @@ pub record Closes (h : Held) (before : List ℕ) (n : ℕ) (code out : List ℕ)
 
 unfoldable pub Calls : Held → List Call → Type 0
 Calls h [] = Unit {0}
-Calls h (c ∷ cs) = Feeds h c × Calls (held (c .state) (c .line) (c .code)) cs
+Calls h (c ∷ cs) = Feeds h c × Calls (heldIn (c .state) (c .line) (c .code)) cs
 
 -- what is held after the last call, what was fed, and what was printed
-unfoldable pub after : Held → List Call → Held
-after h [] = h
-after h (c ∷ cs) = after (held (c .state) (c .line) (c .code)) cs
+unfoldable pub heldAfter : Held → List Call → Held
+heldAfter h [] = h
+heldAfter h (c ∷ cs) = heldAfter (heldIn (c .state) (c .line) (c .code)) cs
 
 unfoldable pub blocksOf : List Call → List (List ℕ)
 blocksOf [] = []

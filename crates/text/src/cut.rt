@@ -1,13 +1,14 @@
 // The input cut into lines, block by block, and its end.
 use crate::line_end;
 use crate::state::State;
+use scalar::sizes;
 ghost use mathlib.Core.Path.{_≡_};
 ghost use mathlib.Core.Bool.{false};
 ghost use mathlib.Core.List.{[], _∷_, _++_};
 ghost use Prim.Native.Nat.{_+_, _*_, _≤_};
 ghost use lib.ListN.{length, take, drop};
 ghost use Rattle.machine.specs.inner.Blocks.{fedOut, closeOut};
-ghost use Rattle.text.specs.inner.Held.{held, keptOf, putAt, toNewline, Keeps, fedHeld, quiet, closeHeld};
+ghost use Rattle.text.specs.inner.Held.{heldIn, keptOf, putAt, toNewline, KeepsPart, fedHeld, quiet, closeHeld};
 
 // "Lines end in byte 0A": the place of the first one from `at` on, or the end.
 fn newline(bytes: &[u8], at: usize) -> usize
@@ -27,14 +28,14 @@ fn newline(bytes: &[u8], at: usize) -> usize
 // A part of a line, as far as there is room: 32,769 bytes are enough to refuse the line by 15.
 fn keep(st: State, part: &[u8], line: &mut [u8]) -> State
     requires { ⌜ length (now line) ≡ 32769 ⌝ }
-    ensures { λ r. ⌜ Keeps st (now (line .entry)) (now (part .entry)) r (now (line .exit)) ⌝ }
+    ensures { λ r. ⌜ KeepsPart st (now (line .entry)) (now (part .entry)) r (now (line .exit)) ⌝ }
     ensures { λ r. ⌜ (r .full ≡ st .full) × (r .ended ≡ st .ended) ⌝ }
 {
     let len = st.len;
-    if 32769 <= len {
+    if sizes::LINE_ROOM <= len {
         return st;
     }
-    let n = scalar::min_usize(part.len(), 32769 - len);
+    let n = scalar::min_usize(part.len(), sizes::LINE_ROOM - len);
     let e = len + n;
     slices::copy_u8(&part[..n], &mut line[len..e]);
     State {
@@ -49,13 +50,13 @@ fn keep(st: State, part: &[u8], line: &mut [u8]) -> State
 fn whole(st: State, part: &[u8], line: &mut [u8], code: &mut [u8], out: &mut [u8]) -> State
     requires { ⌜ (length (now line)
         ≡ 32769) × ((length (now code) ≡ 16384) × ((st .ended ≡ false) × (toNewline (now part) ≡ length (now part)))) ⌝ }
-    requires { ⌜ st .full + length (fedOut (keptOf (held st (now line) (now code))) (now part ++ (0x0A ∷ []))) ≤ length (now out) ⌝ }
-    ensures { λ r. ⌜ held r (now (line .exit)) (now (code .exit))
-        ≡ fedHeld (held st (now (line .entry)) (now (code .entry))) (now (part .entry) ++ (0x0A ∷ [])) ⌝ }
-    ensures { λ r. ⌜ r .full ≡ st .full + length (fedOut (keptOf (held st (now (line .entry)) (now (code .entry))))
+    requires { ⌜ st .full + length (fedOut (keptOf (heldIn st (now line) (now code))) (now part ++ (0x0A ∷ []))) ≤ length (now out) ⌝ }
+    ensures { λ r. ⌜ heldIn r (now (line .exit)) (now (code .exit))
+        ≡ fedHeld (heldIn st (now (line .entry)) (now (code .entry))) (now (part .entry) ++ (0x0A ∷ [])) ⌝ }
+    ensures { λ r. ⌜ r .full ≡ st .full + length (fedOut (keptOf (heldIn st (now (line .entry)) (now (code .entry))))
         (now (part .entry) ++ (0x0A ∷ []))) ⌝ }
     ensures { λ _. ⌜ now (out .exit)
-        ≡ putAt (now (out .entry)) (st .full) (fedOut (keptOf (held st (now (line .entry)) (now (code .entry))))
+        ≡ putAt (now (out .entry)) (st .full) (fedOut (keptOf (heldIn st (now (line .entry)) (now (code .entry))))
         (now (part .entry) ++ (0x0A ∷ []))) ⌝ }
 {
     let s = keep(st, part, line);
@@ -66,11 +67,11 @@ fn whole(st: State, part: &[u8], line: &mut [u8], code: &mut [u8], out: &mut [u8
 fn feed_over(st: State, bytes: &[u8], line: &mut [u8], code: &mut [u8], out: &mut [u8]) -> State
     requires { ⌜ (length (now line)
         ≡ 32769) × ((length (now code) ≡ 16384) × ((st .full ≡ 0) × (512 + 5 * length (now bytes) ≤ length (now out)))) ⌝ }
-    ensures { λ r. ⌜ held r (now (line .exit)) (now (code .exit))
-        ≡ fedHeld (held st (now (line .entry)) (now (code .entry))) (now (bytes .entry)) ⌝ }
-    ensures { λ r. ⌜ r .full ≡ length (fedOut (keptOf (held st (now (line .entry)) (now (code .entry)))) (now (bytes .entry))) ⌝ }
+    ensures { λ r. ⌜ heldIn r (now (line .exit)) (now (code .exit))
+        ≡ fedHeld (heldIn st (now (line .entry)) (now (code .entry))) (now (bytes .entry)) ⌝ }
+    ensures { λ r. ⌜ r .full ≡ length (fedOut (keptOf (heldIn st (now (line .entry)) (now (code .entry)))) (now (bytes .entry))) ⌝ }
     ensures { λ _. ⌜ now (out .exit)
-        ≡ putAt (now (out .entry)) 0 (fedOut (keptOf (held st (now (line .entry)) (now (code .entry)))) (now (bytes .entry))) ⌝ }
+        ≡ putAt (now (out .entry)) 0 (fedOut (keptOf (heldIn st (now (line .entry)) (now (code .entry)))) (now (bytes .entry))) ⌝ }
 {
     let mut s = st;
     let mut at = 0;
@@ -98,11 +99,12 @@ pub fn feed_in(
 ) -> State
     requires { ⌜ (length (now line)
         ≡ 32769) × ((length (now code) ≡ 16384) × ((n ≤ length (now block)) × (512 + 5 * n ≤ length (now out)))) ⌝ }
-    ensures { λ r. ⌜ held r (now (line .exit)) (now (code .exit))
-        ≡ fedHeld (held st (now (line .entry)) (now (code .entry))) (take n (now (block .entry))) ⌝ }
-    ensures { λ r. ⌜ r .full ≡ length (fedOut (keptOf (held st (now (line .entry)) (now (code .entry)))) (take n (now (block .entry)))) ⌝ }
+    ensures { λ r. ⌜ heldIn r (now (line .exit)) (now (code .exit))
+        ≡ fedHeld (heldIn st (now (line .entry)) (now (code .entry))) (take n (now (block .entry))) ⌝ }
+    ensures { λ r. ⌜ r .full
+        ≡ length (fedOut (keptOf (heldIn st (now (line .entry)) (now (code .entry)))) (take n (now (block .entry)))) ⌝ }
     ensures { λ _. ⌜ now (out .exit)
-        ≡ putAt (now (out .entry)) 0 (fedOut (keptOf (held st (now (line .entry)) (now (code .entry)))) (take n (now (block .entry)))) ⌝ }
+        ≡ putAt (now (out .entry)) 0 (fedOut (keptOf (heldIn st (now (line .entry)) (now (code .entry)))) (take n (now (block .entry)))) ⌝ }
 {
     let s = State {
         len: st.len,
@@ -129,9 +131,10 @@ fn silent(st: State) -> bool
 // The end of the input: what is printed for what is kept, and how many bytes that are.
 pub fn close_in(st: State, line: &[u8], code: &mut [u8], out: &mut [u8]) -> usize
     requires { ⌜ (length (now line) ≡ 32769) × ((length (now code) ≡ 16384) × (length (now out) ≡ 517)) ⌝ }
-    ensures { λ r. ⌜ r ≡ length (closeOut (keptOf (held st (now (line .entry)) (now (code .entry))))) ⌝ }
-    ensures { λ _. ⌜ now (code .exit) ≡ closeHeld (held st (now (line .entry)) (now (code .entry))) .bytes ⌝ }
-    ensures { λ _. ⌜ now (out .exit) ≡ putAt (now (out .entry)) 0 (closeOut (keptOf (held st (now (line .entry)) (now (code .entry))))) ⌝ }
+    ensures { λ r. ⌜ r ≡ length (closeOut (keptOf (heldIn st (now (line .entry)) (now (code .entry))))) ⌝ }
+    ensures { λ _. ⌜ now (code .exit) ≡ closeHeld (heldIn st (now (line .entry)) (now (code .entry))) .bytes ⌝ }
+    ensures { λ _. ⌜ now (out .exit)
+        ≡ putAt (now (out .entry)) 0 (closeOut (keptOf (heldIn st (now (line .entry)) (now (code .entry))))) ⌝ }
 {
     if silent(st) {
         return 0;

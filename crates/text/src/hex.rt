@@ -1,5 +1,6 @@
 // A line of text: hexadecimal digits, two a byte.
 use field::Written;
+use scalar::sizes;
 ghost use mathlib.Core.Path.{_≡_};
 ghost use mathlib.Core.Bool.{true};
 ghost use mathlib.Core.List.{_++_};
@@ -72,7 +73,7 @@ pub fn line(text: &[u8], out: &mut [u8]) -> Written
     ensures { λ r. ⌜ writtenReply r ≡ lineReply (now (text .entry)) (now (out .entry)) ⌝ }
     ensures { λ _. ⌜ now (out .exit) ≡ lineLeaves (now (text .entry)) (now (out .entry)) ⌝ }
 {
-    if 32768 < text.len() {
+    if sizes::MOST_LINE < text.len() {
         return Written::Refused(15);
     }
     if text.len() % 2 != 0 {

@@ -8,6 +8,7 @@ pub mod state;
 
 use crate::state::State;
 use field::Written;
+use scalar::sizes;
 ghost use mathlib.Core.Path.{_≡_};
 ghost use mathlib.Core.List.{_++_};
 ghost use lib.ListN.{length, take, drop};
@@ -15,7 +16,7 @@ ghost use Rattle.field.specs.Answers.{writtenReply};
 ghost use Rattle.machine.specs.Line.{lineReply, lineLeaves};
 ghost use Rattle.machine.specs.Printing.{frameLine};
 ghost use Rattle.machine.specs.inner.Blocks.{fedOut, closeOut};
-ghost use Rattle.text.specs.inner.Held.{held, keptOf, putAt, fedHeld, closeHeld};
+ghost use Rattle.text.specs.inner.Held.{heldIn, keptOf, putAt, fedHeld, closeHeld};
 
 // The bytes of a line of text. "Line: 15, 14, 2."; nothing is written before the last of these is tested.
 pub fn line(text: &[u8], out: &mut [u8]) -> Written
@@ -27,7 +28,7 @@ pub fn line(text: &[u8], out: &mut [u8]) -> Written
 
 // The line that the program prints for a frame's line of text, with its end, and how many bytes it has. The longest has 517 bytes: 256
 // symbols, and 2 + 2 + 1.
-pub fn frame_line(code: &[u8], text: &[u8], out: &mut [u8; 517]) -> usize
+pub fn frame_line(code: &[u8], text: &[u8], out: &mut [u8; sizes::MOST_PRINTED]) -> usize
     ensures { λ r. ⌜ r ≡ length (frameLine (now (code .entry)) (now (text .entry))) ⌝ }
     ensures { λ _. ⌜ now (out .exit)
         ≡ frameLine (now (code .entry)) (now (text .entry))
@@ -40,28 +41,35 @@ pub fn frame_line(code: &[u8], text: &[u8], out: &mut [u8; 517]) -> usize
 // and five for each byte of the block.
 pub fn feed(
     st: State,
-    block: &[u8; 65536],
+    block: &[u8; sizes::MOST_BLOCK],
     n: usize,
-    line: &mut [u8; 32769],
-    code: &mut [u8; 16384],
-    out: &mut [u8; 328192],
+    line: &mut [u8; sizes::LINE_ROOM],
+    code: &mut [u8; sizes::MOST_LINE_BYTES],
+    out: &mut [u8; sizes::MOST_BLOCK_PRINTED],
 ) -> State
-    ensures { λ r. ⌜ held r (now (line .exit)) (now (code .exit))
-        ≡ fedHeld (held st (now (line .entry)) (now (code .entry))) (take n (now (block .entry))) ⌝ }
-    ensures { λ r. ⌜ r .full ≡ length (fedOut (keptOf (held st (now (line .entry)) (now (code .entry)))) (take n (now (block .entry)))) ⌝ }
+    ensures { λ r. ⌜ heldIn r (now (line .exit)) (now (code .exit))
+        ≡ fedHeld (heldIn st (now (line .entry)) (now (code .entry))) (take n (now (block .entry))) ⌝ }
+    ensures { λ r. ⌜ r .full
+        ≡ length (fedOut (keptOf (heldIn st (now (line .entry)) (now (code .entry)))) (take n (now (block .entry)))) ⌝ }
     ensures { λ _. ⌜ now (out .exit)
-        ≡ putAt (now (out .entry)) 0 (fedOut (keptOf (held st (now (line .entry)) (now (code .entry)))) (take n (now (block .entry)))) ⌝ }
+        ≡ putAt (now (out .entry)) 0 (fedOut (keptOf (heldIn st (now (line .entry)) (now (code .entry)))) (take n (now (block .entry)))) ⌝ }
 {
-    let k = scalar::min_usize(n, 65536);
+    let k = scalar::min_usize(n, sizes::MOST_BLOCK);
     cut::feed_in(st, block, k, line, code, out)
 }
 
 // The end of the input: "a last line without it counts if not empty"; "Empty input prints the line `0500`", as an empty code line does.
 // What is printed stands in `out`; the answer is how many bytes that are. The code line's buffer is used for a code line that ends here.
-pub fn close(st: State, line: &[u8; 32769], code: &mut [u8; 16384], out: &mut [u8; 517]) -> usize
-    ensures { λ r. ⌜ r ≡ length (closeOut (keptOf (held st (now (line .entry)) (now (code .entry))))) ⌝ }
-    ensures { λ _. ⌜ now (code .exit) ≡ closeHeld (held st (now (line .entry)) (now (code .entry))) .bytes ⌝ }
-    ensures { λ _. ⌜ now (out .exit) ≡ putAt (now (out .entry)) 0 (closeOut (keptOf (held st (now (line .entry)) (now (code .entry))))) ⌝ }
+pub fn close(
+    st: State,
+    line: &[u8; sizes::LINE_ROOM],
+    code: &mut [u8; sizes::MOST_LINE_BYTES],
+    out: &mut [u8; sizes::MOST_PRINTED],
+) -> usize
+    ensures { λ r. ⌜ r ≡ length (closeOut (keptOf (heldIn st (now (line .entry)) (now (code .entry))))) ⌝ }
+    ensures { λ _. ⌜ now (code .exit) ≡ closeHeld (heldIn st (now (line .entry)) (now (code .entry))) .bytes ⌝ }
+    ensures { λ _. ⌜ now (out .exit)
+        ≡ putAt (now (out .entry)) 0 (closeOut (keptOf (heldIn st (now (line .entry)) (now (code .entry))))) ⌝ }
 {
     cut::close_in(st, line, code, out)
 }

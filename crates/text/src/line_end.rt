@@ -4,6 +4,7 @@ use crate::print;
 use crate::state::State;
 use codeline::answers::Header;
 use field::Written;
+use scalar::sizes;
 ghost use mathlib.Core.Path.{_≡_};
 ghost use mathlib.Core.Bool.{false, not};
 ghost use mathlib.Core.List.{_++_};
@@ -11,9 +12,9 @@ ghost use Prim.Native.Nat.{_+_, _≤_};
 ghost use lib.ListN.{length, take, drop};
 ghost use Rattle.machine.specs.Printing.{frameLine};
 ghost use Rattle.machine.specs.Program.{readCode};
-ghost use Rattle.machine.specs.inner.Blocks.{codeOut, finishedOut};
+ghost use Rattle.machine.specs.inner.Blocks.{codeOut, lineFinishedOut};
 ghost use Rattle.trellis.specs.Lists.{pick};
-ghost use Rattle.text.specs.inner.Held.{held, keptOf, putAt, codeBytes, accepts, finishedHeld};
+ghost use Rattle.text.specs.inner.Held.{heldIn, keptOf, putAt, codeBytes, accepts, finishedHeld};
 
 // Puts the first n bytes of a row into the output.
 fn put(row: &[u8], n: usize, out: &mut [u8], full: usize) -> usize
@@ -27,7 +28,13 @@ fn put(row: &[u8], n: usize, out: &mut [u8], full: usize) -> usize
 }
 
 // Prints what print::frame_line gives, and returns how many bytes are then printed.
-fn print_in(code: &[u8], text: &[u8], row: &mut [u8; 517], out: &mut [u8], full: usize) -> usize
+fn print_in(
+    code: &[u8],
+    text: &[u8],
+    row: &mut [u8; sizes::MOST_PRINTED],
+    out: &mut [u8],
+    full: usize,
+) -> usize
     requires { ⌜ full + length (frameLine (now code) (now text)) ≤ length (now out) ⌝ }
     ensures { λ r. ⌜ r ≡ full + length (frameLine (now (code .entry)) (now (text .entry))) ⌝ }
     ensures { λ _. ⌜ now (out .exit) ≡ putAt (now (out .entry)) full (frameLine (now (code .entry)) (now (text .entry))) ⌝ }
@@ -41,7 +48,7 @@ fn print(code: &[u8], text: &[u8], out: &mut [u8], full: usize) -> usize
     ensures { λ r. ⌜ r ≡ full + length (frameLine (now (code .entry)) (now (text .entry))) ⌝ }
     ensures { λ _. ⌜ now (out .exit) ≡ putAt (now (out .entry)) full (frameLine (now (code .entry)) (now (text .entry))) ⌝ }
 {
-    let mut row = [0u8; 517];
+    let mut row = [0u8; sizes::MOST_PRINTED];
     print_in(code, text, &mut row, out, full)
 }
 
@@ -100,19 +107,19 @@ pub fn finish_line(st: State, line: &[u8], code: &mut [u8], out: &mut [u8]) -> S
     requires { ⌜ (length (now line)
         ≡ 32769) × ((length (now code)
         ≡ 16384) × ((st .ended
-        ≡ false) × (st .full + length (finishedOut (keptOf (held st (now line) (now code)))) ≤ length (now out)))) ⌝ }
-    ensures { λ r. ⌜ held r (now (line .entry)) (now (code .exit)) ≡ finishedHeld (held st (now (line .entry)) (now (code .entry))) ⌝ }
-    ensures { λ r. ⌜ r .full ≡ st .full + length (finishedOut (keptOf (held st (now (line .entry)) (now (code .entry))))) ⌝ }
+        ≡ false) × (st .full + length (lineFinishedOut (keptOf (heldIn st (now line) (now code)))) ≤ length (now out)))) ⌝ }
+    ensures { λ r. ⌜ heldIn r (now (line .entry)) (now (code .exit)) ≡ finishedHeld (heldIn st (now (line .entry)) (now (code .entry))) ⌝ }
+    ensures { λ r. ⌜ r .full ≡ st .full + length (lineFinishedOut (keptOf (heldIn st (now (line .entry)) (now (code .entry))))) ⌝ }
     ensures { λ _. ⌜ now (out .exit)
-        ≡ putAt (now (out .entry)) (st .full) (finishedOut (keptOf (held st (now (line .entry)) (now (code .entry))))) ⌝ }
+        ≡ putAt (now (out .entry)) (st .full) (lineFinishedOut (keptOf (heldIn st (now (line .entry)) (now (code .entry))))) ⌝ }
 {
-    let t = scalar::min_usize(st.len, 32769);
+    let t = scalar::min_usize(st.len, sizes::LINE_ROOM);
     let n = st.code;
     let full = st.full;
     if n == 0 {
         return finish_code(&line[..t], code, out, full);
     }
-    let k = scalar::min_usize(n, 16384);
+    let k = scalar::min_usize(n, sizes::MOST_LINE_BYTES);
     let f = print(&code[..k], &line[..t], out, full);
     State {
         len: 0,

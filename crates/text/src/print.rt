@@ -3,6 +3,7 @@ use crate::hex;
 use field::Written;
 use layered::answers::Answer;
 use layered::answers::Outcome;
+use scalar::sizes;
 ghost use mathlib.Core.Path.{_≡_};
 ghost use mathlib.Core.List.{_∷_, _++_};
 ghost use Prim.Native.Nat.{_+_, _*_, _<_, _≤_};
@@ -120,17 +121,17 @@ pub fn text_in(
 }
 
 // The same in an array for the longest line, with the room that a decoding takes.
-pub fn frame_line(code: &[u8], text: &[u8], out: &mut [u8; 517]) -> usize
+pub fn frame_line(code: &[u8], text: &[u8], out: &mut [u8; sizes::MOST_PRINTED]) -> usize
     ensures { λ r. ⌜ r ≡ length (frameLine (now (code .entry)) (now (text .entry))) ⌝ }
     ensures { λ _. ⌜ now (out .exit)
         ≡ frameLine (now (code .entry)) (now (text .entry))
         ++ drop (length (frameLine (now (code .entry)) (now (text .entry)))) (now (out .entry)) ⌝ }
 {
-    let mut bytes = [0u8; 16384];
-    let mut symbols = [0u8; 256];
-    let mut costs = [0u16; 16384];
-    let mut store = [0u8; 57472];
-    let mut margins = [0u16; 256];
+    let mut bytes = [0u8; sizes::MOST_LINE_BYTES];
+    let mut symbols = [0u8; sizes::MOST_SYMBOLS];
+    let mut costs = [0u16; sizes::MOST_COSTS];
+    let mut store = [0u8; sizes::MOST_STORE];
+    let mut margins = [0u16; sizes::MOST_MARGINS];
     text_in(
         code,
         text,

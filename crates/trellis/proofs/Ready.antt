@@ -12,7 +12,7 @@ use Rattle.trellis.specs.Rules.{ruleFor, powerOf, sizeOf, mostOf, column
 use Rattle.trellis.specs.Ready.{Ready}
 use Rattle.trellis.proofs.Sent.{Proper}
 use Rattle.trellis.proofs.FieldLaws.{fields-at}
-use Rattle.trellis.proofs.Instances.{Accepted, proper}
+use Rattle.trellis.proofs.Instances.{AcceptedColumn, proper}
 use Rattle.trellis.proofs.Rules.{first-power, first-joins, most-some}
 
 pub length-columns : (q : ℕ) (ws cs : List ℕ) → length (columnsOf q ws cs) ≡ length ws
@@ -50,9 +50,9 @@ module _ (f : ℕ) (ws cs : List ℕ) (D : Ready f ws cs) where
   pub costs-length : (n : ℕ) → n < length ws → length (costsAt q cs n) ≡ q
   costs-length n h = simp (length-take, length-drop) (omega (arith, D .count, room n h))
 
-  accepted : (n : ℕ) → n < length ws → Accepted (powerOf f) (column theColumns n)
+  accepted : (n : ℕ) → n < length ws → AcceptedColumn (powerOf f) (column theColumns n)
   accepted n h =
-      subst (λ c. Accepted (powerOf f) c) (sym (column-at q ws cs n h))
+      subst (λ c. AcceptedColumn (powerOf f) c) (sym (column-at q ws cs n h))
       record {
         weight-small = D .weight-small n h;
         weight-some = D .weight-some n h;

@@ -10,9 +10,9 @@ use lib.Dec.{T}
 use Rattle.trellis.specs.Lists.{allTo}
 
 -- a Boolean and its fact
-pub decide : (b : Bool) → T b ⊎ (T b → ⊥)
-decide true = inl tt
-decide false = inr (λ t. t)
+pub holds-or-not : (b : Bool) → T b ⊎ (T b → ⊥)
+holds-or-not true = inl tt
+holds-or-not false = inr (λ t. t)
 
 pub or-cases : (a b : Bool) → T (a || b) → T a ⊎ T b
 or-cases true b t = inl tt
@@ -61,7 +61,7 @@ all-of f (suc n) h = both (allTo f n) (f n) (all-of f n (λ m l. h m (omega arit
 -- a test at each number below n, or one at which it fails
 pub all-or-one : (p : ℕ → Bool) (n : ℕ) → ((m : ℕ) → m < n → T (p m)) ⊎ ((m : ℕ) × (m < n) × (T (p m) → ⊥))
 all-or-one p zero = inl (λ m h. absurd (not-suc-le-zero h))
-all-or-one p (suc n) = go (all-or-one p n) (decide (p n))
+all-or-one p (suc n) = go (all-or-one p n) (holds-or-not (p n))
   where
     go : ((m : ℕ) → m < n → T (p m)) ⊎ ((m : ℕ) × (m < n) × (T (p m) → ⊥)) → T (p n) ⊎ (T (p n) → ⊥)
         → ((m : ℕ) → m < suc n → T (p m)) ⊎ ((m : ℕ) × (m < suc n) × (T (p m) → ⊥))

@@ -13,5 +13,6 @@ pub mod Display
 pub mod Kept
 pub mod Reply
 pub mod Refusals
+pub mod Sizes
 pub mod Bench
 pub mod inner

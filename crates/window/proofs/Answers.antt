@@ -22,7 +22,7 @@ use Rattle.machine.specs.inner.Faults.{roomFault}
 use Rattle.machine.proofs.Faults.{admitted-by}
 use Rattle.machine.specs.Moments.{loadingUnder, loading, costsOk, storeOk, resumableUnder, resumable, further, stateAfter, iteratingUnder, iterating}
 use Rattle.window.specs.Window.{Registers, idle, read, Window, bitFor, setting, entering, taking, load, iterate, masked, cleared, second, command, write}
-use Rattle.window.specs.Writes.{Bytes, Lending, lentTo, step, since, Shows, acts, Changes, Every-list}
+use Rattle.window.specs.Writes.{Bytes, Lending, lentTo, step, since, RegistersShow, acts, Changes, Every-list}
 use Rattle.machine.proofs.Early.{limit-read}
 
 -- the number of a refusal is one of the list's
@@ -296,7 +296,7 @@ module _ (code f : List ℕ) (bytes : Bytes code) where
       go false j k l true x e y = record { fit = F .fit; two-bits = F .two-bits; mask-low = small }
       go false j k l false x e y = F
 
-shows : (r : Registers) → Fits r → Shows r
+shows : (r : Registers) → Fits r → RegistersShow r
 unfolding read
 shows r F =
     record {

@@ -63,9 +63,9 @@ pub found : after (to 4 1 ∷ to 0 1 ∷ to 0 2 ∷ [])
 unfolding write command second loading iterating resumable costsOk storeOk updateLent costsLent recordLent iterationLent messageLent readAt expandAt setting admitted parse firstOk checks checkAt edges readEdge frameFault place spread arriving outgoing incoming settled symbols margins marginOf choices leastCost xor recordOf shifts group above extra sentAt shift decided
 found = refl
 
-pub raised : interrupt (bytes 2 0 1 1 1) ≡ true
+pub interrupt-raised : interrupt (bytes 2 0 1 1 1) ≡ true
 unfolding interrupt
-raised = refl
+interrupt-raised = refl
 
 -- a running window with buffers that somebody else has written: no 0 in a column, a cost above 510, a record that is not of accepted form
 abbrev costs : ℕ → List ℕ

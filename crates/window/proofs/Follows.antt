@@ -16,7 +16,7 @@ use Rattle.machine.specs.Decoding.{outcome}
 use Rattle.machine.specs.inner.Accepted.{GoodCode}
 use Rattle.machine.proofs.Lines.{parse-good}
 use Rattle.machine.proofs.Early.{limit-read}
-use Rattle.machine.proofs.Updates.{Kept}
+use Rattle.machine.proofs.Updates.{GoodUpdates}
 use Rattle.machine.proofs.Ranges.{frame-ranged}
 use Rattle.machine.proofs.Lent.{held-none, held-end, Ready, iteration-t, go-stands}
 use Rattle.machine.specs.Decoding.{Buffers, holding, admitted, decodingUnder, decoding, storeOf, Room}

@@ -70,7 +70,7 @@ since r [] = r
 since r (x ∷ l) = since (step r x) l
 
 -- what the registers show after every list of writes from idle
-pub record Shows (r : Registers) : Type 0 where
+pub record RegistersShow (r : Registers) : Type 0 where
   pub byte-0 : read r 0 ≡ 0
   pub past-5 : (a : ℕ) → 5 < a → read r a ≡ 0
   pub states : r .state ≤ 4
@@ -107,4 +107,4 @@ pub record Changes (r : Registers) (x : Lending) : Type 0 where
 
 -- "For every list of writes from idle, the window answers as this paragraph says"
 abbrev pub Every-list : Type 0
-Every-list = (l : List Lending) → Shows (since idle l) × ((x : Lending) → Changes (since idle l) x)
+Every-list = (l : List Lending) → RegistersShow (since idle l) × ((x : Lending) → Changes (since idle l) x)

@@ -12,15 +12,15 @@ use Rattle.blocks.proofs.copy.Statement.{statement}
 use Rattle.blocks.proofs.copy.Tie as tie
 
 abbrev Inv-loop : tie.InvT-loop
-Inv-loop w e₀ n v₀ e v = ((v ≤ n) × (v % 16 ≡ 0)) × ((length e ≡ length e₀) × (e ≡ tab (λ (k : ℕ). getD w k 0) v ++ drop v e₀))
+Inv-loop from e₀ n v₀ e v = ((v ≤ n) × (v % 16 ≡ 0)) × ((length e ≡ length e₀) × (e ≡ tab (λ (k : ℕ). getD from k 0) v ++ drop v e₀))
 
 abbrev μ-loop : tie.MeasureT-loop
-μ-loop w e₀ n v₀ e v = n - v
+μ-loop from e₀ n v₀ e v = n - v
 
 returns : tie.Need-returns Inv-loop μ-loop
 returns c =
     let start = c .before .before .before in
-    copy-apart (start .args .w .now) (start .args .e .now) (c .if1 .taken)
+    copy-apart (start .args .from .now) (start .args .e .now) (c .if1 .taken)
 
 mul-n : tie.Need-mul-n Inv-loop μ-loop
 mul-n c = search needs
@@ -62,7 +62,7 @@ loop-again c =
     let at-loop = at-next .before .before in
     let at-if1 = at-loop .before in
     let start = at-if1 .before .before .before in
-    let w = start .args .w .now in
+    let w = start .args .from .now in
     let out = at-loop .loop .e in
     let v = at-loop .loop .v in
     let b = at-next .next .result in
@@ -81,7 +81,7 @@ returns-2 c =
     let at-loop = c .before in
     let at-if1 = at-loop .before in
     let start = at-if1 .before .before .before in
-    copy-end (start .args .w .now) (start .args .e .now) (at-loop .loop .v) (at-if1 .if1 .left) (omega arith) (at-loop .loop .inv .1 .1)
+    copy-end (start .args .from .now) (start .args .e .now) (at-loop .loop .v) (at-if1 .if1 .left) (omega arith) (at-loop .loop .inv .1 .1)
 
 pub copy-spec : {M : Type 1} → statement M
 copy-spec =

@@ -12,15 +12,15 @@ use Rattle.blocks.proofs.raise.Statement.{statement}
 use Rattle.blocks.proofs.raise.Tie as tie
 
 abbrev Inv-loop : tie.InvT-loop
-Inv-loop w e₀ n v₀ e v = ((v ≤ n) × (v % 16 ≡ 0)) × ((length e ≡ length e₀) × (e ≡ tab (λ (k : ℕ). max (getD e₀ k 0) (getD w k 0)) v ++ drop v e₀))
+Inv-loop from e₀ n v₀ e v = ((v ≤ n) × (v % 16 ≡ 0)) × ((length e ≡ length e₀) × (e ≡ tab (λ (k : ℕ). max (getD e₀ k 0) (getD from k 0)) v ++ drop v e₀))
 
 abbrev μ-loop : tie.MeasureT-loop
-μ-loop w e₀ n v₀ e v = n - v
+μ-loop from e₀ n v₀ e v = n - v
 
 returns : tie.Need-returns Inv-loop μ-loop
 returns c =
     let start = c .before .before .before in
-    raise-apart (start .args .w .now) (start .args .e .now) (c .if1 .taken)
+    raise-apart (start .args .from .now) (start .args .e .now) (c .if1 .taken)
 
 raise-block-requires : tie.Need-raise-block-requires Inv-loop μ-loop
 raise-block-requires c κs = search needs
@@ -34,7 +34,7 @@ returns-2 c =
     let at-if2 = at-block .before .before in
     let at-if1 = at-if2 .before in
     let start = at-if1 .before .before .before in
-    raise-one (start .args .w .now) (start .args .e .now) (at-if1 .if1 .left) (at-if2 .if2 .taken) (at-block .raise-block .ensures)
+    raise-one (start .args .from .now) (start .args .e .now) (at-if1 .if1 .left) (at-if2 .if2 .taken) (at-block .raise-block .ensures)
 
 mul-n : tie.Need-mul-n Inv-loop μ-loop
 mul-n c = search needs
@@ -76,7 +76,7 @@ loop-again c =
     let at-loop = at-next .before .before in
     let at-if1 = at-loop .before .before in
     let start = at-if1 .before .before .before in
-    let w = start .args .w .now in
+    let w = start .args .from .now in
     let out = at-loop .loop .e in
     let v = at-loop .loop .v in
     let b = at-next .next .result in
@@ -95,7 +95,7 @@ returns-3 c =
     let at-loop = c .before in
     let at-if1 = at-loop .before .before in
     let start = at-if1 .before .before .before in
-    raise-end (start .args .w .now) (start .args .e .now) (at-loop .loop .v) (at-if1 .if1 .left) (omega arith) (at-loop .loop .inv .1 .1)
+    raise-end (start .args .from .now) (start .args .e .now) (at-loop .loop .v) (at-if1 .if1 .left) (omega arith) (at-loop .loop .inv .1 .1)
 
 pub raise-spec : {M : Type 1} → statement M
 raise-spec =

@@ -7,13 +7,13 @@ use Rattle.blocks.proofs.raise_block.Tie as tie
 returns : tie.Need-returns
 returns c =
     let start = c .before .before .before in
-    raise-short-w (start .args .w .now) (start .args .e .now) (c .if1 .taken)
+    raise-short-w (start .args .from .now) (start .args .e .now) (c .if1 .taken)
 
 returns-2 : tie.Need-returns-2
 returns-2 c =
     let at-if1 = c .before in
     let start = at-if1 .before .before .before in
-    raise-short-e (start .args .w .now) (start .args .e .now) (at-if1 .if1 .left) (c .if2 .taken)
+    raise-short-e (start .args .from .now) (start .args .e .now) (at-if1 .if1 .left) (c .if2 .taken)
 
 slice-aggregate-better : tie.Need-slice-aggregate-better
 slice-aggregate-better c = search needs
@@ -37,7 +37,7 @@ returns-3 c =
     let at-if2 = at-better .before .before .before in
     let at-if1 = at-if2 .before in
     let start = at-if1 .before .before .before in
-    raise-done (start .args .w .now) (start .args .e .now) (at-if1 .if1 .left) (at-if2 .if2 .left) (at-better .better .ensures) (at-copy .copy .ensures)
+    raise-done (start .args .from .now) (start .args .e .now) (at-if1 .if1 .left) (at-if2 .if2 .left) (at-better .better .ensures) (at-copy .copy .ensures)
 
 pub raise-block-spec : {M : Type 1} → statement M
 raise-block-spec =

@@ -6,6 +6,7 @@ use lib.Dec.{eqb}
 use lib.ListN.{length}
 use Rattle.trellis.specs.Refusals.{faultBy}
 use Rattle.trellis.specs.Rules.{sizeOf}
+use Rattle.trellis.specs.Sizes.{mostSymbols, mostExpansion}
 use Rattle.machine.specs.CodeLine.{Code}
 use Rattle.machine.specs.Machine.{used}
 use Rattle.machine.specs.Decoding.{Buffers}
@@ -36,7 +37,7 @@ faultFor n z f y c s v = faultBy (wholeTests n (z .columns) (z .costs) (z .store
 -- lengths whose multiples fit
 pub record FaultRoom (n : ℕ) (z : Layout) : Type 0 where
   pub few : n ≤ 8
-  pub columns : z .columns ≤ 256
+  pub columns : z .columns ≤ mostSymbols
   pub costs : z .costs ≤ 16384
   pub store : z .store ≤ 65535
 
@@ -84,8 +85,8 @@ pub record NextRoom (c t : ℕ) (z : Layout) (ds cs ws : List ℕ) (b : Buffers)
   pub fitted : Fitted z ds cs ws
   pub room : PartRoom z c b
   pub passable : Passable (codeFor z ds cs ws) (fitted .coded .good) (eqb t 0) (lentIn (ownOf (codeFor z ds cs ws) b c))
-  pub arrived : 2048 ≤ length A
-  pub sent : 2048 ≤ length S
+  pub arrived : mostExpansion ≤ length A
+  pub sent : mostExpansion ≤ length S
 
 -- the service of n channels, a round with two lists to work in, and one of its servings
 pub record ServeRoom (n : ℕ) (z : Layout) (ds cs ws : List ℕ) (l : Standing) : Type 0 where
@@ -94,8 +95,8 @@ pub record ServeRoom (n : ℕ) (z : Layout) (ds cs ws : List ℕ) (l : Standing)
 
 pub record RoundRoom (n : ℕ) (z : Layout) (ds cs ws : List ℕ) (l : Standing) (A S : List ℕ) : Type 0 where
   pub serve : ServeRoom n z ds cs ws l
-  pub arrived : 2048 ≤ length A
-  pub sent : 2048 ≤ length S
+  pub arrived : mostExpansion ≤ length A
+  pub sent : mostExpansion ≤ length S
 
 pub record OneRoom (c : ℕ) (z : Layout) (ds cs ws : List ℕ) (l : Standing) (A S : List ℕ) : Type 0 where
   pub count : ℕ

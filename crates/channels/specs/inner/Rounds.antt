@@ -25,14 +25,14 @@ opened C f own =
     (moment 4 (frameFault C f) 0 own)
 
 -- its next iteration, after t
-abbrev pub stepped : Code → ℕ → Buffers → Moment
-stepped C t own = gone C (t + 1) (further C t own) own
+abbrev pub nextIteration : Code → ℕ → Buffers → Moment
+nextIteration C t own = gone C (t + 1) (further C t own) own
 
 unfoldable pub loadAt : Code → List ℕ → ℕ → Buffers → Moment
 loadAt C fs c b = opened C (frameOf C fs c) (ownOf C b c)
 
 unfoldable pub stepAt : Code → ℕ → ℕ → Buffers → Moment
-stepAt C c t b = stepped C t (ownOf C b c)
+stepAt C c t b = nextIteration C t (ownOf C b c)
 
 -- the buffers with channel c's parts replaced
 abbrev pub patchAt : Code → ℕ → Buffers → Buffers → Buffers
@@ -63,8 +63,8 @@ abbrev pub standing : List ℕ → List ℕ → ℕ → Buffers → Standing
 standing s t a b = record { status = s; counts = t; left = a; buffers = b }
 
 -- what the loads see of it: they are lent no store, no iterations and no allowance
-abbrev pub loading : List ℕ → List ℕ → List ℕ → List ℕ → Standing
-loading s y p v = standing s [] 0 (unstored y p v)
+abbrev pub loadStanding : List ℕ → List ℕ → List ℕ → List ℕ → Standing
+loadStanding s y p v = standing s [] 0 (unstored y p v)
 
 abbrev pub statusAt : Standing → ℕ → ℕ
 statusAt l c = getD (l .status) c 0

@@ -7,6 +7,7 @@ use Rattle.trellis.specs.Lists.{tab, part}
 use Rattle.trellis.specs.Field.{xor, product}
 use Rattle.trellis.specs.Check.{firstZero, sentAt}
 use Rattle.trellis.specs.Rules.{powerOf, sizeOf, ruleFor, columnsOf, costsAt}
+use Rattle.trellis.specs.Sizes.{mostDegree}
 use Rattle.engine.specs.inner.Lines.{placed}
 
 -- each symbol's row is below 2 ^ p, and the line has these rows
@@ -55,18 +56,18 @@ pub record SentRoom (row : List ℕ) (s : ℕ) (rests out : List ℕ) : Type 0 w
   pub same : length row ≡ length out
   pub below : (x : ℕ) → x < length out → xor (getD row x 0) s < length rests
 
--- column n of them, with w products and l rests a column
+-- column n of them, with q products and l rests a column
 abbrev pub sentColumn : ℕ → ℕ → List ℕ → List ℕ → List ℕ → ℕ → List ℕ
-sentColumn w l rows shifts rests n = tab (sentIn (part rows (n * w) w) (getD shifts n 0) (part rests (n * l) l)) w
+sentColumn q l rows shifts rests n = tab (sentIn (part rows (n * q) q) (getD shifts n 0) (part rests (n * l) l)) q
 
-pub record SendsRoom (w l : ℕ) (rows shifts rests out : List ℕ) : Type 0 where
-  pub few : length shifts ≤ 32
-  pub narrow : w ≤ 64
+pub record SendsRoom (q l : ℕ) (rows shifts rests out : List ℕ) : Type 0 where
+  pub few : length shifts ≤ mostDegree
+  pub narrow : q ≤ 64
   pub short : l ≤ 64
-  pub of-rows : length rows ≡ length shifts * w
+  pub of-rows : length rows ≡ length shifts * q
   pub of-rests : length rests ≡ length shifts * l
-  pub of-out : length out ≡ length shifts * w
-  pub below : (n x : ℕ) → n < length shifts → x < w → xor (getD rows (n * w + x) 0) (getD shifts n 0) < l
+  pub of-out : length out ≡ length shifts * q
+  pub below : (n x : ℕ) → n < length shifts → x < q → xor (getD rows (n * q + x) 0) (getD shifts n 0) < l
 
 -- the places of a column's line: the field's rows, and sixteen at least
 abbrev pub sideOf : ℕ → ℕ

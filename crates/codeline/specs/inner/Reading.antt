@@ -6,6 +6,7 @@ use Prim.Native.Nat.{ℕ, _+_, _*_, _≤_, _<_}
 use lib.Dec.{ltb}
 use lib.ListN.{length, take, drop, getD}
 use Rattle.trellis.specs.Refusals.{refusedBy}
+use Rattle.trellis.specs.Sizes.{mostDegree, mostEdges, mostChecks}
 use Rattle.machine.specs.CodeLine.{Read, good, bad, Code, Edge as Pair, edge, wordAt, headTests, Numbers}
 use Rattle.machine.specs.inner.Tables.{Flat, flat, Tables, tables}
 use Rattle.codeline.specs.Answers.{degreeTable, columnTable, weightTable}
@@ -55,7 +56,7 @@ checkRead (CheckRefused k) total cs ws = bad k
 -- the degree is the check's first byte; the line and the tables have room for the check; the place behind it
 abbrev pub CheckFits : Check → List ℕ → ℕ → ℕ → Type 0
 CheckFits (Degree d next) s at total =
-    (d ≡ getD s at 0) × ((d ≤ 32) × ((total + d ≤ 1024) × ((at + 1 + 3 * d ≤ length s) × (next ≡ at + 1 + 3 * d))))
+    (d ≡ getD s at 0) × ((d ≤ mostDegree) × ((total + d ≤ mostEdges) × ((at + 1 + 3 * d ≤ length s) × (next ≡ at + 1 + 3 * d))))
 CheckFits (CheckRefused k) s at total = Unit {0}
 
 -- count checks
@@ -64,7 +65,7 @@ checksRead (Total total) count ds cs ws = good (tables (take count ds) (take tot
 checksRead (ChecksRefused k) count ds cs ws = bad k
 
 abbrev pub ChecksFit : Checks → Type 0
-ChecksFit (Total total) = total ≤ 1024
+ChecksFit (Total total) = total ≤ mostEdges
 ChecksFit (ChecksRefused k) = Unit {0}
 
 -- tables into which a code's checks were read: so many entries, and behind them anything
@@ -75,7 +76,7 @@ pub record Filled (C : Code) (ds cs ws : List ℕ) (edges : ℕ) : Type 0 where
 
 -- there is room for as many
 abbrev pub CountFits : Header → ℕ → Type 0
-CountFits (HeaderRead k) edges = (k .checks ≤ 128) × (edges ≤ 1024)
+CountFits (HeaderRead k) edges = (k .checks ≤ mostChecks) × (edges ≤ mostEdges)
 CountFits (HeaderRefused k) edges = Unit {0}
 
 abbrev pub checksIn : Header → ℕ
@@ -99,5 +100,5 @@ headOf s = refusedBy (headTests s) bad (good (numbersAt s))
 
 -- how many checks there are at most, and the place behind the numbers
 abbrev pub HeadFits : Header → ℕ → List ℕ → Type 0
-HeadFits (HeaderRead k) next s = (k .checks ≤ 128) × ((next ≡ 6) × (next ≤ length s))
+HeadFits (HeaderRead k) next s = (k .checks ≤ mostChecks) × ((next ≡ 6) × (next ≤ length s))
 HeadFits (HeaderRefused k) next s = Unit {0}

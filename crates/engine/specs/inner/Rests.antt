@@ -34,15 +34,15 @@ abbrev pub meetOf : Bool → ℕ → ℕ → ℕ
 meetOf greatest u v = pick greatest (min u v) (u - (255 - v))
 
 -- two tables of q rows joined, at row a: the first has a + b where the second has b
-unfoldable pub across : (ℕ → ℕ → ℕ) → ℕ → (ℕ → ℕ) → (ℕ → ℕ) → ℕ → ℕ
-across meet q f g a = mostTo (λ b. meet (f (xor a b)) (g b)) q
+unfoldable pub joinedAt : (ℕ → ℕ → ℕ) → ℕ → (ℕ → ℕ) → (ℕ → ℕ) → ℕ → ℕ
+joinedAt meet q f g a = mostTo (λ b. meet (f (xor a b)) (g b)) q
 
 -- one column more, where f j is the table for at most j deviations: table 1 takes its line in; table j + 2 joins table j + 1 with it
 unfoldable pub grown : (ℕ → ℕ → ℕ) → ℕ → (ℕ → ℕ) → (ℕ → ℕ → ℕ) → ℕ → ℕ → ℕ
 grown meet q line f zero a = f zero a
 grown meet q line f (suc zero) a = max (f 1 a) (line a)
-grown meet q line f (suc (suc j)) a = max (f (suc (suc j)) a) (across meet q (f (suc j)) line a)
+grown meet q line f (suc (suc j)) a = max (f (suc (suc j)) a) (joinedAt meet q (f (suc j)) line a)
 
 -- the tables before a column joined with those after it: at most k deviations together, all before, all after, or some on either side
 unfoldable pub between : (ℕ → ℕ → ℕ) → ℕ → ℕ → (ℕ → ℕ → ℕ) → (ℕ → ℕ → ℕ) → ℕ → ℕ
-between meet q k f g a = max (max (f k a) (g k a)) (mostTo (λ i. across meet q (f (k - suc i)) (g (suc i)) a) (k - 1))
+between meet q k f g a = max (max (f k a) (g k a)) (mostTo (λ i. joinedAt meet q (f (k - suc i)) (g (suc i)) a) (k - 1))

@@ -5,7 +5,7 @@ use borrow.Author.Needs.{needs}
 use borrow.Author.Tests.{not-true, not-false}
 use lib.ListN.{length, length-take}
 use Rattle.trellis.proofs.Recurrence.{size-64}
-use Rattle.field.proofs.Weighed.{Weighed, no-fault}
+use Rattle.field.proofs.Weighed.{WeightsAccepted, no-fault}
 use Rattle.field.proofs.Blocks.{mul-small}
 use Rattle.expansion.proofs.ExpandCall.{refused-fault, refused-16, refused-2, accepts, written}
 use Rattle.expansion.proofs.expand.Statement.{statement}
@@ -30,7 +30,7 @@ returns-2 c =
     let at-size = c .before .before in
     let at-if1 = at-size .before in
     let s = at-if1 .before .before .before .before .before in
-    let W : Weighed (s .args .first) (s .args .weights .now) = no-fault _ _ (sym (at-if1 .before .weights-fault .ensures) ∙ at-if1 .if1 .left) in
+    let W : WeightsAccepted (s .args .first) (s .args .weights .now) = no-fault _ _ (sym (at-if1 .before .weights-fault .ensures) ∙ at-if1 .if1 .left) in
     refused-16 (s .args .first) (s .args .weights .now) (s .args .bytes .now) (s .args .out .now) W _ (at-size .size .ensures .0) (c .before .record-ok .ensures) (not-true _ (c .if2 .taken))
 
 mul-n : tie.Need-mul-n
@@ -38,7 +38,7 @@ mul-n c =
     let at-size = c .before .before in
     let at-if1 = at-size .before in
     let s = at-if1 .before .before .before .before .before in
-    let W : Weighed (s .args .first) (s .args .weights .now) = no-fault _ _ (sym (at-if1 .before .weights-fault .ensures) ∙ at-if1 .if1 .left) in
+    let W : WeightsAccepted (s .args .first) (s .args .weights .now) = no-fault _ _ (sym (at-if1 .before .weights-fault .ensures) ∙ at-if1 .if1 .left) in
     omega (arith, mul-small (length (s .args .weights .now)) (at-size .size .result) (W .few) (omega (arith, at-size .size .ensures .0, size-64 _ (W .high))))
 
 returns-3 : tie.Need-returns-3
@@ -46,7 +46,7 @@ returns-3 c =
     let at-size = c .before .before .before in
     let at-if1 = at-size .before in
     let s = at-if1 .before .before .before .before .before in
-    let W : Weighed (s .args .first) (s .args .weights .now) = no-fault _ _ (sym (at-if1 .before .weights-fault .ensures) ∙ at-if1 .if1 .left) in
+    let W : WeightsAccepted (s .args .first) (s .args .weights .now) = no-fault _ _ (sym (at-if1 .before .weights-fault .ensures) ∙ at-if1 .if1 .left) in
     refused-2 (s .args .first) (s .args .weights .now) (s .args .bytes .now) (s .args .out .now) W _ (at-size .size .ensures .0) (c .before .before .record-ok .ensures) (not-false _ (c .before .if2 .left)) (c .if3 .taken)
 
 slice-relend-prefix-expand-in : tie.Need-slice-relend-prefix-expand-in
@@ -60,7 +60,7 @@ expand-in-requires c κs =
     let at-size = c .before .before .before .before in
     let at-if1 = at-size .before in
     let s = at-if1 .before .before .before .before .before in
-    let W : Weighed (s .args .first) (s .args .weights .now) = no-fault _ _ (sym (at-if1 .before .weights-fault .ensures) ∙ at-if1 .if1 .left) in
+    let W : WeightsAccepted (s .args .first) (s .args .weights .now) = no-fault _ _ (sym (at-if1 .before .weights-fault .ensures) ∙ at-if1 .if1 .left) in
     let e = at-size .size .ensures .0 in
     let X = accepts (s .args .first) (s .args .weights .now) (s .args .bytes .now) (s .args .out .now) W _ e (c .before .before .before .record-ok .ensures) (not-false _ (c .before .before .if2 .left)) in
     (X, (omega (arith, e, size-64 _ (W .high)), (e, rw (← e) (simp length-take (omega arith)))))
@@ -74,7 +74,7 @@ returns-4 c =
     let at-size = at-if3 .before .before .before in
     let at-if1 = at-size .before in
     let s = at-if1 .before .before .before .before .before in
-    let W : Weighed (s .args .first) (s .args .weights .now) = no-fault _ _ (sym (at-if1 .before .weights-fault .ensures) ∙ at-if1 .if1 .left) in
+    let W : WeightsAccepted (s .args .first) (s .args .weights .now) = no-fault _ _ (sym (at-if1 .before .weights-fault .ensures) ∙ at-if1 .if1 .left) in
     written (s .args .first) (s .args .weights .now) (s .args .bytes .now) (s .args .out .now) W _ (at-size .size .ensures .0) (at-if3 .before .before .record-ok .ensures) (not-false _ (at-if3 .before .if2 .left)) (at-if3 .if3 .left) (c .before .before .expand-in .ensures)
 
 pub expand-spec : {M : Type 1} → statement M

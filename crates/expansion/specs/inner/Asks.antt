@@ -8,6 +8,7 @@ use lib.ListN.{length, getD}
 use Rattle.trellis.specs.Lists.{upTo, pick}
 use Rattle.trellis.specs.Record.{expandAt}
 use Rattle.trellis.specs.Rules.{ruleOf}
+use Rattle.trellis.specs.Sizes.{mostDegree}
 
 -- after a pair, the least column that the next used pair may have: one more, 256 after an unused pair, 257 for a fault
 unfoldable pub pairNext : ℕ → ℕ → ℕ → ℕ → ℕ → ℕ
@@ -19,11 +20,11 @@ pairNext c s e d low =
     (c + 1))))
 
 -- weights that are accepted, and a record of accepted form with k pairs a group
-pub record Expandable (p k : ℕ) (ws r : List ℕ) : Type 0 where
+pub record ExpandRoom (p k : ℕ) (ws r : List ℕ) : Type 0 where
   pub low : 2 ≤ p
   pub high : p ≤ 6
   pub pairs : k ≤ 3
-  pub few : length ws ≤ 32
+  pub few : length ws ≤ mostDegree
   pub weight-some : (n : ℕ) → n < length ws → getD ws n 0 ≢ 0
   pub weight-small : (n : ℕ) → n < length ws → getD ws n 0 < 2 ^ p
   pub long : length r ≡ length ws + (1 + 2 * k) * (2 ^ p - 1)

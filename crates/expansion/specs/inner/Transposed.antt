@@ -8,6 +8,7 @@ use lib.Dec.{eqb}
 use lib.ListN.{length, getD}
 use Rattle.trellis.specs.Lists.{tab, blocks, part}
 use Rattle.trellis.specs.Field.{xor}
+use Rattle.trellis.specs.Sizes.{mostDegree}
 
 -- list i in row 0, which has no group: E 0, columns FF, S 0
 unfoldable pub zeroRow : ℕ → ℕ
@@ -52,31 +53,31 @@ abbrev pub turned : ℕ → List ℕ → ℕ → List ℕ → List ℕ → ℕ �
 turned k t q r out n = tab (bySymbol (tab (valueIn k t q n) q) (part out (n * q) q) (getD r n 0)) q
 
 -- a record of degree d with k pairs a group for q rows, and room for its lists
-pub record Unpackable (k d q : ℕ) (r out : List ℕ) : Type 0 where
+pub record UnpackRoom (k d q : ℕ) (r out : List ℕ) : Type 0 where
   pub pairs : k ≤ 3
   pub some : 1 ≤ q
   pub most : q ≤ 64
-  pub few : d ≤ 32
+  pub few : d ≤ mostDegree
   pub long : length r ≡ d + (1 + 2 * k) * (q - 1)
   pub room : length out ≡ (1 + 2 * k) * q
 
 -- lists of q rows for k pairs, with room to read 64 rows of each
-pub record Listed (k q : ℕ) (t : List ℕ) : Type 0 where
+pub record ListsRoom (k q : ℕ) (t : List ℕ) : Type 0 where
   pub pairs : k ≤ 3
   pub most : q ≤ 64
   pub long : 2 * k * q + 64 ≤ length t
 
 -- a column's products and its shift are below their number, a power of two
-pub record Shifted (row : List ℕ) (s : ℕ) : Type 0 where
+pub record ShiftRoom (row : List ℕ) (s : ℕ) : Type 0 where
   pub p : ℕ
   pub size : length row ≡ 2 ^ p
   pub below : (x : ℕ) → x < length row → getD row x 0 < 2 ^ p
   pub s-below : s < 2 ^ p
 
 -- the products of d columns, q each, beside their shifts
-pub record Turnable (d q : ℕ) (r out : List ℕ) : Type 0 where
-  pub few : d ≤ 32
+pub record TurnRoom (d q : ℕ) (r out : List ℕ) : Type 0 where
+  pub few : d ≤ mostDegree
   pub most : q ≤ 64
   pub shifts : d ≤ length r
   pub room : length out ≡ d * q
-  pub shifted : (n : ℕ) → n < d → Shifted (part out (n * q) q) (getD r n 0)
+  pub shifted : (n : ℕ) → n < d → ShiftRoom (part out (n * q) q) (getD r n 0)

@@ -1,18 +1,16 @@
 -- The loop fills the costs from the front with the frame's.
 use mathlib.Core.Path.{_≡_}
 use mathlib.Core.List.{_++_}
-use Prim.Native.Nat.{ℕ, _-_, _≤_}
+use Prim.Native.Nat.{_-_, _≤_}
 use native.Mathlib.Omega.{arith}
 use borrow.Author.Needs.{needs}
-use lib.ListN.{length, drop, getD}
-use Rattle.trellis.specs.Lists.{tab}
-use Rattle.trellis.proofs.Loops.{tab-more}
-use Rattle.frame.proofs.Frames.{copied, copied-none, copied-frame}
+use lib.ListN.{length, take, drop}
+use Rattle.slices.proofs.Copies.{copied-none, copy-more, copy-end}
 use Rattle.frame.proofs.copy.Statement.{statement}
 use Rattle.frame.proofs.copy.Tie as tie
 
 abbrev Inv-loop : tie.InvT-loop
-Inv-loop frame costs₀ i₀ costs i = (i ≤ length costs₀) × ((length costs ≡ length costs₀) × (costs ≡ tab (λ (k : ℕ). getD frame k 0) i ++ drop i costs₀))
+Inv-loop frame costs₀ i₀ costs i = (i ≤ length costs₀) × ((length costs ≡ length costs₀) × (costs ≡ take i frame ++ drop i costs₀))
 
 abbrev μ-loop : tie.MeasureT-loop
 μ-loop frame costs₀ i₀ costs i = length costs₀ - i
@@ -47,7 +45,7 @@ loop-again : tie.Need-loop-again Inv-loop μ-loop
 loop-again c =
     let at-loop = c .before .before .before in
     let start = at-loop .before .before .before .before in
-    (search needs, (search needs, cc (tab-more (λ (k : ℕ). getD (start .args .frame .now) k 0) (start .args .costs .now) (at-loop .loop .i) (omega arith))))
+    (search needs, (search needs, cc (copy-more (start .args .frame .now) (start .args .costs .now) (at-loop .loop .i) (omega arith) (omega arith))))
 
 same-length : tie.Need-same-length Inv-loop μ-loop
 same-length c = search needs
@@ -57,7 +55,7 @@ returns-2 c =
     let at-loop = c .before in
     let at-if1 = at-loop .before in
     let start = at-if1 .before .before .before in
-    copied-frame (start .args .frame .now) (start .args .costs .now) _ (at-if1 .if1 .left) (copied (start .args .frame .now) (start .args .costs .now) (at-loop .loop .costs) (at-loop .loop .i) (at-if1 .if1 .left) (omega arith) (at-loop .loop .inv .1 .1))
+    copy-end (start .args .frame .now) (start .args .costs .now) (at-loop .loop .costs) (at-loop .loop .i) (at-if1 .if1 .left) (omega arith) (at-loop .loop .inv .1 .1)
 
 pub copy-spec : {M : Type 1} → statement M
 copy-spec =

@@ -2,6 +2,7 @@
 use mathlib.Core.List.{List}
 use Prim.Native.Nat.{ℕ, _≤_}
 use lib.ListN.{length}
+use Rattle.trellis.specs.Sizes.{mostExpansion}
 use Rattle.machine.specs.CodeLine.{good, Code}
 use Rattle.machine.specs.Decoding.{Buffers, After, admittedUnder, decodingUnder}
 use Rattle.machine.specs.Early.{earlyUnder}
@@ -19,5 +20,5 @@ earlyOf C f b = earlyUnder (admittedUnder (good C) f b) f b
 -- tables of a code, and room to work in
 pub record CodeRoom (k : Numbers) (ds cs ws A S : List ℕ) : Type 0 where
   pub coded : Coded k ds cs ws
-  pub arrived : 2048 ≤ length A
-  pub sent : 2048 ≤ length S
+  pub arrived : mostExpansion ≤ length A
+  pub sent : mostExpansion ≤ length S

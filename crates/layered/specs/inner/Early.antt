@@ -9,6 +9,7 @@ use lib.ListN.{length, getD, set}
 use Rattle.trellis.specs.Lists.{upto}
 use Rattle.trellis.specs.Check.{decide}
 use Rattle.trellis.specs.Rules.{sizeOf}
+use Rattle.trellis.specs.Sizes.{mostExpansion}
 use Rattle.machine.specs.CodeLine.{Code, columnOf}
 use Rattle.machine.specs.Machine.{found, notFound, symbols, settled}
 use Rattle.machine.specs.Lent.{Lent, lent}
@@ -69,8 +70,8 @@ pub record Unsettled (k : Numbers) (ds cs ws : List ℕ) (u : ℕ) (P store z : 
 -- room to go on from there: two lists to work in
 pub record GoRoom (k : Numbers) (ds cs ws P store z A S : List ℕ) : Type 0 where
   pub unsettled : Unsettled k ds cs ws 0 P store z
-  pub arrived : 2048 ≤ length A
-  pub sent : 2048 ≤ length S
+  pub arrived : mostExpansion ≤ length A
+  pub sent : mostExpansion ≤ length S
 
 -- in the loop over the updates, of which there are at most `most`: the next check stands here, check `from` is not satisfied, and what is
 -- left gives the same as the whole

@@ -4,6 +4,7 @@ use mathlib.Core.Bool.{Bool}
 use mathlib.Core.List.{List}
 use Prim.Native.Nat.{ℕ, _≤_}
 use lib.ListN.{length}
+use Rattle.trellis.specs.Sizes.{mostExpansion}
 use Rattle.machine.specs.Machine.{found, notFound}
 use Rattle.machine.specs.Lent.{Lent, lent, Ended, ended}
 use Rattle.machine.specs.inner.InRange.{Passable}
@@ -25,8 +26,8 @@ pub record Running (k : Numbers) (ds cs ws : List ℕ) (start : Bool) (P store :
 -- room to work in: two lists for the largest check's columns
 pub record IterateRoom (k : Numbers) (ds cs ws : List ℕ) (start : Bool) (P store A S : List ℕ) : Type 0 where
   pub running : Running k ds cs ws start P store
-  pub arrived : 2048 ≤ length A
-  pub sent : 2048 ≤ length S
+  pub arrived : mostExpansion ≤ length A
+  pub sent : mostExpansion ≤ length S
 
 -- and a symbol for each column
 pub record RunRoom (k : Numbers) (ds cs ws : List ℕ) (start : Bool) (P store z A S : List ℕ) : Type 0 where

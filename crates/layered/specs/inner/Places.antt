@@ -6,6 +6,7 @@ use Prim.Native.Nat.{ℕ, _≤_, _<_}
 use lib.Dec.{eqb}
 use lib.ListN.{length}
 use Rattle.trellis.specs.Lists.{pick}
+use Rattle.trellis.specs.Sizes.{mostExpansion}
 use Rattle.machine.specs.Machine.{used}
 use Rattle.machine.specs.Lent.{lent}
 use Rattle.machine.specs.inner.Tables.{edgesBefore, bytesBefore}
@@ -38,5 +39,5 @@ pub record Updatable (k : Numbers) (ds cs ws : List ℕ) (start : Bool) (m : ℕ
 pub record PlaceRoom (k : Numbers) (ds cs ws : List ℕ) (start : Bool) (p : Place) (P store A S : List ℕ) : Type 0 where
   pub updatable : Updatable k ds cs ws start (p .check) P store
   pub stands : Stands (k .first) ds (p .check) p
-  pub arrived : 2048 ≤ length A
-  pub sent : 2048 ≤ length S
+  pub arrived : mostExpansion ≤ length A
+  pub sent : mostExpansion ≤ length S

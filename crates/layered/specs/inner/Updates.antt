@@ -10,6 +10,7 @@ use Rattle.trellis.specs.Lists.{pick, tab}
 use Rattle.trellis.specs.Record.{recordLength, recordOk, expansion}
 use Rattle.trellis.specs.Rules.{firstOk, sizeOf, ruleFor}
 use Rattle.trellis.specs.Ready.{Ready}
+use Rattle.trellis.specs.Sizes.{mostDegree}
 use Rattle.machine.specs.inner.InRange.{Below}
 
 -- what the old record sent, before scaling: its expansion; 0 in the first iteration
@@ -20,7 +21,7 @@ oldCosts first start ws r = pick start (tab (λ x. 0) (length ws * sizeOf first)
 pub record Weighed (first : ℕ) (ws : List ℕ) : Type 0 where
   pub accepted : firstOk first ≡ true
   pub two : 2 ≤ length ws
-  pub few : length ws ≤ 32
+  pub few : length ws ≤ mostDegree
   pub some : (n : ℕ) → n < length ws → getD ws n 0 ≢ 0
   pub small : (n : ℕ) → n < length ws → getD ws n 0 < sizeOf first
 

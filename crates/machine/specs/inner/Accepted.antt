@@ -6,6 +6,7 @@ use mathlib.Core.List.{List, [], _∷_}
 use Prim.Native.Nat.{ℕ, _+_, _≤_, _<_}
 use lib.ListN.{length}
 use Rattle.trellis.specs.Rules.{firstOk}
+use Rattle.trellis.specs.Sizes.{mostDegree, mostSymbols, mostEdges, mostChecks}
 use Rattle.machine.specs.CodeLine.{Edge, Code, power, size, check, edgeAt}
 
 pub record GoodEdge (n q : ℕ) (e : Edge) : Type 0 where
@@ -15,7 +16,7 @@ pub record GoodEdge (n q : ℕ) (e : Edge) : Type 0 where
 
 pub record GoodCheck (n q : ℕ) (es : List Edge) : Type 0 where
   pub low : 2 ≤ length es
-  pub high : length es ≤ 32
+  pub high : length es ≤ mostDegree
   pub each-edge : (k : ℕ) → k < length es → GoodEdge n q (edgeAt es k)
   pub rising : (j k : ℕ) → j < k → k < length es → edgeAt es j .column < edgeAt es k .column
 
@@ -29,11 +30,11 @@ pub record GoodCode (C : Code) : Type 0 where
   pub p-low : 2 ≤ power C
   pub p-high : power C ≤ 6
   pub columns-low : 1 ≤ C .columns
-  pub columns-high : C .columns ≤ 256
+  pub columns-high : C .columns ≤ mostSymbols
   pub scale-low : 1 ≤ C .scale
   pub scale-high : C .scale ≤ 16
   pub limit-low : 1 ≤ C .limit
   pub checks-low : 1 ≤ length (C .checks)
-  pub checks-high : length (C .checks) ≤ 128
+  pub checks-high : length (C .checks) ≤ mostChecks
   pub each-check : (m : ℕ) → m < length (C .checks) → GoodCheck (C .columns) (size C) (check C m)
-  pub edges-high : edgeTotal (C .checks) ≤ 1024
+  pub edges-high : edgeTotal (C .checks) ≤ mostEdges

@@ -39,24 +39,24 @@ codeOut (bad k) = refusedLine k
 codeOut (good C) = []
 
 -- the end of a line: what is kept, and what is printed
-unfoldable pub finished : Session → Session
-finished (first l) = codeKept (readCode l) (lineBytes l)
-finished (later code l) = later code []
-finished ended = ended
+unfoldable pub lineFinished : Session → Session
+lineFinished (first l) = codeKept (readCode l) (lineBytes l)
+lineFinished (later code l) = later code []
+lineFinished ended = ended
 
-unfoldable pub finishedOut : Session → List ℕ
-finishedOut (first l) = codeOut (readCode l)
-finishedOut (later code l) = frameLine code l
-finishedOut ended = []
+unfoldable pub lineFinishedOut : Session → List ℕ
+lineFinishedOut (first l) = codeOut (readCode l)
+lineFinishedOut (later code l) = frameLine code l
+lineFinishedOut ended = []
 
 -- one block: what is kept after it, and what is printed for it
 unfoldable pub fed : Session → List ℕ → Session
 fed k [] = k
-fed k (b ∷ s) = pick (eqb b 0x0A) (fed (finished k) s) (fed (fedByte k b) s)
+fed k (b ∷ s) = pick (eqb b 0x0A) (fed (lineFinished k) s) (fed (fedByte k b) s)
 
 unfoldable pub fedOut : Session → List ℕ → List ℕ
 fedOut k [] = []
-fedOut k (b ∷ s) = pick (eqb b 0x0A) (finishedOut k ++ fedOut (finished k) s) (fedOut (fedByte k b) s)
+fedOut k (b ∷ s) = pick (eqb b 0x0A) (lineFinishedOut k ++ fedOut (lineFinished k) s) (fedOut (fedByte k b) s)
 
 -- the end of the input
 unfoldable pub closeOut : Session → List ℕ

@@ -47,15 +47,15 @@ pub record Steps (row moves : List ℕ) : Type 0 where
   pub sums : Sums (length row)
 
 -- the costs of j deviations, from all cells
-unfoldable pub countAt : Bool → ℕ → List ℕ → List ℕ → List ℕ → ℕ → ℕ → List ℕ
-countAt g q row moves cells s j =
+unfoldable pub countCells : Bool → ℕ → List ℕ → List ℕ → List ℕ → ℕ → ℕ → List ℕ
+countCells g q row moves cells s j =
     pick (eqb j 0)
     (tab (λ t. getD (take q cells) (xor t s) 0) q)
     (tab (layerAt g row moves (part cells (j * q - q) q) (part cells (j * q) q) s) q)
 
 -- all counts up to k
 unfoldable pub stepCells : Bool → ℕ → ℕ → List ℕ → List ℕ → List ℕ → ℕ → List ℕ
-stepCells g q k row moves cells s = blocks (countAt g q row moves cells s) (k + 1)
+stepCells g q k row moves cells s = blocks (countCells g q row moves cells s) (k + 1)
 
 -- a column's costs, with a 0 among them, and room for its products and the costs of its deviations
 pub record Sized (q : ℕ) (costs row moves : List ℕ) : Type 0 where
@@ -75,8 +75,8 @@ stepBy p g k h costs cells =
 abbrev pub stepFor : ℕ → ℕ → List ℕ → List ℕ → List ℕ
 stepFor f h costs cells = stepBy (powerOf f) (greatestOf f) (mostOf f) h costs cells
 
-abbrev pub stepAt : ℕ → List ℕ → List ℕ → ℕ → List ℕ → List ℕ
-stepAt f ws cs n cells = stepFor f (getD ws n 0) (costsAt (sizeOf f) cs n) cells
+abbrev pub stepColumn : ℕ → List ℕ → List ℕ → ℕ → List ℕ → List ℕ
+stepColumn f ws cs n cells = stepFor f (getD ws n 0) (costsAt (sizeOf f) cs n) cells
 
 -- which column a sweep takes as its turn i: from the first on, or from the last on
 abbrev pub orderOf : Bool → ℕ → ℕ → ℕ

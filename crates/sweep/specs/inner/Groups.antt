@@ -15,8 +15,8 @@ abbrev pub sentOf : List ℕ → ℕ → ℕ → ℕ → ℕ
 sentOf l q a n = getD l (n * q + a) 0
 
 -- column n, if its cost is above e
-abbrev pub pairAt : ℕ → (ℕ → ℕ) → ℕ → List ℕ
-pairAt e S n = pick (ltb e (S n)) (n ∷ S n ∷ []) []
+abbrev pub pairAbove : ℕ → (ℕ → ℕ) → ℕ → List ℕ
+pairAbove e S n = pick (ltb e (S n)) (n ∷ S n ∷ []) []
 
 -- how many of the first n columns are above e
 abbrev pub pairCount : ℕ → (ℕ → ℕ) → ℕ → ℕ
@@ -25,14 +25,14 @@ pairCount e S (suc n) = pick (ltb e (S n)) (pairCount e S n + 1) (pairCount e S 
 
 -- the pairs of the first n columns, put before what stood there
 abbrev pub pairsOver : ℕ → (ℕ → ℕ) → ℕ → List ℕ → List ℕ
-pairsOver e S n old = blocks (pairAt e S) n ++ drop (pairCount e S n * 2) old
+pairsOver e S n old = blocks (pairAbove e S) n ++ drop (pairCount e S n * 2) old
 
 abbrev pub unusedPair : ℕ → List ℕ
 unusedPair i = 0xFF ∷ 0x00 ∷ []
 
 unfoldable pub groupBy : ℕ → ℕ → (ℕ → ℕ) → List ℕ
-groupBy k d S = lowestTo S d ∷ (blocks (pairAt (lowestTo S d) S) d ++ blocks unusedPair (k - pairCount (lowestTo S d) S d))
+groupBy k d S = lowestTo S d ∷ (blocks (pairAbove (lowestTo S d) S) d ++ blocks unusedPair (k - pairCount (lowestTo S d) S d))
 
 -- at each a from 1 on, at most k columns are above E
-pub record Fits (k d q : ℕ) (sent : List ℕ) : Type 0 where
+pub record PairsRoom (k d q : ℕ) (sent : List ℕ) : Type 0 where
   pub few : (a : ℕ) → 0 < a → a < q → pairCount (lowestTo (sentOf sent q a) d) (sentOf sent q a) d ≤ k

@@ -61,8 +61,8 @@ abbrev pub rowAt : Bool → List ℕ → List ℕ → ℕ → ℕ → ℕ → �
 rowAt greatest u s l a c = cut greatest (getD s (c % 16 * l + xor a (c / 16 * 16)) 0) (taken greatest (getD u c 0))
 
 -- the best of e and the first b rows
-unfoldable pub joinAt : Bool → List ℕ → List ℕ → ℕ → List ℕ → ℕ → ℕ → ℕ
-joinAt greatest u s l e b a = max (getD e a 0) (mostTo (rowAt greatest u s l a) b)
+unfoldable pub joinTo : Bool → List ℕ → List ℕ → ℕ → List ℕ → ℕ → ℕ → ℕ
+joinTo greatest u s l e b a = max (getD e a 0) (mostTo (rowAt greatest u s l a) b)
 
 -- f is one of the four bits below sixteen
 pub record Flips (f : ℕ) : Type 0 where

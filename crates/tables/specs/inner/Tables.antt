@@ -7,7 +7,7 @@ use Prim.Native.Nat.{ℕ, zero, suc, _+_, _-_, _*_, _%_, _^_, _≤_, max}
 use lib.Dec.{eqb}
 use lib.ListN.{getD}
 use Rattle.trellis.specs.Lists.{pick, tab, blocks, part, patch}
-use Rattle.engine.specs.inner.Rests.{meetOf, across}
+use Rattle.engine.specs.inner.Rests.{meetOf, joinedAt}
 use Rattle.tables.specs.declared.layout.Shape.{Shape}
 
 -- tables are l rows long: 16, 32 or 64
@@ -33,7 +33,7 @@ on S f = f (S .greatest) (S .q) (S .l) (S .k)
 
 -- the best of top and the rows of u joined with the table low, at row a
 unfoldable pub risenAt : Bool → ℕ → List ℕ → List ℕ → List ℕ → ℕ → ℕ
-risenAt greatest q u low top a = max (getD top a 0) (across (meetOf greatest) q (λ x. getD low x 0) (λ b. getD u b 0) a)
+risenAt greatest q u low top a = max (getD top a 0) (joinedAt (meetOf greatest) q (λ x. getD low x 0) (λ b. getD u b 0) a)
 
 -- table j of d after a column is taken in, from table j - 1
 unfoldable pub risenIn : Bool → ℕ → ℕ → ℕ → List ℕ → List ℕ → ℕ → List ℕ

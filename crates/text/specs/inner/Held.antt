@@ -19,8 +19,8 @@ pub record Held : Type 0 where
   pub line : List ℕ
   pub bytes : List ℕ
 
-abbrev pub held : State → List ℕ → List ℕ → Held
-held s l c = record { len = s .len; code = s .code; over = s .ended; line = l; bytes = c }
+abbrev pub heldIn : State → List ℕ → List ℕ → Held
+heldIn s l c = record { len = s .len; code = s .code; over = s .ended; line = l; bytes = c }
 
 -- what that stands for, whatever the numbers
 abbrev pub keptOf : Held → Session
@@ -61,8 +61,8 @@ partHeld h s =
     }
 
 -- r and m are s and l with a part more, whatever the other buffer holds
-abbrev pub Keeps : State → List ℕ → List ℕ → State → List ℕ → Type 0
-Keeps s l t r m = (c : List ℕ) → held r m c ≡ partHeld (held s l c) t
+abbrev pub KeepsPart : State → List ℕ → List ℕ → State → List ℕ → Type 0
+KeepsPart s l t r m = (c : List ℕ) → heldIn r m c ≡ partHeld (heldIn s l c) t
 
 -- the bytes of the code line; none if the line is refused by 15 or 14
 unfoldable pub codeBytes : List ℕ → List ℕ

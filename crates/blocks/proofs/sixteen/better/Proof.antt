@@ -11,10 +11,10 @@ use Rattle.blocks.proofs.sixteen.better.Statement.{statement}
 use Rattle.blocks.proofs.sixteen.better.Tie as tie
 
 abbrev Inv-loop : tie.InvT-loop
-Inv-loop w e t₀ i₀ t i = (i ≤ 16) × ((length t ≡ length t₀) × (t ≡ tab (λ (j : ℕ). max (getD e j 0) (getD w j 0)) i ++ drop i t₀))
+Inv-loop from e t₀ i₀ t i = (i ≤ 16) × ((length t ≡ length t₀) × (t ≡ tab (λ (j : ℕ). max (getD e j 0) (getD from j 0)) i ++ drop i t₀))
 
 abbrev μ-loop : tie.MeasureT-loop
-μ-loop w e t₀ i₀ t i = 16 - i
+μ-loop from e t₀ i₀ t i = 16 - i
 
 loop-holds : tie.Need-loop-holds Inv-loop μ-loop
 loop-holds c = search needs
@@ -39,14 +39,14 @@ loop-less c = search needs
 
 loop-again : tie.Need-loop-again Inv-loop μ-loop
 loop-again c = let l = c .before .before .before .before in let a = c .before .before .before .before .before .before .before .before .args in
-    (omega arith, (simp length-set (omega arith), tab-turn (λ (j : ℕ). max (getD (a .e .now) j 0) (getD (a .w .now) j 0)) (l .loop .t) (a .t .now) (l .loop .i) (omega arith) (l .loop .inv .1 .1) (c .max-u8 .ensures)))
+    (omega arith, (simp length-set (omega arith), tab-turn (λ (j : ℕ). max (getD (a .e .now) j 0) (getD (a .from .now) j 0)) (l .loop .t) (a .t .now) (l .loop .i) (omega arith) (l .loop .inv .1 .1) (c .max-u8 .ensures)))
 
 same-length : tie.Need-same-length Inv-loop μ-loop
 same-length c = search needs
 
 returns : tie.Need-returns Inv-loop μ-loop
 returns c = let l = c .before in let a = c .before .before .before .before .before .args in
-    lanes-end (λ (j : ℕ). max (getD (a .e .now) j 0) (getD (a .w .now) j 0)) (l .loop .t) (a .t .now) (l .loop .i) (l .loop .inv .1 .1) (omega arith) (omega arith)
+    lanes-end (λ (j : ℕ). max (getD (a .e .now) j 0) (getD (a .from .now) j 0)) (l .loop .t) (a .t .now) (l .loop .i) (l .loop .inv .1 .1) (omega arith) (omega arith)
 
 pub better-spec : {M : Type 1} → statement M
 better-spec =

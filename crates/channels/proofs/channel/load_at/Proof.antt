@@ -8,17 +8,17 @@ use Rattle.trellis.specs.Lists.{part}
 use Rattle.machine.proofs.Places.{length-part}
 use Rattle.channels.specs.inner.Rounds.{unstored}
 use Rattle.channels.proofs.Layouts.{load-refused, load-asks, load-puts}
-use Rattle.frame.proofs.Frames.{copied-is}
+use Rattle.slices.proofs.Copies.{copied-is}
 use Rattle.channels.proofs.channel.load_at.Statement.{statement}
 use Rattle.channels.proofs.channel.load_at.Tie as tie
 
 -- the frame's part is as long as that of the costs
 same : (s : tie.Start) → let a = s .args in
-    length (part (a .frames .now) (a .c * a .z .costs) (a .c * a .z .costs + a .z .costs - a .c * a .z .costs)) ≡ length (part (a .costs .now) (a .c * a .z .costs) (a .c * a .z .costs + a .z .costs - a .c * a .z .costs))
+    length (part (a .frames .now) (a .c * a .layout .costs) (a .c * a .layout .costs + a .layout .costs - a .c * a .layout .costs)) ≡ length (part (a .costs .now) (a .c * a .layout .costs) (a .c * a .layout .costs + a .layout .costs - a .c * a .layout .costs))
 same s =
     let a = s .args in
-    let d : a .c * a .z .costs + a .z .costs - a .c * a .z .costs ≡ a .z .costs = omega arith in
-    ap length (ap (part (a .frames .now) (a .c * a .z .costs)) d) ∙ length-part (a .frames .now) (a .c * a .z .costs) (a .z .costs) (s .pre .frames) ∙ sym (ap length (ap (part (a .costs .now) (a .c * a .z .costs)) d) ∙ length-part (a .costs .now) (a .c * a .z .costs) (a .z .costs) (s .pre .costs))
+    let d : a .c * a .layout .costs + a .layout .costs - a .c * a .layout .costs ≡ a .layout .costs = omega arith in
+    ap length (ap (part (a .frames .now) (a .c * a .layout .costs)) d) ∙ length-part (a .frames .now) (a .c * a .layout .costs) (a .layout .costs) (s .pre .frames) ∙ sym (ap length (ap (part (a .costs .now) (a .c * a .layout .costs)) d) ∙ length-part (a .costs .now) (a .c * a .layout .costs) (a .layout .costs) (s .pre .costs))
 
 mul-a : tie.Need-mul-a
 mul-a c = omega (arith, c .before .before .before .before .before .before .before .before .pre, c .before .before .before .before .before .before .before .before .good)
@@ -49,7 +49,7 @@ returns c =
     let s = c .before .before .before .before .before .before .before .before .before .before .before .before .before .before in
     let a = s .args in
     let k = c .before .frame-fault in
-    load-refused (a .z) (a .degrees .now) (a .columns .now) (a .weights .now) (s .pre .fitted) (a .c) (unstored (a .symbols .now) (a .costs .now) (a .margins .now)) (s .pre .symbols) (s .pre .costs) (s .pre .margins) (a .frames .now) (s .pre .frames) (k .result) (k .ensures) (c .if1 .taken)
+    load-refused (a .layout) (a .degrees .now) (a .columns .now) (a .weights .now) (s .pre .fitted) (a .c) (unstored (a .symbols .now) (a .costs .now) (a .margins .now)) (s .pre .symbols) (s .pre .costs) (s .pre .margins) (a .frames .now) (s .pre .frames) (k .result) (k .ensures) (c .if1 .taken)
 
 sub-copy : tie.Need-sub-copy
 sub-copy c = omega (arith, c .before .before .before .before .before .before .before .before .before .before .before .before .before .before .pre, c .before .before .before .before .before .before .before .before .before .before .before .before .before .before .good)
@@ -114,7 +114,7 @@ tested-requires c κs =
     let a = s .args in
     let k = c .before .before .before .before .before .before .before .before .before .before .frame-fault in
     let o = c .before .before .before .before .before .before .copy in
-    load-asks (a .z) (a .degrees .now) (a .columns .now) (a .weights .now) (s .pre .fitted) (a .c) (unstored (a .symbols .now) (a .costs .now) (a .margins .now)) (s .pre .symbols) (s .pre .costs) (s .pre .margins) (a .frames .now) (s .pre .frames) (k .result) (k .ensures) (c .before .before .before .before .before .before .before .before .before .if1 .left) (o .last .1 .0) (copied-is (part (a .frames .now) (a .c * a .z .costs) (a .c * a .z .costs + a .z .costs - a .c * a .z .costs)) (part (a .costs .now) (a .c * a .z .costs) (a .c * a .z .costs + a .z .costs - a .c * a .z .costs)) (o .last .1 .0) (same s) (o .ensures)) (λ x. omega (arith, c .before .before .before .before .before .before .before .before .before .before .before .before .before .before .before .before .before .before .before .shared-slice-known4 .given x))
+    load-asks (a .layout) (a .degrees .now) (a .columns .now) (a .weights .now) (s .pre .fitted) (a .c) (unstored (a .symbols .now) (a .costs .now) (a .margins .now)) (s .pre .symbols) (s .pre .costs) (s .pre .margins) (a .frames .now) (s .pre .frames) (k .result) (k .ensures) (c .before .before .before .before .before .before .before .before .before .if1 .left) (o .last .1 .0) (copied-is (part (a .frames .now) (a .c * a .layout .costs) (a .c * a .layout .costs + a .layout .costs - a .c * a .layout .costs)) (part (a .costs .now) (a .c * a .layout .costs) (a .c * a .layout .costs + a .layout .costs - a .c * a .layout .costs)) (o .last .1 .0) (same s) (o .ensures)) (λ x. omega (arith, c .before .before .before .before .before .before .before .before .before .before .before .before .before .before .before .before .before .before .before .shared-slice-known4 .given x))
 
 stage-after-requires : tie.Need-stage-after-requires
 stage-after-requires c κs = search needs
@@ -138,7 +138,7 @@ returns-2 c =
     let k = c .before .before .before .before .before .before .before .before .before .before .before .before .before .before .before .before .before .frame-fault in
     let f = c .before .before .before .before .before .before .before .before .before .before .before .before .before .copy in
     let u = c .before .before .before .before .before .before .tested in
-    load-puts (a .z) (a .degrees .now) (a .columns .now) (a .weights .now) (s .pre .fitted) (a .c) (unstored (a .symbols .now) (a .costs .now) (a .margins .now)) (s .pre .symbols) (s .pre .costs) (s .pre .margins) (a .frames .now) (s .pre .frames) (k .result) (k .ensures) (c .before .before .before .before .before .before .before .before .before .before .before .before .before .before .before .before .if1 .left) (f .last .1 .0) (copied-is (part (a .frames .now) (a .c * a .z .costs) (a .c * a .z .costs + a .z .costs - a .c * a .z .costs)) (part (a .costs .now) (a .c * a .z .costs) (a .c * a .z .costs + a .z .costs - a .c * a .z .costs)) (f .last .1 .0) (same s) (f .ensures)) (u .result) _ _ (u .ensures .0) (u .ensures .1 .0) (u .ensures .1 .1) _ (c .before .stage-after .ensures) _ (c .status-of .ensures)
+    load-puts (a .layout) (a .degrees .now) (a .columns .now) (a .weights .now) (s .pre .fitted) (a .c) (unstored (a .symbols .now) (a .costs .now) (a .margins .now)) (s .pre .symbols) (s .pre .costs) (s .pre .margins) (a .frames .now) (s .pre .frames) (k .result) (k .ensures) (c .before .before .before .before .before .before .before .before .before .before .before .before .before .before .before .before .if1 .left) (f .last .1 .0) (copied-is (part (a .frames .now) (a .c * a .layout .costs) (a .c * a .layout .costs + a .layout .costs - a .c * a .layout .costs)) (part (a .costs .now) (a .c * a .layout .costs) (a .c * a .layout .costs + a .layout .costs - a .c * a .layout .costs)) (f .last .1 .0) (same s) (f .ensures)) (u .result) _ _ (u .ensures .0) (u .ensures .1 .0) (u .ensures .1 .1) _ (c .before .stage-after .ensures) _ (c .status-of .ensures)
 
 pub load-at-spec : {M : Type 1} → statement M
 load-at-spec =

@@ -71,7 +71,7 @@ iterated-requires c κs =
     let s = c .before .before .before .before .before .before .before .before .before .before .before .before .before .before .before .before .before .before .before .before .before in
     let a = s .args in
     let b = lending (a .symbols .now) (a .costs .now) (a .store .now) (a .margins .now) in
-    step-asks (a .z) (a .degrees .now) (a .columns .now) (a .weights .now) (s .pre .fitted) (a .c) b (s .pre .room .for-symbols) (s .pre .room .for-costs) (s .pre .room .for-margins) (s .pre .room .for-store) (a .t) (s .pre .passable) (a .arrived .now) (a .sent .now) (s .pre .arrived) (s .pre .sent)
+    step-asks (a .layout) (a .degrees .now) (a .columns .now) (a .weights .now) (s .pre .fitted) (a .c) b (s .pre .room .for-symbols) (s .pre .room .for-costs) (s .pre .room .for-margins) (s .pre .room .for-store) (a .t) (s .pre .passable) (a .arrived .now) (a .sent .now) (s .pre .arrived) (s .pre .sent)
 
 u8-to-u16-requires : tie.Need-u8-to-u16-requires
 u8-to-u16-requires c κs = search needs
@@ -110,7 +110,7 @@ returns c =
     let b = lending (a .symbols .now) (a .costs .now) (a .store .now) (a .margins .now) in
     let u = c .before .before .before .before .before .before .before .before .before .before .before .before .before .before .before .iterated in
     let e = rw (c .before .before .u8-to-u16 .ensures .0) at (c .before .stage-after .ensures) in
-    step-puts (a .z) (a .degrees .now) (a .columns .now) (a .weights .now) (s .pre .fitted) (a .c) b (s .pre .room .for-symbols) (s .pre .room .for-costs) (s .pre .room .for-margins) (s .pre .room .for-store) (a .t) (u .result) _ _ _ _ (u .ensures .0) (u .ensures .1 .0) (u .ensures .1 .1 .0) (u .ensures .1 .1 .1) _ e _ (c .status-of .ensures)
+    step-puts (a .layout) (a .degrees .now) (a .columns .now) (a .weights .now) (s .pre .fitted) (a .c) b (s .pre .room .for-symbols) (s .pre .room .for-costs) (s .pre .room .for-margins) (s .pre .room .for-store) (a .t) (u .result) _ _ _ _ (u .ensures .0) (u .ensures .1 .0) (u .ensures .1 .1 .0) (u .ensures .1 .1 .1) _ e _ (c .status-of .ensures)
 
 pub step-at-spec : {M : Type 1} → statement M
 step-at-spec =

@@ -5,20 +5,20 @@ use native.Mathlib.Omega.{arith}
 use borrow.Author.Needs.{needs}
 use lib.ListN.{length, length-set}
 use Rattle.trellis.specs.Lists.{upto}
-use Rattle.channels.specs.inner.Rounds.{loading, loadedAt}
+use Rattle.channels.specs.inner.Rounds.{loadStanding, loadedAt}
 use Rattle.channels.specs.inner.Layouts.{codeFor}
 use Rattle.channels.proofs.Moves.{load-room, load-moves, loads-more, loads-done}
 use Rattle.channels.proofs.service.load_all.Statement.{statement}
 use Rattle.channels.proofs.service.load_all.Tie as tie
 
 abbrev Inv-loop : tie.InvT-loop
-Inv-loop count z degrees columns weights frames symbols₀ costs₀ margins₀ status₀ c₀ symbols costs margins status c =
+Inv-loop count layout degrees columns weights frames symbols₀ costs₀ margins₀ status₀ c₀ symbols costs margins status c =
     (c ≤ count)
-    × (loading status symbols costs margins ≡ upto (loadedAt (codeFor z degrees columns weights) frames) c (loading status₀ symbols₀ costs₀ margins₀))
+    × (loadStanding status symbols costs margins ≡ upto (loadedAt (codeFor layout degrees columns weights) frames) c (loadStanding status₀ symbols₀ costs₀ margins₀))
     × ((length symbols ≡ length symbols₀) × (length costs ≡ length costs₀) × (length margins ≡ length margins₀) × (length status ≡ length status₀))
 
 abbrev μ-loop : tie.MeasureT-loop
-μ-loop count z degrees columns weights frames symbols₀ costs₀ margins₀ status₀ c₀ symbols costs margins status c =
+μ-loop count layout degrees columns weights frames symbols₀ costs₀ margins₀ status₀ c₀ symbols costs margins status c =
     count - c
 
 loop-holds : tie.Need-loop-holds Inv-loop μ-loop
@@ -29,7 +29,7 @@ load-at-requires c κs =
     let s = c .before .before .before .before .before .before .before .before .before .before .before .before .before in
     let a = s .args in
     let l = c .before .before .before .before .loop in
-    load-room (a .count) (a .z) (a .degrees .now) (a .columns .now) (a .weights .now) (a .frames .now) (a .symbols .now) (a .costs .now) (a .margins .now) (a .status .now) (s .pre) (l .c) (omega arith) (l .symbols) (l .costs) (l .margins) (omega (arith, l .inv .2)) (omega (arith, l .inv .2)) (omega (arith, l .inv .2))
+    load-room (a .count) (a .layout) (a .degrees .now) (a .columns .now) (a .weights .now) (a .frames .now) (a .symbols .now) (a .costs .now) (a .margins .now) (a .status .now) (s .pre) (l .c) (omega arith) (l .symbols) (l .costs) (l .margins) (omega (arith, l .inv .2)) (omega (arith, l .inv .2)) (omega (arith, l .inv .2))
 
 slice-write-status : tie.Need-slice-write-status Inv-loop μ-loop
 slice-write-status c = omega (arith, c .before .before .before .before .before .before .before .before .before .before .before .before .before .before .before .before .before .before .before .before .pre .for-status)
@@ -48,7 +48,7 @@ loop-again c =
     let t = c .before .before .before .before .before .before .before .before .before .before .loop-test in
     let u = c .before .before .before .before .before .before .load-at in (
       omega (arith, t),
-      loads-more (codeFor (a .z) (a .degrees .now) (a .columns .now) (a .weights .now)) (a .frames .now) (l .c) _ _ _ (load-moves (codeFor (a .z) (a .degrees .now) (a .columns .now) (a .weights .now)) (l .c) _ (a .frames .now) (u .result) _ (u .ensures)) (l .inv .1),
+      loads-more (codeFor (a .layout) (a .degrees .now) (a .columns .now) (a .weights .now)) (a .frames .now) (l .c) _ _ _ (load-moves (codeFor (a .layout) (a .degrees .now) (a .columns .now) (a .weights .now)) (l .c) _ (a .frames .now) (u .result) _ (u .ensures)) (l .inv .1),
       (omega (arith, u .kept, l .inv .2), omega (arith, u .kept, l .inv .2), omega (arith, u .kept, l .inv .2), simp length-set (omega (arith, l .inv .2))),
     )
 
@@ -68,7 +68,7 @@ returns : tie.Need-returns Inv-loop μ-loop
 returns c =
     let a = c .before .before .before .before .before .before .before .before .before .before .args in
     let l = c .before .loop in
-    loads-done (codeFor (a .z) (a .degrees .now) (a .columns .now) (a .weights .now)) (a .frames .now) (a .count) (l .c) _ _ (omega arith) (l .inv .1)
+    loads-done (codeFor (a .layout) (a .degrees .now) (a .columns .now) (a .weights .now)) (a .frames .now) (a .count) (l .c) _ _ (omega arith) (l .inv .1)
 
 pub load-all-spec : {M : Type 1} → statement M
 load-all-spec =

@@ -13,15 +13,15 @@ use Rattle.channels.proofs.service.round.Statement.{statement}
 use Rattle.channels.proofs.service.round.Tie as tie
 
 abbrev Inv-loop : tie.InvT-loop
-Inv-loop count left z degrees columns weights symbols₀ costs₀ store₀ margins₀ status₀ counts₀ arrived₀ sent₀ a₀ c₀ symbols costs store margins status counts arrived sent a c =
+Inv-loop count left layout degrees columns weights symbols₀ costs₀ store₀ margins₀ status₀ counts₀ arrived₀ sent₀ a₀ c₀ symbols costs store margins status counts arrived sent a c =
     (c ≤ count)
-    × RoundRoom count z degrees columns weights (standing status counts a (lending symbols costs store margins)) arrived sent
+    × RoundRoom count layout degrees columns weights (standing status counts a (lending symbols costs store margins)) arrived sent
     × (standing status counts a (lending symbols costs store margins)
-    ≡ upto (servingAt (codeFor z degrees columns weights)) c (standing status₀ counts₀ left (lending symbols₀ costs₀ store₀ margins₀)))
+    ≡ upto (servingAt (codeFor layout degrees columns weights)) c (standing status₀ counts₀ left (lending symbols₀ costs₀ store₀ margins₀)))
     × ((length symbols ≡ length symbols₀) × (length costs ≡ length costs₀) × (length store ≡ length store₀) × (length margins ≡ length margins₀) × (length status ≡ length status₀) × (length counts ≡ length counts₀) × (length arrived ≡ length arrived₀) × (length sent ≡ length sent₀))
 
 abbrev μ-loop : tie.MeasureT-loop
-μ-loop count left z degrees columns weights symbols₀ costs₀ store₀ margins₀ status₀ counts₀ arrived₀ sent₀ a₀ c₀ symbols costs store margins status counts arrived sent a c =
+μ-loop count left layout degrees columns weights symbols₀ costs₀ store₀ margins₀ status₀ counts₀ arrived₀ sent₀ a₀ c₀ symbols costs store margins status counts arrived sent a c =
     count - c
 
 loop-holds : tie.Need-loop-holds Inv-loop μ-loop
@@ -44,8 +44,8 @@ loop-again c =
     let t = c .before .before .before .before .before .before .before .before .before .before .before .before .before .before .before .before .before .before .before .before .before .before .before .before .before .loop-test in
     let u = c .before .before .before .before .before .before .before .before .before .before .before .before .before .before .before .before .serve-at in (
       omega (arith, t),
-      serve-next (a .count) (a .z) (a .degrees .now) (a .columns .now) (a .weights .now) _ _ _ (l .inv .1) (l .c) (omega (arith, t)) _ _ _ (u .ensures) (omega (arith, u .kept)) (omega (arith, u .kept)),
-      round-more (codeFor (a .z) (a .degrees .now) (a .columns .now) (a .weights .now)) (l .c) _ _ _ (u .ensures) (l .inv .2),
+      serve-next (a .count) (a .layout) (a .degrees .now) (a .columns .now) (a .weights .now) _ _ _ (l .inv .1) (l .c) (omega (arith, t)) _ _ _ (u .ensures) (omega (arith, u .kept)) (omega (arith, u .kept)),
+      round-more (codeFor (a .layout) (a .degrees .now) (a .columns .now) (a .weights .now)) (l .c) _ _ _ (u .ensures) (l .inv .2),
       (omega (arith, u .kept, l .inv .3), omega (arith, u .kept, l .inv .3), omega (arith, u .kept, l .inv .3), omega (arith, u .kept, l .inv .3), omega (arith, u .kept, l .inv .3), omega (arith, u .kept, l .inv .3), omega (arith, u .kept, l .inv .3), omega (arith, u .kept, l .inv .3)),
     )
 
@@ -77,7 +77,7 @@ returns : tie.Need-returns Inv-loop μ-loop
 returns c =
     let a = c .before .before .before .before .before .before .before .before .before .before .before .before .before .args in
     let l = c .before .loop in
-    round-done (codeFor (a .z) (a .degrees .now) (a .columns .now) (a .weights .now)) (a .count) (l .c) _ _ (omega arith) (l .inv .2)
+    round-done (codeFor (a .layout) (a .degrees .now) (a .columns .now) (a .weights .now)) (a .count) (l .c) _ _ (omega arith) (l .inv .2)
 
 pub round-spec : {M : Type 1} → statement M
 round-spec =

@@ -11,14 +11,14 @@ use Rattle.channels.proofs.service.rounds.Statement.{statement}
 use Rattle.channels.proofs.service.rounds.Tie as tie
 
 abbrev Inv-loop : tie.InvT-loop
-Inv-loop count allowance z degrees columns weights symbols₀ costs₀ store₀ margins₀ status₀ counts₀ arrived₀ sent₀ a₀ symbols costs store margins status counts arrived sent a =
-    RoundRoom count z degrees columns weights (standing status counts a (lending symbols costs store margins)) arrived sent
-    × (roundsAt (codeFor z degrees columns weights) count a (standing status counts a (lending symbols costs store margins))
-    ≡ roundsAt (codeFor z degrees columns weights) count allowance (standing status₀ counts₀ allowance (lending symbols₀ costs₀ store₀ margins₀)))
+Inv-loop count allowance layout degrees columns weights symbols₀ costs₀ store₀ margins₀ status₀ counts₀ arrived₀ sent₀ a₀ symbols costs store margins status counts arrived sent a =
+    RoundRoom count layout degrees columns weights (standing status counts a (lending symbols costs store margins)) arrived sent
+    × (roundsAt (codeFor layout degrees columns weights) count a (standing status counts a (lending symbols costs store margins))
+    ≡ roundsAt (codeFor layout degrees columns weights) count allowance (standing status₀ counts₀ allowance (lending symbols₀ costs₀ store₀ margins₀)))
     × ((length symbols ≡ length symbols₀) × (length costs ≡ length costs₀) × (length store ≡ length store₀) × (length margins ≡ length margins₀) × (length status ≡ length status₀) × (length counts ≡ length counts₀) × (length arrived ≡ length arrived₀) × (length sent ≡ length sent₀))
 
 abbrev μ-loop : tie.MeasureT-loop
-μ-loop count allowance z degrees columns weights symbols₀ costs₀ store₀ margins₀ status₀ counts₀ arrived₀ sent₀ a₀ symbols costs store margins status counts arrived sent a =
+μ-loop count allowance layout degrees columns weights symbols₀ costs₀ store₀ margins₀ status₀ counts₀ arrived₀ sent₀ a₀ symbols costs store margins status counts arrived sent a =
     a
 
 loop-holds : tie.Need-loop-holds Inv-loop μ-loop
@@ -56,22 +56,22 @@ returns c =
     let a = c .before .before .before .before .before .before .before .before .before .before .before .before .before .before .before .before .before .before .before .before .before .before .before .before .before .before .before .before .before .before .before .before .before .before .before .before .before .before .args in
     let l = c .before .before .before .before .before .before .before .before .before .before .before .before .before .before .before .before .before .before .before .before .before .before .before .before .before .before .loop in
     let u = c .before .before .before .before .before .before .before .before .before .before .before .before .before .before .before .before .before .round in
-    end-law (codeFor (a .z) (a .degrees .now) (a .columns .now) (a .weights .now)) (a .count) _ _ _ (u .ensures) (c .if1 .taken) (l .inv .1)
+    end-law (codeFor (a .layout) (a .degrees .now) (a .columns .now) (a .weights .now)) (a .count) _ _ _ (u .ensures) (c .if1 .taken) (l .inv .1)
 
 loop-less : tie.Need-loop-less Inv-loop μ-loop
 loop-less c =
     let a = c .before .before .before .before .before .before .before .before .before .before .before .before .before .before .before .before .before .before .before .before .before .before .before .before .before .before .before .before .before .before .before .before .before .before .before .before .before .before .args in
     let l = c .before .before .before .before .before .before .before .before .before .before .before .before .before .before .before .before .before .before .before .before .before .before .before .before .before .before .loop in
     let u = c .before .before .before .before .before .before .before .before .before .before .before .before .before .before .before .before .before .round in
-    round-less (codeFor (a .z) (a .degrees .now) (a .columns .now) (a .weights .now)) (a .count) _ _ (u .ensures) (c .if1 .left)
+    round-less (codeFor (a .layout) (a .degrees .now) (a .columns .now) (a .weights .now)) (a .count) _ _ (u .ensures) (c .if1 .left)
 
 loop-again : tie.Need-loop-again Inv-loop μ-loop
 loop-again c =
     let a = c .before .before .before .before .before .before .before .before .before .before .before .before .before .before .before .before .before .before .before .before .before .before .before .before .before .before .before .before .before .before .before .before .before .before .before .before .before .before .args in
     let l = c .before .before .before .before .before .before .before .before .before .before .before .before .before .before .before .before .before .before .before .before .before .before .before .before .before .before .loop in
     let u = c .before .before .before .before .before .before .before .before .before .before .before .before .before .before .before .before .before .round in (
-      round-next (a .count) (a .z) (a .degrees .now) (a .columns .now) (a .weights .now) _ _ _ (l .inv .0) _ _ _ (u .ensures) (omega (arith, u .kept)) (omega (arith, u .kept)),
-      more-law (codeFor (a .z) (a .degrees .now) (a .columns .now) (a .weights .now)) (a .count) _ _ _ (u .ensures) (c .if1 .left) (l .inv .1),
+      round-next (a .count) (a .layout) (a .degrees .now) (a .columns .now) (a .weights .now) _ _ _ (l .inv .0) _ _ _ (u .ensures) (omega (arith, u .kept)) (omega (arith, u .kept)),
+      more-law (codeFor (a .layout) (a .degrees .now) (a .columns .now) (a .weights .now)) (a .count) _ _ _ (u .ensures) (c .if1 .left) (l .inv .1),
       (omega (arith, u .kept, l .inv .2), omega (arith, u .kept, l .inv .2), omega (arith, u .kept, l .inv .2), omega (arith, u .kept, l .inv .2), omega (arith, u .kept, l .inv .2), omega (arith, u .kept, l .inv .2), omega (arith, u .kept, l .inv .2), omega (arith, u .kept, l .inv .2)),
     )
 

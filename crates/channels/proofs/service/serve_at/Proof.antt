@@ -15,13 +15,13 @@ returns : tie.Need-returns
 returns c =
     let s = c .before .before .before .before .before .before .before .before .before .before .before .before .before in
     let a = s .args in
-    serve-skips (codeFor (a .z) (a .degrees .now) (a .columns .now) (a .weights .now)) (a .c) (standing (a .status .now) (a .counts .now) (a .left) (lending (a .symbols .now) (a .costs .now) (a .store .now) (a .margins .now))) (c .if1 .taken)
+    serve-skips (codeFor (a .layout) (a .degrees .now) (a .columns .now) (a .weights .now)) (a .c) (standing (a .status .now) (a .counts .now) (a .left) (lending (a .symbols .now) (a .costs .now) (a .store .now) (a .margins .now))) (c .if1 .taken)
 
 returns-2 : tie.Need-returns-2
 returns-2 c =
     let s = c .before .before .before .before .before .before .before .before .before .before .before .before .before .before in
     let a = s .args in
-    serve-spent (codeFor (a .z) (a .degrees .now) (a .columns .now) (a .weights .now)) (a .c) (standing (a .status .now) (a .counts .now) (a .left) (lending (a .symbols .now) (a .costs .now) (a .store .now) (a .margins .now))) (c .before .if1 .left) (c .if2 .taken)
+    serve-spent (codeFor (a .layout) (a .degrees .now) (a .columns .now) (a .weights .now)) (a .c) (standing (a .status .now) (a .counts .now) (a .left) (lending (a .symbols .now) (a .costs .now) (a .store .now) (a .margins .now))) (c .before .if1 .left) (c .if2 .taken)
 
 slice-read-t : tie.Need-slice-read-t
 slice-read-t c = omega (arith, c .before .before .before .before .before .before .before .before .before .before .before .before .before .before .before .pre .inside, c .before .before .before .before .before .before .before .before .before .before .before .before .before .before .before .pre .room .serve .serves .rooms .for-counts)
@@ -30,7 +30,7 @@ step-at-requires : tie.Need-step-at-requires
 step-at-requires c κs =
     let s = c .before .before .before .before .before .before .before .before .before .before .before .before .before .before .before .before .before .before .before .before .before in
     let a = s .args in
-    step-room (s .pre .count) (a .z) (a .degrees .now) (a .columns .now) (a .weights .now) (standing (a .status .now) (a .counts .now) (a .left) (lending (a .symbols .now) (a .costs .now) (a .store .now) (a .margins .now))) (a .arrived .now) (a .sent .now) (s .pre .room) (a .c) (s .pre .inside) (c .before .before .before .before .before .before .before .before .if1 .left)
+    step-room (s .pre .count) (a .layout) (a .degrees .now) (a .columns .now) (a .weights .now) (standing (a .status .now) (a .counts .now) (a .left) (lending (a .symbols .now) (a .costs .now) (a .store .now) (a .margins .now))) (a .arrived .now) (a .sent .now) (s .pre .room) (a .c) (s .pre .inside) (c .before .before .before .before .before .before .before .before .if1 .left)
 
 slice-write-status : tie.Need-slice-write-status
 slice-write-status c = omega (arith, c .before .before .before .before .before .before .before .before .before .before .before .before .before .before .before .before .before .before .before .before .before .before .before .before .before .before .before .before .before .before .before .before .before .before .pre .inside, c .before .before .before .before .before .before .before .before .before .before .before .before .before .before .before .before .before .before .before .before .before .before .before .before .before .before .before .before .before .before .before .before .before .before .pre .room .serve .serves .rooms .for-status)
@@ -39,7 +39,7 @@ add-counts : tie.Need-add-counts
 add-counts c =
     let s = c .before .before .before .before .before .before .before .before .before .before .before .before .before .before .before .before .before .before .before .before .before .before .before .before .before .before .before .before .before .before .before .before .before .before in
     let a = s .args in
-    omega (arith, count-low (s .pre .count) (a .z) (a .degrees .now) (a .columns .now) (a .weights .now) (standing (a .status .now) (a .counts .now) (a .left) (lending (a .symbols .now) (a .costs .now) (a .store .now) (a .margins .now))) (a .arrived .now) (a .sent .now) (s .pre .room) (a .c) (s .pre .inside) (c .before .before .before .before .before .before .before .before .before .before .before .before .before .before .before .before .before .before .before .before .before .if1 .left), s .good)
+    omega (arith, count-low (s .pre .count) (a .layout) (a .degrees .now) (a .columns .now) (a .weights .now) (standing (a .status .now) (a .counts .now) (a .left) (lending (a .symbols .now) (a .costs .now) (a .store .now) (a .margins .now))) (a .arrived .now) (a .sent .now) (s .pre .room) (a .c) (s .pre .inside) (c .before .before .before .before .before .before .before .before .before .before .before .before .before .before .before .before .before .before .before .before .before .if1 .left), s .good)
 
 slice-write-counts : tie.Need-slice-write-counts
 slice-write-counts c = omega (arith, c .before .before .before .before .before .before .before .before .before .before .before .before .before .before .before .before .before .before .before .before .before .before .before .before .before .before .before .before .before .before .before .before .before .before .pre .inside, c .before .before .before .before .before .before .before .before .before .before .before .before .before .before .before .before .before .before .before .before .before .before .before .before .before .before .before .before .before .before .before .before .before .before .pre .room .serve .serves .rooms .for-counts)
@@ -76,7 +76,7 @@ returns-3 c =
     let s = c .before .before .before .before .before .before .before .before .before .before .before .before .before .before .before .before .before .before .before .before .before .before .before .before .before .before .before .before .before .before .before .before .before .before in
     let a = s .args in
     let u = c .before .before .before .before .before .before .before .before .before .before .before .before .step-at in
-    serve-moves (codeFor (a .z) (a .degrees .now) (a .columns .now) (a .weights .now)) (a .c) (standing (a .status .now) (a .counts .now) (a .left) (lending (a .symbols .now) (a .costs .now) (a .store .now) (a .margins .now))) (c .before .before .before .before .before .before .before .before .before .before .before .before .before .before .before .before .before .before .before .before .before .if1 .left) (c .before .before .before .before .before .before .before .before .before .before .before .before .before .before .before .before .before .before .before .before .if2 .left) (u .result) _ (u .ensures)
+    serve-moves (codeFor (a .layout) (a .degrees .now) (a .columns .now) (a .weights .now)) (a .c) (standing (a .status .now) (a .counts .now) (a .left) (lending (a .symbols .now) (a .costs .now) (a .store .now) (a .margins .now))) (c .before .before .before .before .before .before .before .before .before .before .before .before .before .before .before .before .before .before .before .before .before .if1 .left) (c .before .before .before .before .before .before .before .before .before .before .before .before .before .before .before .before .before .before .before .before .if2 .left) (u .result) _ (u .ensures)
 
 pub serve-at-spec : {M : Type 1} → statement M
 serve-at-spec =

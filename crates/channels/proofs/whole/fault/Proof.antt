@@ -12,7 +12,7 @@ use Rattle.channels.proofs.whole.fault.Tie as tie
 mul-w : tie.Need-mul-w
 mul-w c =
     let s = c .before in
-    let h : s .args .count * s .args .z .costs ≤ 8 * 16384 = mul-le-mul (s .pre .few) (s .pre .costs) in
+    let h : s .args .count * s .args .layout .costs ≤ 8 * 16384 = mul-le-mul (s .pre .few) (s .pre .costs) in
     omega arith
 
 returns : tie.Need-returns
@@ -22,13 +22,13 @@ returns c = simp (ne-eqb _ _ (c .if1 .taken))
 mul-room-fault : tie.Need-mul-room-fault
 mul-room-fault c =
     let s = c .before .before .before in
-    let h : s .args .count * s .args .z .columns ≤ 8 * 256 = mul-le-mul (s .pre .few) (s .pre .columns) in
+    let h : s .args .count * s .args .layout .columns ≤ 8 * 256 = mul-le-mul (s .pre .few) (s .pre .columns) in
     omega arith
 
 mul-room-fault-2 : tie.Need-mul-room-fault-2
 mul-room-fault-2 c =
     let s = c .before .before .before .before in
-    let h : s .args .count * s .args .z .store ≤ 8 * 65535 = mul-le-mul (s .pre .few) (s .pre .store) in
+    let h : s .args .count * s .args .layout .store ≤ 8 * 65535 = mul-le-mul (s .pre .few) (s .pre .store) in
     omega arith
 
 room-fault-requires : tie.Need-room-fault-requires

@@ -17,10 +17,10 @@ use Rattle.checknode.proofs.lines.lines.Statement.{statement}
 use Rattle.checknode.proofs.lines.lines.Tie as tie
 
 abbrev Inv-loop : tie.InvT-loop
-Inv-loop first l weights costs rows lines₀ out₀ w sum₀ n₀ lines out sum n = (n ≤ length weights) × (((length lines ≡ length lines₀) × (length out ≡ length out₀)) × ((lines ≡ blocks (restsOf (powerOf first) weights costs l) n ++ drop (n * l) lines₀) × ((out ≡ tab (termOf (powerOf first) weights costs) n ++ drop n out₀) × (sum ≡ sumTo (termOf (powerOf first) weights costs) n))))
+Inv-loop first l weights costs rows lines₀ out₀ q sum₀ n₀ lines out sum n = (n ≤ length weights) × (((length lines ≡ length lines₀) × (length out ≡ length out₀)) × ((lines ≡ blocks (restsOf (powerOf first) weights costs l) n ++ drop (n * l) lines₀) × ((out ≡ tab (termOf (powerOf first) weights costs) n ++ drop n out₀) × (sum ≡ sumTo (termOf (powerOf first) weights costs) n))))
 
 abbrev μ-loop : tie.MeasureT-loop
-μ-loop first l weights costs rows lines₀ out₀ w sum₀ n₀ lines out sum n = length weights - n
+μ-loop first l weights costs rows lines₀ out₀ q sum₀ n₀ lines out sum n = length weights - n
 
 size-requires : tie.Need-size-requires Inv-loop μ-loop
 size-requires c κs = search needs

@@ -51,7 +51,7 @@ messages-with-requires c κs =
     let m : length (start .args .weights .now) * at-side .side .result ≤ length (start .args .rests .now) = rw (at-side .side .ensures) (start .pre .1 .1 .1 .0) in
     let e = start .pre .1 .0 in
     let d = length (start .args .weights .now) in
-    let f : length (take (d * start .args .w) (start .args .rows .now)) ≡ d * start .args .w = simp length-take (omega (arith, start .pre .1 .1 .0)) in
+    let f : length (take (d * start .args .q) (start .args .rows .now)) ≡ d * start .args .q = simp length-take (omega (arith, start .pre .1 .1 .0)) in
     let g : length (take (d * at-side .side .result) (start .args .rests .now)) ≡ d * at-side .side .result = simp length-take (omega (arith, m)) in
     (start .pre .0, (f ∙ ap (λ y. d * y) e, (g ∙ ap (λ y. d * y) (at-side .side .ensures ∙ ap (max 16) e), (start .pre .1 .1 .1 .1 .0, start .pre .1 .1 .1 .1 .1))))
 

@@ -6,7 +6,7 @@ use borrow.Author.Tests.{not-true, not-false}
 use lib.ListN.{length}
 use Rattle.trellis.specs.Rules.{sizeOf}
 use Rattle.trellis.proofs.Recurrence.{size-64}
-use Rattle.field.proofs.Weighed.{Weighed, no-fault}
+use Rattle.field.proofs.Weighed.{WeightsAccepted, no-fault}
 use Rattle.field.proofs.Blocks.{mul-small}
 use Rattle.checknode.proofs.CheckFault.{fault-weights, fault-12, fault-13, fault-4, fault-none}
 use Rattle.checknode.proofs.refusals.check_fault.Statement.{statement}
@@ -21,7 +21,7 @@ returns c =
     fault-weights (a .first) (a .weights .now) (a .costs .now) (a .room) (c .before .weights-fault .ensures) (c .if1 .taken)
 
 -- past 6, 9 and 11
-weighed : (c : tie.Else1) → let a = c .before .before .before .before .args in Weighed (a .first) (a .weights .now)
+weighed : (c : tie.Else1) → let a = c .before .before .before .before .args in WeightsAccepted (a .first) (a .weights .now)
 weighed c =
     let a = c .before .before .before .before .args in
     no-fault (a .first) (a .weights .now) (sym (c .before .weights-fault .ensures) ∙ c .if1 .left)

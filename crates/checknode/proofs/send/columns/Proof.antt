@@ -14,105 +14,105 @@ use Rattle.checknode.proofs.send.columns.Statement.{statement}
 use Rattle.checknode.proofs.send.columns.Tie as tie
 
 abbrev Inv-loop : tie.InvT-loop
-Inv-loop w l rows shifts rests out₀ n₀ out n = (n ≤ length shifts) × ((length out ≡ length out₀) × (out ≡ blocks (sentColumn w l rows shifts rests) n ++ drop (n * w) out₀))
+Inv-loop q l rows shifts rests out₀ n₀ out n = (n ≤ length shifts) × ((length out ≡ length out₀) × (out ≡ blocks (sentColumn q l rows shifts rests) n ++ drop (n * q) out₀))
 
 abbrev μ-loop : tie.MeasureT-loop
-μ-loop w l rows shifts rests out₀ n₀ out n = length shifts - n
+μ-loop q l rows shifts rests out₀ n₀ out n = length shifts - n
 
 loop-holds : tie.Need-loop-holds Inv-loop μ-loop
 loop-holds c =
     let start = c .before .before .before .before in
-    (omega arith, (refl, rw (zero-mul (start .args .w)) refl))
+    (omega arith, (refl, rw (zero-mul (start .args .q)) refl))
 
 mul-a : tie.Need-mul-a Inv-loop μ-loop
 mul-a c =
     let at-loop = c .before in
     let start = at-loop .before .before .before .before .before in
-    let b = send-bounds (start .args .w) (start .args .l) (start .args .rows .now) (start .args .shifts .now) (start .args .rests .now) (start .args .out .now) (start .pre) (at-loop .loop .n) (omega arith) in
+    let b = send-bounds (start .args .q) (start .args .l) (start .args .rows .now) (start .args .shifts .now) (start .args .rests .now) (start .args .out .now) (start .pre) (at-loop .loop .n) (omega arith) in
     omega (arith, b .0, b .1, b .2, at-loop .loop .inv .1 .0)
 
 add-e : tie.Need-add-e Inv-loop μ-loop
 add-e c =
     let at-loop = c .before in
     let start = at-loop .before .before .before .before .before in
-    let b = send-bounds (start .args .w) (start .args .l) (start .args .rows .now) (start .args .shifts .now) (start .args .rests .now) (start .args .out .now) (start .pre) (at-loop .loop .n) (omega arith) in
+    let b = send-bounds (start .args .q) (start .args .l) (start .args .rows .now) (start .args .shifts .now) (start .args .rests .now) (start .args .out .now) (start .pre) (at-loop .loop .n) (omega arith) in
     omega (arith, b .0, b .1, b .2, at-loop .loop .inv .1 .0)
 
 mul-b : tie.Need-mul-b Inv-loop μ-loop
 mul-b c =
     let at-loop = c .before in
     let start = at-loop .before .before .before .before .before in
-    let b = send-bounds (start .args .w) (start .args .l) (start .args .rows .now) (start .args .shifts .now) (start .args .rests .now) (start .args .out .now) (start .pre) (at-loop .loop .n) (omega arith) in
+    let b = send-bounds (start .args .q) (start .args .l) (start .args .rows .now) (start .args .shifts .now) (start .args .rests .now) (start .args .out .now) (start .pre) (at-loop .loop .n) (omega arith) in
     omega (arith, b .0, b .1, b .2, at-loop .loop .inv .1 .0)
 
 add-f : tie.Need-add-f Inv-loop μ-loop
 add-f c =
     let at-loop = c .before in
     let start = at-loop .before .before .before .before .before in
-    let b = send-bounds (start .args .w) (start .args .l) (start .args .rows .now) (start .args .shifts .now) (start .args .rests .now) (start .args .out .now) (start .pre) (at-loop .loop .n) (omega arith) in
+    let b = send-bounds (start .args .q) (start .args .l) (start .args .rows .now) (start .args .shifts .now) (start .args .rests .now) (start .args .out .now) (start .pre) (at-loop .loop .n) (omega arith) in
     omega (arith, b .0, b .1, b .2, at-loop .loop .inv .1 .0)
 
 sub-column : tie.Need-sub-column Inv-loop μ-loop
 sub-column c =
     let at-loop = c .before in
     let start = at-loop .before .before .before .before .before in
-    let b = send-bounds (start .args .w) (start .args .l) (start .args .rows .now) (start .args .shifts .now) (start .args .rests .now) (start .args .out .now) (start .pre) (at-loop .loop .n) (omega arith) in
+    let b = send-bounds (start .args .q) (start .args .l) (start .args .rows .now) (start .args .shifts .now) (start .args .rests .now) (start .args .out .now) (start .pre) (at-loop .loop .n) (omega arith) in
     omega (arith, b .0, b .1, b .2, at-loop .loop .inv .1 .0)
 
 part-column-start : tie.Need-part-column-start Inv-loop μ-loop
 part-column-start c =
     let at-loop = c .before in
     let start = at-loop .before .before .before .before .before in
-    let b = send-bounds (start .args .w) (start .args .l) (start .args .rows .now) (start .args .shifts .now) (start .args .rests .now) (start .args .out .now) (start .pre) (at-loop .loop .n) (omega arith) in
+    let b = send-bounds (start .args .q) (start .args .l) (start .args .rows .now) (start .args .shifts .now) (start .args .rests .now) (start .args .out .now) (start .pre) (at-loop .loop .n) (omega arith) in
     omega (arith, b .0, b .1, b .2, at-loop .loop .inv .1 .0)
 
 part-column-end : tie.Need-part-column-end Inv-loop μ-loop
 part-column-end c =
     let at-loop = c .before in
     let start = at-loop .before .before .before .before .before in
-    let b = send-bounds (start .args .w) (start .args .l) (start .args .rows .now) (start .args .shifts .now) (start .args .rests .now) (start .args .out .now) (start .pre) (at-loop .loop .n) (omega arith) in
+    let b = send-bounds (start .args .q) (start .args .l) (start .args .rows .now) (start .args .shifts .now) (start .args .rests .now) (start .args .out .now) (start .pre) (at-loop .loop .n) (omega arith) in
     omega (arith, b .0, b .1, b .2, at-loop .loop .inv .1 .0)
 
 sub-column-2 : tie.Need-sub-column-2 Inv-loop μ-loop
 sub-column-2 c =
     let at-loop = c .before .before .before in
     let start = at-loop .before .before .before .before .before in
-    let b = send-bounds (start .args .w) (start .args .l) (start .args .rows .now) (start .args .shifts .now) (start .args .rests .now) (start .args .out .now) (start .pre) (at-loop .loop .n) (omega arith) in
+    let b = send-bounds (start .args .q) (start .args .l) (start .args .rows .now) (start .args .shifts .now) (start .args .rests .now) (start .args .out .now) (start .pre) (at-loop .loop .n) (omega arith) in
     omega (arith, b .0, b .1, b .2, at-loop .loop .inv .1 .0)
 
 part-column-start-2 : tie.Need-part-column-start-2 Inv-loop μ-loop
 part-column-start-2 c =
     let at-loop = c .before .before .before in
     let start = at-loop .before .before .before .before .before in
-    let b = send-bounds (start .args .w) (start .args .l) (start .args .rows .now) (start .args .shifts .now) (start .args .rests .now) (start .args .out .now) (start .pre) (at-loop .loop .n) (omega arith) in
+    let b = send-bounds (start .args .q) (start .args .l) (start .args .rows .now) (start .args .shifts .now) (start .args .rests .now) (start .args .out .now) (start .pre) (at-loop .loop .n) (omega arith) in
     omega (arith, b .0, b .1, b .2, at-loop .loop .inv .1 .0)
 
 part-column-end-2 : tie.Need-part-column-end-2 Inv-loop μ-loop
 part-column-end-2 c =
     let at-loop = c .before .before .before in
     let start = at-loop .before .before .before .before .before in
-    let b = send-bounds (start .args .w) (start .args .l) (start .args .rows .now) (start .args .shifts .now) (start .args .rests .now) (start .args .out .now) (start .pre) (at-loop .loop .n) (omega arith) in
+    let b = send-bounds (start .args .q) (start .args .l) (start .args .rows .now) (start .args .shifts .now) (start .args .rests .now) (start .args .out .now) (start .pre) (at-loop .loop .n) (omega arith) in
     omega (arith, b .0, b .1, b .2, at-loop .loop .inv .1 .0)
 
 sub-column-3 : tie.Need-sub-column-3 Inv-loop μ-loop
 sub-column-3 c =
     let at-loop = c .before .before .before .before in
     let start = at-loop .before .before .before .before .before in
-    let b = send-bounds (start .args .w) (start .args .l) (start .args .rows .now) (start .args .shifts .now) (start .args .rests .now) (start .args .out .now) (start .pre) (at-loop .loop .n) (omega arith) in
+    let b = send-bounds (start .args .q) (start .args .l) (start .args .rows .now) (start .args .shifts .now) (start .args .rests .now) (start .args .out .now) (start .pre) (at-loop .loop .n) (omega arith) in
     omega (arith, b .0, b .1, b .2, at-loop .loop .inv .1 .0)
 
 part-column-start-3 : tie.Need-part-column-start-3 Inv-loop μ-loop
 part-column-start-3 c =
     let at-loop = c .before .before .before .before in
     let start = at-loop .before .before .before .before .before in
-    let b = send-bounds (start .args .w) (start .args .l) (start .args .rows .now) (start .args .shifts .now) (start .args .rests .now) (start .args .out .now) (start .pre) (at-loop .loop .n) (omega arith) in
+    let b = send-bounds (start .args .q) (start .args .l) (start .args .rows .now) (start .args .shifts .now) (start .args .rests .now) (start .args .out .now) (start .pre) (at-loop .loop .n) (omega arith) in
     omega (arith, b .0, b .1, b .2, at-loop .loop .inv .1 .0)
 
 part-column-end-3 : tie.Need-part-column-end-3 Inv-loop μ-loop
 part-column-end-3 c =
     let at-loop = c .before .before .before .before in
     let start = at-loop .before .before .before .before .before in
-    let b = send-bounds (start .args .w) (start .args .l) (start .args .rows .now) (start .args .shifts .now) (start .args .rests .now) (start .args .out .now) (start .pre) (at-loop .loop .n) (omega arith) in
+    let b = send-bounds (start .args .q) (start .args .l) (start .args .rows .now) (start .args .shifts .now) (start .args .rests .now) (start .args .out .now) (start .pre) (at-loop .loop .n) (omega arith) in
     omega (arith, b .0, b .1, b .2, at-loop .loop .inv .1 .0)
 
 shared-slice-read-column : tie.Need-shared-slice-read-column Inv-loop μ-loop
@@ -122,7 +122,7 @@ column-requires : tie.Need-column-requires Inv-loop μ-loop
 column-requires c κs =
     let at-loop = c .before .before .before .before .before in
     let start = at-loop .before .before .before .before .before in
-    send-room (start .args .w) (start .args .l) (start .args .rows .now) (start .args .shifts .now) (start .args .rests .now) (start .args .out .now) (start .pre) (at-loop .loop .n) (omega arith) (at-loop .loop .out) (at-loop .loop .inv .1 .0)
+    send-room (start .args .q) (start .args .l) (start .args .rows .now) (start .args .shifts .now) (start .args .rests .now) (start .args .out .now) (start .pre) (at-loop .loop .n) (omega arith) (at-loop .loop .out) (at-loop .loop .inv .1 .0)
 
 add-n : tie.Need-add-n Inv-loop μ-loop
 add-n c = search needs
@@ -135,7 +135,7 @@ loop-again c =
     let at-column = c .before .before in
     let at-loop = at-column .before .before .before .before .before .before in
     let start = at-loop .before .before .before .before .before in
-    let w = start .args .w in (
+    let w = start .args .q in (
       omega arith,
       (
         search needs,
@@ -151,7 +151,7 @@ returns : tie.Need-returns Inv-loop μ-loop
 returns c =
     let at-loop = c .before in
     let start = at-loop .before .before .before .before .before in
-    let w = start .args .w in
+    let w = start .args .q in
     let e : at-loop .loop .n ≡ length (start .args .shifts .now) = omega arith in
     rw e at (block-end (sentColumn w (start .args .l) (start .args .rows .now) (start .args .shifts .now) (start .args .rests .now)) w (sent-full w (start .args .l) (start .args .rows .now) (start .args .shifts .now) (start .args .rests .now)) (start .args .out .now) (at-loop .loop .out) (at-loop .loop .n) (at-loop .loop .inv .1 .1) (rw e (start .pre .of-out)))
 

@@ -2,7 +2,7 @@
 use mathlib.Core.Path.{sym, _∙_}
 use borrow.Author.Needs.{needs}
 use borrow.Author.Tests.{not-true, not-false}
-use Rattle.field.proofs.Weighed.{Weighed, no-fault}
+use Rattle.field.proofs.Weighed.{WeightsAccepted, no-fault}
 use Rattle.display.proofs.Refusals.{weight-fault, form-fault, short-fault, none-fault}
 use Rattle.display.proofs.showing.fault.Statement.{statement}
 use Rattle.display.proofs.showing.fault.Tie as tie
@@ -24,7 +24,7 @@ returns-2 c =
     let o = c .before in
     let k = o .before .before in
     let a = k .before .before .before .args in
-    let W : Weighed (a .first) (a .weights .now) = no-fault _ _ (sym (k .weights-fault .ensures) ∙ o .before .if1 .left) in
+    let W : WeightsAccepted (a .first) (a .weights .now) = no-fault _ _ (sym (k .weights-fault .ensures) ∙ o .before .if1 .left) in
     form-fault (a .first) (a .weights .now) (a .bytes .now) (a .room) W (sym (o .record-ok .ensures) ∙ not-true _ (c .if2 .taken))
 
 returns-3 : tie.Need-returns-3
@@ -32,7 +32,7 @@ returns-3 c =
     let o = c .before .before in
     let k = o .before .before in
     let a = k .before .before .before .args in
-    let W : Weighed (a .first) (a .weights .now) = no-fault _ _ (sym (k .weights-fault .ensures) ∙ o .before .if1 .left) in
+    let W : WeightsAccepted (a .first) (a .weights .now) = no-fault _ _ (sym (k .weights-fault .ensures) ∙ o .before .if1 .left) in
     short-fault (a .first) (a .weights .now) (a .bytes .now) (a .room) W (sym (o .record-ok .ensures) ∙ not-false _ (c .before .if2 .left)) (c .if3 .taken)
 
 returns-4 : tie.Need-returns-4
@@ -40,7 +40,7 @@ returns-4 c =
     let o = c .before .before in
     let k = o .before .before in
     let a = k .before .before .before .args in
-    let W : Weighed (a .first) (a .weights .now) = no-fault _ _ (sym (k .weights-fault .ensures) ∙ o .before .if1 .left) in
+    let W : WeightsAccepted (a .first) (a .weights .now) = no-fault _ _ (sym (k .weights-fault .ensures) ∙ o .before .if1 .left) in
     none-fault (a .first) (a .weights .now) (a .bytes .now) (a .room) W (sym (o .record-ok .ensures) ∙ not-false _ (c .before .if2 .left)) (c .if3 .left)
 
 pub fault-spec : {M : Type 1} → statement M

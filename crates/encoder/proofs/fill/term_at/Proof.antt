@@ -35,9 +35,9 @@ returns c =
     let at-power = c .before .before .before in
     let at-u16-to-usize = at-power .before in
     let start = at-u16-to-usize .before .before .before .before .before in
-    let e : at-u16-to-usize .u16-to-usize .result ≡ getD (start .args .columns .now) (start .args .k) 0 = at-u16-to-usize .u16-to-usize .ensures .0 in
-    let x : getD (start .args .symbols .now) (at-u16-to-usize .u16-to-usize .result) 0 ≡ getD (start .args .symbols .now) (getD (start .args .columns .now) (start .args .k) 0) 0 = ap (λ c. getD (start .args .symbols .now) c 0) e in
-    c .times .ensures ∙ ap (λ p. productReply p (getD (start .args .weights .now) (start .args .k) 0) (getD (start .args .symbols .now) (at-u16-to-usize .u16-to-usize .result) 0) .value) (at-power .power .ensures) ∙ times-is (powerOf (start .args .numbers .first)) (getD (start .args .weights .now) (start .args .k) 0) (getD (start .args .symbols .now) (at-u16-to-usize .u16-to-usize .result) 0) (start .pre .low) (start .pre .high) (start .pre .weight) (rw e (start .pre .symbol)) ∙ ap (product (powerOf (start .args .numbers .first)) (getD (start .args .weights .now) (start .args .k) 0)) x
+    let e : at-u16-to-usize .u16-to-usize .result ≡ getD (start .args .columns .now) (start .args .edge) 0 = at-u16-to-usize .u16-to-usize .ensures .0 in
+    let x : getD (start .args .symbols .now) (at-u16-to-usize .u16-to-usize .result) 0 ≡ getD (start .args .symbols .now) (getD (start .args .columns .now) (start .args .edge) 0) 0 = ap (λ c. getD (start .args .symbols .now) c 0) e in
+    c .times .ensures ∙ ap (λ p. productReply p (getD (start .args .weights .now) (start .args .edge) 0) (getD (start .args .symbols .now) (at-u16-to-usize .u16-to-usize .result) 0) .value) (at-power .power .ensures) ∙ times-is (powerOf (start .args .numbers .first)) (getD (start .args .weights .now) (start .args .edge) 0) (getD (start .args .symbols .now) (at-u16-to-usize .u16-to-usize .result) 0) (start .pre .low) (start .pre .high) (start .pre .weight) (rw e (start .pre .symbol)) ∙ ap (product (powerOf (start .args .numbers .first)) (getD (start .args .weights .now) (start .args .edge) 0)) x
 
 pub term-at-spec : {M : Type 1} → statement M
 term-at-spec =

@@ -14,15 +14,15 @@ use Rattle.expansion.proofs.expansion.columns.Statement.{statement}
 use Rattle.expansion.proofs.expansion.columns.Tie as tie
 
 abbrev Inv-loop : tie.InvT-loop
-Inv-loop d w k r t out₀ n₀ out n = (n ≤ d) × ((length out ≡ length out₀) × (out ≡ blocks (turned k t w r out₀) n ++ drop (n * w) out₀))
+Inv-loop d q k r t out₀ n₀ out n = (n ≤ d) × ((length out ≡ length out₀) × (out ≡ blocks (turned k t q r out₀) n ++ drop (n * q) out₀))
 
 abbrev μ-loop : tie.MeasureT-loop
-μ-loop d w k r t out₀ n₀ out n = d - n
+μ-loop d q k r t out₀ n₀ out n = d - n
 
 loop-holds : tie.Need-loop-holds Inv-loop μ-loop
 loop-holds c =
     let start = c .before .before .before in
-    (omega arith, (refl, rw (zero-mul (start .args .w)) refl))
+    (omega arith, (refl, rw (zero-mul (start .args .q)) refl))
 
 mul-a : tie.Need-mul-a Inv-loop μ-loop
 mul-a c =
@@ -62,7 +62,7 @@ column-requires : tie.Need-column-requires Inv-loop μ-loop
 column-requires c κs =
     let at-loop = c .before .before .before in
     let start = at-loop .before .before .before .before in
-    (start .pre .0, (rw (column-left (start .args .k) (start .args .w) (start .args .t .now) (start .args .r .now) (start .args .out .now) (at-loop .loop .n) (at-loop .loop .out) (at-loop .loop .inv .1 .1)) (start .pre .1 .shifted (at-loop .loop .n) (omega arith)), simp (length-take, length-drop) (omega (arith, columns-room (start .pre .1) (at-loop .loop .n) (omega arith) .1))))
+    (start .pre .0, (rw (column-left (start .args .k) (start .args .q) (start .args .t .now) (start .args .r .now) (start .args .out .now) (at-loop .loop .n) (at-loop .loop .out) (at-loop .loop .inv .1 .1)) (start .pre .1 .shifted (at-loop .loop .n) (omega arith)), simp (length-take, length-drop) (omega (arith, columns-room (start .pre .1) (at-loop .loop .n) (omega arith) .1))))
 
 add-n : tie.Need-add-n Inv-loop μ-loop
 add-n c = search needs
@@ -75,7 +75,7 @@ loop-again c =
     let at-column = c .before .before in
     let at-loop = at-column .before .before .before .before in
     let start = at-loop .before .before .before .before in
-    (omega arith, (search needs, block-more (turned (start .args .k) (start .args .t .now) (start .args .w) (start .args .r .now) (start .args .out .now)) (start .args .w) (turned-full (start .args .k) (start .args .w) (start .args .t .now) (start .args .r .now) (start .args .out .now) (at-loop .loop .n) (at-loop .loop .out) (at-loop .loop .inv .1 .1)) (start .args .out .now) (at-loop .loop .out) (at-loop .loop .n) (at-loop .loop .inv .1 .1) (at-column .column .ensures ∙ turned-column (start .args .k) (start .args .w) (start .args .t .now) (start .args .r .now) (start .args .out .now) (at-loop .loop .n) (column-left (start .args .k) (start .args .w) (start .args .t .now) (start .args .r .now) (start .args .out .now) (at-loop .loop .n) (at-loop .loop .out) (at-loop .loop .inv .1 .1)))))
+    (omega arith, (search needs, block-more (turned (start .args .k) (start .args .t .now) (start .args .q) (start .args .r .now) (start .args .out .now)) (start .args .q) (turned-full (start .args .k) (start .args .q) (start .args .t .now) (start .args .r .now) (start .args .out .now) (at-loop .loop .n) (at-loop .loop .out) (at-loop .loop .inv .1 .1)) (start .args .out .now) (at-loop .loop .out) (at-loop .loop .n) (at-loop .loop .inv .1 .1) (at-column .column .ensures ∙ turned-column (start .args .k) (start .args .q) (start .args .t .now) (start .args .r .now) (start .args .out .now) (at-loop .loop .n) (column-left (start .args .k) (start .args .q) (start .args .t .now) (start .args .r .now) (start .args .out .now) (at-loop .loop .n) (at-loop .loop .out) (at-loop .loop .inv .1 .1)))))
 
 same-length : tie.Need-same-length Inv-loop μ-loop
 same-length c = search needs
@@ -84,7 +84,7 @@ returns : tie.Need-returns Inv-loop μ-loop
 returns c =
     let at-loop = c .before in
     let start = at-loop .before .before .before .before in
-    let e : at-loop .loop .n ≡ start .args .d = omega arith in rw e at (block-end (turned (start .args .k) (start .args .t .now) (start .args .w) (start .args .r .now) (start .args .out .now)) (start .args .w) (turned-full (start .args .k) (start .args .w) (start .args .t .now) (start .args .r .now) (start .args .out .now) (at-loop .loop .n) (at-loop .loop .out) (at-loop .loop .inv .1 .1)) (start .args .out .now) (at-loop .loop .out) (at-loop .loop .n) (at-loop .loop .inv .1 .1) (rw e (start .pre .1 .room)))
+    let e : at-loop .loop .n ≡ start .args .d = omega arith in rw e at (block-end (turned (start .args .k) (start .args .t .now) (start .args .q) (start .args .r .now) (start .args .out .now)) (start .args .q) (turned-full (start .args .k) (start .args .q) (start .args .t .now) (start .args .r .now) (start .args .out .now) (at-loop .loop .n) (at-loop .loop .out) (at-loop .loop .inv .1 .1)) (start .args .out .now) (at-loop .loop .out) (at-loop .loop .n) (at-loop .loop .inv .1 .1) (rw e (start .pre .1 .room)))
 
 pub columns-spec : {M : Type 1} → statement M
 columns-spec =

@@ -32,7 +32,7 @@ in-room-requires c κs =
     let at-u8-to-usize = at-rows .before .before in
     let at-rule-of = at-u8-to-usize .before in
     let start = at-rule-of .before .before .before .before in
-    let f = start .args .first in let k : at-u8-to-usize .u8-to-usize .result ≡ mostOf f = (at-u8-to-usize .u8-to-usize .ensures .0 ∙ ap (λ (r : Rule). r .k) (at-rule-of .rule-of .ensures)) in rw k ((most-few f, ((rw (start .pre .1 .1 .0) (pow-pos (powerOf f)), start .pre .1 .0), rw (start .pre .1 .1 .0) (start .pre .0 .long))), (omega (arith, most-few f), turnable (start .pre .0) (start .args .w) (start .pre .1 .1 .0) _ (at-rows .rows .ensures ∙ ap (λ p. rowsLeave p (start .args .weights .now) (start .args .out .now)) (ap (λ (r : Rule). r .p) (at-rule-of .rule-of .ensures)) ∙ rows-filled (powerOf (start .args .first)) (start .args .weights .now) (start .args .out .now) (factors (start .pre .0)) (start .pre .1 .1 .1))))
+    let f = start .args .first in let k : at-u8-to-usize .u8-to-usize .result ≡ mostOf f = (at-u8-to-usize .u8-to-usize .ensures .0 ∙ ap (λ (r : Rule). r .k) (at-rule-of .rule-of .ensures)) in rw k ((most-few f, ((rw (start .pre .1 .1 .0) (pow-pos (powerOf f)), start .pre .1 .0), rw (start .pre .1 .1 .0) (start .pre .0 .long))), (omega (arith, most-few f), turnable (start .pre .0) (start .args .q) (start .pre .1 .1 .0) _ (at-rows .rows .ensures ∙ ap (λ p. rowsLeave p (start .args .weights .now) (start .args .out .now)) (ap (λ (r : Rule). r .p) (at-rule-of .rule-of .ensures)) ∙ rows-filled (powerOf (start .args .first)) (start .args .weights .now) (start .args .out .now) (factors (start .pre .0)) (start .pre .1 .1 .1))))
 
 same-length : tie.Need-same-length
 same-length c = search needs
@@ -44,7 +44,7 @@ returns c =
     let at-u8-to-usize = at-rows .before .before in
     let at-rule-of = at-u8-to-usize .before in
     let start = at-rule-of .before .before .before .before in
-    let f = start .args .first in let k : at-u8-to-usize .u8-to-usize .result ≡ mostOf f = (at-u8-to-usize .u8-to-usize .ensures .0 ∙ ap (λ (r : Rule). r .k) (at-rule-of .rule-of .ensures)) in let e = rw k at (at-in-room .in-room .ensures) in e .1 ∙ turned-is (start .pre .0) (start .args .w) (start .pre .1 .1 .0) _ (at-rows .rows .ensures ∙ ap (λ p. rowsLeave p (start .args .weights .now) (start .args .out .now)) (ap (λ (r : Rule). r .p) (at-rule-of .rule-of .ensures)) ∙ rows-filled (powerOf (start .args .first)) (start .args .weights .now) (start .args .out .now) (factors (start .pre .0)) (start .pre .1 .1 .1)) _ (e .0) ∙ expansion-join _ _ _+_ _ _ _
+    let f = start .args .first in let k : at-u8-to-usize .u8-to-usize .result ≡ mostOf f = (at-u8-to-usize .u8-to-usize .ensures .0 ∙ ap (λ (r : Rule). r .k) (at-rule-of .rule-of .ensures)) in let e = rw k at (at-in-room .in-room .ensures) in e .1 ∙ turned-is (start .pre .0) (start .args .q) (start .pre .1 .1 .0) _ (at-rows .rows .ensures ∙ ap (λ p. rowsLeave p (start .args .weights .now) (start .args .out .now)) (ap (λ (r : Rule). r .p) (at-rule-of .rule-of .ensures)) ∙ rows-filled (powerOf (start .args .first)) (start .args .weights .now) (start .args .out .now) (factors (start .pre .0)) (start .pre .1 .1 .1)) _ (e .0) ∙ expansion-join _ _ _+_ _ _ _
 
 pub expand-in-spec : {M : Type 1} → statement M
 expand-in-spec =

@@ -10,18 +10,18 @@ use Rattle.expansion.proofs.expansion.rows_from.Statement.{statement}
 use Rattle.expansion.proofs.expansion.rows_from.Tie as tie
 
 abbrev Inv-loop : tie.InvT-loop
-Inv-loop t w k n at v₀ j₀ v j = (j ≤ k) × ((length v ≡ length v₀) × (v ≡ tab (saidFrom t w k n at (length v₀) j) (length v₀)))
+Inv-loop t q k n at v₀ j₀ v j = (j ≤ k) × ((length v ≡ length v₀) × (v ≡ tab (saidFrom t q k n at (length v₀) j) (length v₀)))
 
 abbrev μ-loop : tie.MeasureT-loop
-μ-loop t w k n at v₀ j₀ v j = j
+μ-loop t q k n at v₀ j₀ v j = j
 
 -- the lists that a turn reads are inside
 room : (c : tie.In-loop Inv-loop μ-loop)
     → let start = c .before .before .before .before .before .before .before .before .before in
-    (1 + 2 * (c .before .loop .j - 1)) * start .args .w + start .args .at + start .args .w + length (start .args .v .now) ≤ length (start .args .t .now)
+    (1 + 2 * (c .before .loop .j - 1)) * start .args .q + start .args .at + start .args .q + length (start .args .v .now) ≤ length (start .args .t .now)
 room c =
     let start = c .before .before .before .before .before .before .before .before .before in
-    pair-room (c .before .loop .j - 1) (start .args .k) (start .args .w) (start .args .at) (length (start .args .v .now)) (start .args .t .now) (omega arith) (start .pre .1 .1)
+    pair-room (c .before .loop .j - 1) (start .args .k) (start .args .q) (start .args .at) (length (start .args .v .now)) (start .args .t .now) (omega arith) (start .pre .1 .1)
 
 sub-copy : tie.Need-sub-copy Inv-loop μ-loop
 sub-copy c = search needs
@@ -40,7 +40,7 @@ loop-holds c =
     let at-copy = c .before .before in
     let start = at-copy .before .before .before .before .before in
     let l : length (at-copy .copy .last .1 .0) ≡ length (start .args .v .now) = at-copy .copy .kept .1 .0 in
-    (omega arith, (refl, rw l (rows-start (start .args .t .now) (start .args .w) (start .args .k) (start .args .n) (start .args .at) (length (start .args .v .now)) (omega arith) (at-copy .copy .ensures))))
+    (omega arith, (refl, rw l (rows-start (start .args .t .now) (start .args .q) (start .args .k) (start .args .n) (start .args .at) (length (start .args .v .now)) (omega arith) (at-copy .copy .ensures))))
 
 sub-j : tie.Need-sub-j Inv-loop μ-loop
 sub-j c = search needs
@@ -97,7 +97,7 @@ loop-again c =
     let start = at-copy .before .before .before .before .before in
     let l : length (at-copy .copy .last .1 .0) ≡ length (start .args .v .now) = at-copy .copy .kept .1 .0 in
     let o = rw (at-loop .loop .inv .1 .0) at (at-pair .pair .ensures) in
-    (omega arith, (omega arith, rows-turn (start .args .t .now) (start .args .w) (start .args .k) (start .args .n) (start .args .at) (length (at-copy .copy .last .1 .0)) (at-loop .loop .j) (at-loop .loop .v) (omega arith) (omega arith) (at-loop .loop .inv .1 .1) refl refl (omega (arith, room (at-pair .before .before .before .before))) o))
+    (omega arith, (omega arith, rows-turn (start .args .t .now) (start .args .q) (start .args .k) (start .args .n) (start .args .at) (length (at-copy .copy .last .1 .0)) (at-loop .loop .j) (at-loop .loop .v) (omega arith) (omega arith) (at-loop .loop .inv .1 .1) refl refl (omega (arith, room (at-pair .before .before .before .before))) o))
 
 same-length : tie.Need-same-length Inv-loop μ-loop
 same-length c = search needs
@@ -108,7 +108,7 @@ returns c =
     let at-copy = at-loop .before .before .before in
     let start = at-copy .before .before .before .before .before in
     let l : length (at-copy .copy .last .1 .0) ≡ length (start .args .v .now) = at-copy .copy .kept .1 .0 in
-    rw l at (rows-end (start .args .t .now) (start .args .w) (start .args .k) (start .args .n) (start .args .at) (length (at-copy .copy .last .1 .0)) (at-loop .loop .j) (omega arith) (at-loop .loop .inv .1 .1))
+    rw l at (rows-end (start .args .t .now) (start .args .q) (start .args .k) (start .args .n) (start .args .at) (length (at-copy .copy .last .1 .0)) (at-loop .loop .j) (omega arith) (at-loop .loop .inv .1 .1))
 
 pub rows-from-spec : {M : Type 1} → statement M
 rows-from-spec =

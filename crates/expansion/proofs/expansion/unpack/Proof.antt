@@ -14,21 +14,21 @@ use Rattle.expansion.proofs.expansion.unpack.Statement.{statement}
 use Rattle.expansion.proofs.expansion.unpack.Tie as tie
 
 abbrev Inv-loop : tie.InvT-loop
-Inv-loop r d w k out₀ g i₀ out i = (i ≤ 1 + 2 * k) × ((length out ≡ length out₀) × (out ≡ blocks (listOf k d w r) i ++ drop (i * w) out₀))
+Inv-loop r d q k out₀ g i₀ out i = (i ≤ 1 + 2 * k) × ((length out ≡ length out₀) × (out ≡ blocks (listOf k d q r) i ++ drop (i * q) out₀))
 
 abbrev μ-loop : tie.MeasureT-loop
-μ-loop r d w k out₀ g i₀ out i = 1 + 2 * k - i
+μ-loop r d q k out₀ g i₀ out i = 1 + 2 * k - i
 
 -- list i's part of the room
 room : (c : tie.In-loop Inv-loop μ-loop)
     → let s = c .before .before .before .before in
-    c .before .loop .i * s .args .w + s .args .w ≤ length (s .args .out .now)
+    c .before .loop .i * s .args .q + s .args .q ≤ length (s .args .out .now)
 room c =
     let s = c .before .before .before .before in
     list-room (s .pre) (c .before .loop .i) (omega arith)
 
 part-full : (c : tie.In-loop Inv-loop μ-loop)
-    → let w = c .before .before .before .before .args .w in
+    → let w = c .before .before .before .before .args .q in
     let a : ℕ = c .before .loop .i * w in
     length (take (a + w - a) (drop a (c .before .loop .out))) ≡ w
 part-full c = simp (length-take, length-drop) (omega (arith, room c))
@@ -42,7 +42,7 @@ add-g c = search needs
 loop-holds : tie.Need-loop-holds Inv-loop μ-loop
 loop-holds c =
     let start = c .before .before in
-    let z = zero-mul (start .args .w) in (omega arith, (refl, rw z))
+    let z = zero-mul (start .args .q) in (omega arith, (refl, rw z))
 
 mul-a : tie.Need-mul-a Inv-loop μ-loop
 mul-a c = omega (arith, room c)
@@ -88,7 +88,7 @@ loop-again c =
       omega arith,
       (
         omega arith,
-        block-more (listOf (start .args .k) (start .args .d) (start .args .w) (start .args .r .now)) (start .args .w) (λ j. length-tab _ (start .args .w)) (start .args .out .now) (at-loop .loop .out) (at-loop .loop .i) (at-loop .loop .inv .1 .1)
+        block-more (listOf (start .args .k) (start .args .d) (start .args .q) (start .args .r .now)) (start .args .q) (λ j. length-tab _ (start .args .q)) (start .args .out .now) (at-loop .loop .out) (at-loop .loop .i) (at-loop .loop .inv .1 .1)
             (at-every .every .ensures ∙ rw (l, at-zero-row .zero-row .ensures)),
       ),
     )
@@ -102,8 +102,8 @@ returns c =
     let at-loop = c .before in
     let start = at-loop .before .before .before in
     let e : at-loop .loop .i ≡ 1 + 2 * start .args .k = omega arith in
-    let h : length (start .args .out .now) ≡ at-loop .loop .i * start .args .w = rw e (start .pre .room) in
-    rw (← e) (block-end (listOf (start .args .k) (start .args .d) (start .args .w) (start .args .r .now)) (start .args .w) (λ j. length-tab _ (start .args .w)) (start .args .out .now) (at-loop .loop .out) (at-loop .loop .i) (at-loop .loop .inv .1 .1) h)
+    let h : length (start .args .out .now) ≡ at-loop .loop .i * start .args .q = rw e (start .pre .room) in
+    rw (← e) (block-end (listOf (start .args .k) (start .args .d) (start .args .q) (start .args .r .now)) (start .args .q) (λ j. length-tab _ (start .args .q)) (start .args .out .now) (at-loop .loop .out) (at-loop .loop .i) (at-loop .loop .inv .1 .1) h)
 
 pub unpack-spec : {M : Type 1} → statement M
 unpack-spec =

@@ -13,10 +13,10 @@ use Rattle.expansion.proofs.expansion.values.Statement.{statement}
 use Rattle.expansion.proofs.expansion.values.Tie as tie
 
 abbrev Inv-loop : tie.InvT-loop
-Inv-loop t w k n v₀ a₀ v a = ((a % 16 ≡ 0) × (a ≤ 64)) × ((length v ≡ length v₀) × (v ≡ tab (valueIn k t w n) a ++ drop a v₀))
+Inv-loop t q k n v₀ a₀ v a = ((a % 16 ≡ 0) × (a ≤ 64)) × ((length v ≡ length v₀) × (v ≡ tab (valueIn k t q n) a ++ drop a v₀))
 
 abbrev μ-loop : tie.MeasureT-loop
-μ-loop t w k n v₀ a₀ v a = 64 - a
+μ-loop t q k n v₀ a₀ v a = 64 - a
 
 loop-holds : tie.Need-loop-holds Inv-loop μ-loop
 loop-holds c = search needs
@@ -53,7 +53,7 @@ loop-again c =
     let at-loop = at-rows-from .before .before .before in
     let start = at-loop .before .before .before in
     let l : length (take (at-loop .loop .a + 16 - at-loop .loop .a) (drop (at-loop .loop .a) (at-loop .loop .v))) ≡ 16 = simp (length-take, length-drop) (omega (arith, start .pre .0 .most)) in
-    ((omega arith, omega (arith, start .pre .0 .most)), (omega arith, values-turn (valueIn (start .args .k) (start .args .t .now) (start .args .w) (start .args .n)) (start .args .v .now) (at-loop .loop .v) (at-loop .loop .a) (length (take (at-loop .loop .a + 16 - at-loop .loop .a) (drop (at-loop .loop .a) (at-loop .loop .v)))) (at-loop .loop .a + 16) (omega arith) (at-loop .loop .inv .1 .1) (at-rows-from .rows-from .ensures)))
+    ((omega arith, omega (arith, start .pre .0 .most)), (omega arith, values-turn (valueIn (start .args .k) (start .args .t .now) (start .args .q) (start .args .n)) (start .args .v .now) (at-loop .loop .v) (at-loop .loop .a) (length (take (at-loop .loop .a + 16 - at-loop .loop .a) (drop (at-loop .loop .a) (at-loop .loop .v)))) (at-loop .loop .a + 16) (omega arith) (at-loop .loop .inv .1 .1) (at-rows-from .rows-from .ensures)))
 
 same-length : tie.Need-same-length Inv-loop μ-loop
 same-length c = search needs
@@ -62,7 +62,7 @@ returns : tie.Need-returns Inv-loop μ-loop
 returns c =
     let at-loop = c .before in
     let start = at-loop .before .before .before in
-    values-end (valueIn (start .args .k) (start .args .t .now) (start .args .w) (start .args .n)) (start .args .w) (at-loop .loop .a) (start .args .v .now) (omega arith) (at-loop .loop .inv .1 .1)
+    values-end (valueIn (start .args .k) (start .args .t .now) (start .args .q) (start .args .n)) (start .args .q) (at-loop .loop .a) (start .args .v .now) (omega arith) (at-loop .loop .inv .1 .1)
 
 pub values-spec : {M : Type 1} → statement M
 values-spec =

@@ -14,10 +14,10 @@ use Rattle.field.proofs.products.each_row.Statement.{statement}
 use Rattle.field.proofs.products.each_row.Tie as tie
 
 abbrev Inv-loop : tie.InvT-loop
-Inv-loop p w weights out₀ n₀ out n = (n ≤ length weights) × ((length out ≡ length out₀) × (out ≡ blocks (rowOf p weights) n ++ drop (n * 2 ^ p) out₀))
+Inv-loop p q weights out₀ n₀ out n = (n ≤ length weights) × ((length out ≡ length out₀) × (out ≡ blocks (rowOf p weights) n ++ drop (n * 2 ^ p) out₀))
 
 abbrev μ-loop : tie.MeasureT-loop
-μ-loop p w weights out₀ n₀ out n = length weights - n
+μ-loop p q weights out₀ n₀ out n = length weights - n
 
 loop-holds : tie.Need-loop-holds Inv-loop μ-loop
 loop-holds c =
@@ -28,13 +28,13 @@ mul-a : tie.Need-mul-a Inv-loop μ-loop
 mul-a c =
     let at-loop = c .before in
     let start = at-loop .before .before .before in
-    omega (arith, rows-room (start .pre .0) (start .args .w) (start .pre .1 .0) (at-loop .loop .n) (omega arith) .0)
+    omega (arith, rows-room (start .pre .0) (start .args .q) (start .pre .1 .0) (at-loop .loop .n) (omega arith) .0)
 
 add-e : tie.Need-add-e Inv-loop μ-loop
 add-e c =
     let at-loop = c .before in
     let start = at-loop .before .before .before in
-    omega (arith, rows-room (start .pre .0) (start .args .w) (start .pre .1 .0) (at-loop .loop .n) (omega arith) .0)
+    omega (arith, rows-room (start .pre .0) (start .args .q) (start .pre .1 .0) (at-loop .loop .n) (omega arith) .0)
 
 shared-slice-read-row : tie.Need-shared-slice-read-row Inv-loop μ-loop
 shared-slice-read-row c = search needs
@@ -49,13 +49,13 @@ part-row-end : tie.Need-part-row-end Inv-loop μ-loop
 part-row-end c =
     let at-loop = c .before .before in
     let start = at-loop .before .before .before in
-    omega (arith, rows-room (start .pre .0) (start .args .w) (start .pre .1 .0) (at-loop .loop .n) (omega arith) .1)
+    omega (arith, rows-room (start .pre .0) (start .args .q) (start .pre .1 .0) (at-loop .loop .n) (omega arith) .1)
 
 row-requires : tie.Need-row-requires Inv-loop μ-loop
 row-requires c κs =
     let at-loop = c .before .before .before in
     let start = at-loop .before .before .before in
-    (factor-at (start .pre .0) (at-loop .loop .n) (omega arith), simp (length-take, length-drop) (omega (arith, rows-room (start .pre .0) (start .args .w) (start .pre .1 .0) (at-loop .loop .n) (omega arith) .1, start .pre .1 .0)))
+    (factor-at (start .pre .0) (at-loop .loop .n) (omega arith), simp (length-take, length-drop) (omega (arith, rows-room (start .pre .0) (start .args .q) (start .pre .1 .0) (at-loop .loop .n) (omega arith) .1, start .pre .1 .0)))
 
 add-n : tie.Need-add-n Inv-loop μ-loop
 add-n c = search needs
@@ -68,7 +68,7 @@ loop-again c =
     let at-row = c .before .before in
     let at-loop = at-row .before .before .before .before in
     let start = at-loop .before .before .before in
-    (omega arith, (search needs, rows-turn (start .args .p) (start .args .weights .now) (at-loop .loop .n) (start .args .w) (start .args .out .now) (at-loop .loop .out) (start .pre .1 .0) (at-loop .loop .inv .1 .1) (at-row .row .ensures)))
+    (omega arith, (search needs, rows-turn (start .args .p) (start .args .weights .now) (at-loop .loop .n) (start .args .q) (start .args .out .now) (at-loop .loop .out) (start .pre .1 .0) (at-loop .loop .inv .1 .1) (at-row .row .ensures)))
 
 same-length : tie.Need-same-length Inv-loop μ-loop
 same-length c = search needs

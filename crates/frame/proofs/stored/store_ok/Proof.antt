@@ -83,8 +83,7 @@ loop-again c =
     let u = c .before .before .before .before in
     let l = u .before .before .before in
     let g = l .before in
-    let a = g .before .before .before .args in
-    (
+    let a = g .before .before .before .args in (
       omega arith,
       (
         place-more (a .first) (a .degrees .now) (l .loop .m) (l .loop .place) (u .u8-to-usize .result) (g .groups .result) (l .loop .inv .1 .0) (u .u8-to-usize .ensures .0) (g .groups .ensures),

@@ -7,7 +7,7 @@ use lib.Seq.{length-take-le}
 use Rattle.machine.specs.Machine.{symbols, margins}
 use Rattle.machine.specs.Decoding.{lending, decodingUnder}
 use Rattle.layered.proofs.Columns.{front-room}
-use Rattle.frame.proofs.Frames.{copied-is}
+use Rattle.slices.proofs.Copies.{copied-is}
 use Rattle.layered.proofs.Decoded.{fits, refused-leaves, copied-room, copied-leaves}
 use Rattle.layered.proofs.decoding.under_code.Statement.{statement}
 use Rattle.layered.proofs.decoding.under_code.Tie as tie

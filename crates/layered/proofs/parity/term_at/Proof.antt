@@ -28,7 +28,7 @@ times-requires c κs =
     let at-power = c .before .before in
     let at-u16-to-usize = at-power .before in
     let s = at-u16-to-usize .before .before .before .before .before in
-    let e : at-u16-to-usize .u16-to-usize .result ≡ getD (s .args .columns .now) (s .args .k) 0 = at-u16-to-usize .u16-to-usize .ensures .0 in
+    let e : at-u16-to-usize .u16-to-usize .result ≡ getD (s .args .columns .now) (s .args .edge) 0 = at-u16-to-usize .u16-to-usize .ensures .0 in
     rw (at-power .power .ensures) (s .pre .low, (s .pre .high, (s .pre .weight, rw e (s .pre .symbol))))
 
 returns : tie.Need-returns

@@ -6,7 +6,7 @@ use lib.ListN.{length, take, length-take}
 use lib.Seq.{length-take-le}
 use Rattle.machine.specs.Machine.{symbols, margins}
 use Rattle.layered.proofs.Columns.{front-room}
-use Rattle.frame.proofs.Frames.{copied-is}
+use Rattle.slices.proofs.Copies.{copied-is}
 use Rattle.layered.proofs.Decoded.{fits}
 use Rattle.layered.proofs.Steps.{load-refused, first-room, load-leaves}
 use Rattle.layered.proofs.stages.load_under.Statement.{statement}

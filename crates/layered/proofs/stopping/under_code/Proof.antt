@@ -8,7 +8,7 @@ use Rattle.machine.specs.Machine.{symbols, margins}
 use Rattle.machine.specs.Decoding.{lending}
 use Rattle.machine.specs.Early.{earlyUnder}
 use Rattle.layered.proofs.Columns.{front-room}
-use Rattle.frame.proofs.Frames.{copied-is}
+use Rattle.slices.proofs.Copies.{copied-is}
 use Rattle.layered.proofs.Decoded.{fits, refused-leaves, copied-room}
 use Rattle.layered.proofs.EarlyDecoded.{stop-copied}
 use Rattle.layered.proofs.stopping.under_code.Statement.{statement}

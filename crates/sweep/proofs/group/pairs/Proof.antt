@@ -6,14 +6,14 @@ use native.Mathlib.Omega.{arith}
 use borrow.Author.Needs.{needs}
 use lib.ListN.{length, drop}
 use Rattle.trellis.specs.Lists.{blocks}
-use Rattle.sweep.specs.inner.Groups.{sentOf, pairAt, pairCount}
+use Rattle.sweep.specs.inner.Groups.{sentOf, pairAbove, pairCount}
 use Rattle.field.proofs.Blocks.{part-room}
 use Rattle.sweep.proofs.Grouping.{pair-length, pair-room, count-small, count-turn, pair-turn}
 use Rattle.sweep.proofs.group.pairs.Statement.{statement}
 use Rattle.sweep.proofs.group.pairs.Tie as tie
 
 abbrev Inv-loop : tie.InvT-loop
-Inv-loop sent q d a e out₀ c₀ n₀ out c n = (n ≤ d) × ((length out ≡ length out₀) × ((c ≡ pairCount e (sentOf sent q a) n) × (out ≡ blocks (pairAt e (sentOf sent q a)) n ++ drop (pairCount e (sentOf sent q a) n * 2) out₀)))
+Inv-loop sent q d a e out₀ c₀ n₀ out c n = (n ≤ d) × ((length out ≡ length out₀) × ((c ≡ pairCount e (sentOf sent q a) n) × (out ≡ blocks (pairAbove e (sentOf sent q a)) n ++ drop (pairCount e (sentOf sent q a) n * 2) out₀)))
 
 abbrev μ-loop : tie.MeasureT-loop
 μ-loop sent q d a e out₀ c₀ n₀ out c n = d - n
@@ -90,7 +90,7 @@ returns c =
     let q = start .args .q in
     let a = start .args .a in
     let e = start .args .e in
-    let n : at-loop .loop .n ≡ (start .args .d) = omega arith in (at-loop .loop .inv .1 .1 .0 ∙ ap (pairCount e (sentOf sent q a)) n, at-loop .loop .inv .1 .1 .1 ∙ ap (λ n. blocks (pairAt e (sentOf sent q a)) n ++ drop (pairCount e (sentOf sent q a) n * 2) (start .args .out .now)) n)
+    let n : at-loop .loop .n ≡ (start .args .d) = omega arith in (at-loop .loop .inv .1 .1 .0 ∙ ap (pairCount e (sentOf sent q a)) n, at-loop .loop .inv .1 .1 .1 ∙ ap (λ n. blocks (pairAbove e (sentOf sent q a)) n ++ drop (pairCount e (sentOf sent q a) n * 2) (start .args .out .now)) n)
 
 pub pairs-spec : {M : Type 1} → statement M
 pairs-spec =

@@ -6,7 +6,7 @@ use native.Mathlib.Omega.{arith}
 use borrow.Author.Needs.{needs}
 use lib.ListN.{length, drop}
 use Rattle.trellis.specs.Lists.{blocks}
-use Rattle.sweep.specs.inner.Joins.{sentRow}
+use Rattle.sweep.specs.inner.Joins.{columnSent}
 use Rattle.trellis.proofs.Loops.{block-more, block-end, length-tab}
 use Rattle.field.proofs.Blocks.{part-room}
 use Rattle.sweep.proofs.Laws.{part-length, drop-none}
@@ -15,7 +15,7 @@ use Rattle.sweep.proofs.join.sent_all.Statement.{statement}
 use Rattle.sweep.proofs.join.sent_all.Tie as tie
 
 abbrev Inv-loop : tie.InvT-loop
-Inv-loop before after shifts q k greatest out₀ w d n₀ out n = (n ≤ length shifts) × ((length out ≡ length out₀) × (out ≡ blocks (sentRow greatest q k before after shifts) n ++ drop (n * q) out₀))
+Inv-loop before after shifts q k greatest out₀ w d n₀ out n = (n ≤ length shifts) × ((length out ≡ length out₀) × (out ≡ blocks (columnSent greatest q k before after shifts) n ++ drop (n * q) out₀))
 
 abbrev μ-loop : tie.MeasureT-loop
 μ-loop before after shifts q k greatest out₀ w d n₀ out n = length shifts - n
@@ -182,7 +182,7 @@ loop-again c =
       omega (arith, at-loop-test .loop-test .taken),
       (
         omega (arith, at-loop .loop .inv .1 .0),
-        block-more (sentRow greatest q k before after shifts) q (λ j. length-tab _ q) (start .args .out .now) (at-loop .loop .out) (at-loop .loop .n) (at-loop .loop .inv .1 .1) (row-is greatest q k before after shifts (at-loop .loop .n) (at-u8-to-usize .u8-to-usize .ensures .0) (at-sent-row .sent-row .ensures)),
+        block-more (columnSent greatest q k before after shifts) q (λ j. length-tab _ q) (start .args .out .now) (at-loop .loop .out) (at-loop .loop .n) (at-loop .loop .inv .1 .1) (row-is greatest q k before after shifts (at-loop .loop .n) (at-u8-to-usize .u8-to-usize .ensures .0) (at-sent-row .sent-row .ensures)),
       ),
     )
 
@@ -199,7 +199,7 @@ returns c =
     let greatest = start .args .greatest in
     let k = start .args .k in
     let q = start .args .q in
-    let e : (at-loop .loop .n) ≡ (length shifts) = omega (arith, c .loop-test .left, at-loop .loop .inv) in block-end (sentRow greatest q k before after shifts) q (λ j. length-tab _ q) (start .args .out .now) (at-loop .loop .out) (at-loop .loop .n) (at-loop .loop .inv .1 .1) (rw e (start .pre .of-out)) ∙ ap (blocks (sentRow greatest q k before after shifts)) e
+    let e : (at-loop .loop .n) ≡ (length shifts) = omega (arith, c .loop-test .left, at-loop .loop .inv) in block-end (columnSent greatest q k before after shifts) q (λ j. length-tab _ q) (start .args .out .now) (at-loop .loop .out) (at-loop .loop .n) (at-loop .loop .inv .1 .1) (rw e (start .pre .of-out)) ∙ ap (blocks (columnSent greatest q k before after shifts)) e
 
 pub sent-all-spec : {M : Type 1} → statement M
 sent-all-spec =

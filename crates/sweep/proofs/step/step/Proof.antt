@@ -6,7 +6,7 @@ use native.Mathlib.Omega.{arith}
 use borrow.Author.Needs.{needs}
 use lib.ListN.{length, drop}
 use Rattle.trellis.specs.Lists.{blocks}
-use Rattle.sweep.specs.inner.Cells.{countAt, stepCells}
+use Rattle.sweep.specs.inner.Cells.{countCells, stepCells}
 use Rattle.trellis.proofs.Loops.{block-more, block-end}
 use Rattle.field.proofs.Blocks.{part-room}
 use Rattle.sweep.proofs.Laws.{part-length, count-length, drop-none}
@@ -14,7 +14,7 @@ use Rattle.sweep.proofs.step.step.Statement.{statement}
 use Rattle.sweep.proofs.step.step.Tie as tie
 
 abbrev Inv-loop : tie.InvT-loop
-Inv-loop row moves cells s q k greatest out₀ j₀ out j = (j ≤ k + 1) × ((length out ≡ length out₀) × (out ≡ blocks (countAt greatest q row moves cells s) j ++ drop (j * q) out₀))
+Inv-loop row moves cells s q k greatest out₀ j₀ out j = (j ≤ k + 1) × ((length out ≡ length out₀) × (out ≡ blocks (countCells greatest q row moves cells s) j ++ drop (j * q) out₀))
 
 abbrev μ-loop : tie.MeasureT-loop
 μ-loop row moves cells s q k greatest out₀ j₀ out j = k + 1 - j
@@ -81,7 +81,7 @@ loop-again c =
     let greatest = start .args .greatest in
     let s = start .args .s in
     let q = start .args .q in
-    (omega arith, (omega arith, block-more (countAt greatest q row moves cells s) q (count-length greatest q row moves cells s) (start .args .out .now) (at-loop .loop .out) (at-loop .loop .j) (at-loop .loop .inv .1 .1) (at-count .count .ensures)))
+    (omega arith, (omega arith, block-more (countCells greatest q row moves cells s) q (count-length greatest q row moves cells s) (start .args .out .now) (at-loop .loop .out) (at-loop .loop .j) (at-loop .loop .inv .1 .1) (at-count .count .ensures)))
 
 same-length : tie.Need-same-length Inv-loop μ-loop
 same-length c = search needs
@@ -98,7 +98,7 @@ returns c =
     let greatest = start .args .greatest in
     let s = start .args .s in
     let q = start .args .q in
-    let e : (at-loop .loop .j) ≡ start .args .k + 1 = omega arith in let h : length the-out ≡ (at-loop .loop .j) * q = rw e (start .pre .1 .1 .1) in block-end (countAt greatest q row moves cells s) q (count-length greatest q row moves cells s) the-out (at-loop .loop .out) (at-loop .loop .j) (at-loop .loop .inv .1 .1) h ∙ ap (blocks (countAt greatest q row moves cells s)) e
+    let e : (at-loop .loop .j) ≡ start .args .k + 1 = omega arith in let h : length the-out ≡ (at-loop .loop .j) * q = rw e (start .pre .1 .1 .1) in block-end (countCells greatest q row moves cells s) q (count-length greatest q row moves cells s) the-out (at-loop .loop .out) (at-loop .loop .j) (at-loop .loop .inv .1 .1) h ∙ ap (blocks (countCells greatest q row moves cells s)) e
 
 pub step-spec : {M : Type 1} → statement M
 step-spec =

@@ -36,8 +36,8 @@ returns c =
     let at-copy = at-twice1 .before .before .before .before in
     let start = at-copy .before .before .before .before in
     let m = take-room (start .args .shape .l) (start .args .s .now) (start .pre .1 .1) in
-    let same = copied-all (start .args .w .now) (take (start .args .shape .l) (start .args .s .now)) (at-copy .copy .ensures) (start .pre .1 .0 ∙ sym m) (omega (arith, m, (start .pre .0 .table) .even)) in
-    copied-less _ 4 (start .args .shape .l) (start .args .w .now) _ (omega arith) (copied-double 2 (start .args .shape .l) (start .args .w .now) _ _ flips2 (start .pre .0 .table) (copied-double 1 (start .args .shape .l) (start .args .w .now) _ _ flips1 (start .pre .0 .table) (copied-one (start .args .shape .l) (start .args .w .now) (start .args .s .now) (start .pre .1 .0) (ap (λ y. y ++ drop (start .args .shape .l) (start .args .s .now)) same)) (at-twice1 .twice1 .ensures)) (at-twice2 .twice2 .ensures))
+    let same = copied-all (start .args .table .now) (take (start .args .shape .l) (start .args .s .now)) (at-copy .copy .ensures) (start .pre .1 .0 ∙ sym m) (omega (arith, m, (start .pre .0 .table) .even)) in
+    copied-less _ 4 (start .args .shape .l) (start .args .table .now) _ (omega arith) (copied-double 2 (start .args .shape .l) (start .args .table .now) _ _ flips2 (start .pre .0 .table) (copied-double 1 (start .args .shape .l) (start .args .table .now) _ _ flips1 (start .pre .0 .table) (copied-one (start .args .shape .l) (start .args .table .now) (start .args .s .now) (start .pre .1 .0) (ap (λ y. y ++ drop (start .args .shape .l) (start .args .s .now)) same)) (at-twice1 .twice1 .ensures)) (at-twice2 .twice2 .ensures))
 
 twice4-requires : tie.Need-twice4-requires
 twice4-requires c κs = search needs
@@ -53,8 +53,8 @@ returns-2 c =
     let at-copy = at-twice1 .before .before .before .before in
     let start = at-copy .before .before .before .before in
     let m = take-room (start .args .shape .l) (start .args .s .now) (start .pre .1 .1) in
-    let same = copied-all (start .args .w .now) (take (start .args .shape .l) (start .args .s .now)) (at-copy .copy .ensures) (start .pre .1 .0 ∙ sym m) (omega (arith, m, (start .pre .0 .table) .even)) in
-    copied-less _ 8 (start .args .shape .l) (start .args .w .now) _ (omega arith) (copied-double 4 (start .args .shape .l) (start .args .w .now) _ _ flips4 (start .pre .0 .table) (copied-double 2 (start .args .shape .l) (start .args .w .now) _ _ flips2 (start .pre .0 .table) (copied-double 1 (start .args .shape .l) (start .args .w .now) _ _ flips1 (start .pre .0 .table) (copied-one (start .args .shape .l) (start .args .w .now) (start .args .s .now) (start .pre .1 .0) (ap (λ y. y ++ drop (start .args .shape .l) (start .args .s .now)) same)) (at-twice1 .twice1 .ensures)) (at-twice2 .twice2 .ensures)) (at-twice4 .twice4 .ensures))
+    let same = copied-all (start .args .table .now) (take (start .args .shape .l) (start .args .s .now)) (at-copy .copy .ensures) (start .pre .1 .0 ∙ sym m) (omega (arith, m, (start .pre .0 .table) .even)) in
+    copied-less _ 8 (start .args .shape .l) (start .args .table .now) _ (omega arith) (copied-double 4 (start .args .shape .l) (start .args .table .now) _ _ flips4 (start .pre .0 .table) (copied-double 2 (start .args .shape .l) (start .args .table .now) _ _ flips2 (start .pre .0 .table) (copied-double 1 (start .args .shape .l) (start .args .table .now) _ _ flips1 (start .pre .0 .table) (copied-one (start .args .shape .l) (start .args .table .now) (start .args .s .now) (start .pre .1 .0) (ap (λ y. y ++ drop (start .args .shape .l) (start .args .s .now)) same)) (at-twice1 .twice1 .ensures)) (at-twice2 .twice2 .ensures)) (at-twice4 .twice4 .ensures))
 
 twice8-requires : tie.Need-twice8-requires
 twice8-requires c κs = search needs
@@ -71,8 +71,8 @@ returns-3 c =
     let at-copy = at-twice1 .before .before .before .before in
     let start = at-copy .before .before .before .before in
     let m = take-room (start .args .shape .l) (start .args .s .now) (start .pre .1 .1) in
-    let same = copied-all (start .args .w .now) (take (start .args .shape .l) (start .args .s .now)) (at-copy .copy .ensures) (start .pre .1 .0 ∙ sym m) (omega (arith, m, (start .pre .0 .table) .even)) in
-    copied-less _ 16 (start .args .shape .l) (start .args .w .now) _ (omega arith) (copied-double 8 (start .args .shape .l) (start .args .w .now) _ _ flips8 (start .pre .0 .table) (copied-double 4 (start .args .shape .l) (start .args .w .now) _ _ flips4 (start .pre .0 .table) (copied-double 2 (start .args .shape .l) (start .args .w .now) _ _ flips2 (start .pre .0 .table) (copied-double 1 (start .args .shape .l) (start .args .w .now) _ _ flips1 (start .pre .0 .table) (copied-one (start .args .shape .l) (start .args .w .now) (start .args .s .now) (start .pre .1 .0) (ap (λ y. y ++ drop (start .args .shape .l) (start .args .s .now)) same)) (at-twice1 .twice1 .ensures)) (at-twice2 .twice2 .ensures)) (at-twice4 .twice4 .ensures)) (at-twice8 .twice8 .ensures))
+    let same = copied-all (start .args .table .now) (take (start .args .shape .l) (start .args .s .now)) (at-copy .copy .ensures) (start .pre .1 .0 ∙ sym m) (omega (arith, m, (start .pre .0 .table) .even)) in
+    copied-less _ 16 (start .args .shape .l) (start .args .table .now) _ (omega arith) (copied-double 8 (start .args .shape .l) (start .args .table .now) _ _ flips8 (start .pre .0 .table) (copied-double 4 (start .args .shape .l) (start .args .table .now) _ _ flips4 (start .pre .0 .table) (copied-double 2 (start .args .shape .l) (start .args .table .now) _ _ flips2 (start .pre .0 .table) (copied-double 1 (start .args .shape .l) (start .args .table .now) _ _ flips1 (start .pre .0 .table) (copied-one (start .args .shape .l) (start .args .table .now) (start .args .s .now) (start .pre .1 .0) (ap (λ y. y ++ drop (start .args .shape .l) (start .args .s .now)) same)) (at-twice1 .twice1 .ensures)) (at-twice2 .twice2 .ensures)) (at-twice4 .twice4 .ensures)) (at-twice8 .twice8 .ensures))
 
 pub copies-spec : {M : Type 1} → statement M
 copies-spec =

@@ -12,15 +12,15 @@ use Rattle.tables.proofs.grow.begin.Statement.{statement}
 use Rattle.tables.proofs.grow.begin.Tie as tie
 
 abbrev Inv-loop : tie.InvT-loop
-Inv-loop line d₀ k l j₀ d j = (j ≤ k) × ((length d ≡ length d₀) × (d ≡ blocks (λ (i : ℕ). line) j ++ drop (j * l) d₀))
+Inv-loop line table₀ k l j₀ table j = (j ≤ k) × ((length table ≡ length table₀) × (table ≡ blocks (λ (i : ℕ). line) j ++ drop (j * l) table₀))
 
 abbrev μ-loop : tie.MeasureT-loop
-μ-loop line d₀ k l j₀ d j = k - j
+μ-loop line table₀ k l j₀ table j = k - j
 
 loop-holds : tie.Need-loop-holds Inv-loop μ-loop
 loop-holds c =
     let start = c .before .before in
-    (omega arith, (refl, fill-start (λ (i : ℕ). start .args .line .now) (start .args .shape .l) (start .args .d .now)))
+    (omega arith, (refl, fill-start (λ (i : ℕ). start .args .line .now) (start .args .shape .l) (start .args .table .now)))
 
 part-at-requires : tie.Need-part-at-requires Inv-loop μ-loop
 part-at-requires c κs = search needs
@@ -55,10 +55,10 @@ loop-again c =
     let x = at-part-at .part-at .ensures in
     let l = start .args .shape .l in
     let a = at-part-at .part-at .result in
-    let m = part-size (at-loop .loop .d) a (a + l) l refl (omega (arith, x, start .pre .1)) in
-    let same = copied-all (start .args .line .now) (take (a + l - a) (drop a (at-loop .loop .d))) (at-copy .copy .ensures) (start .pre .1 .0 ∙ sym m) (omega (arith, m, start .pre .0 .table .even)) in (
+    let m = part-size (at-loop .loop .table) a (a + l) l refl (omega (arith, x, start .pre .1)) in
+    let same = copied-all (start .args .line .now) (take (a + l - a) (drop a (at-loop .loop .table))) (at-copy .copy .ensures) (start .pre .1 .0 ∙ sym m) (omega (arith, m, start .pre .0 .table .even)) in (
       omega arith,
-      fill-turn (λ (i : ℕ). start .args .line .now) (start .args .shape .l) (λ (j : ℕ). start .pre .1 .0) (start .args .d .now) (at-loop .loop .d) (at-loop .loop .j) _ _ (x .0) refl (omega (arith, x, start .pre .1))
+      fill-turn (λ (i : ℕ). start .args .line .now) (start .args .shape .l) (λ (j : ℕ). start .pre .1 .0) (start .args .table .now) (at-loop .loop .table) (at-loop .loop .j) _ _ (x .0) refl (omega (arith, x, start .pre .1))
           (at-loop .loop .inv .1 .1) same,
     )
 
@@ -69,7 +69,7 @@ returns : tie.Need-returns Inv-loop μ-loop
 returns c =
     let at-loop = c .before in
     let start = at-loop .before .before .before in
-    fill-end (λ (i : ℕ). start .args .line .now) (start .args .shape .l) (λ (j : ℕ). start .pre .1 .0) (start .args .d .now) (at-loop .loop .d) (at-loop .loop .j) (start .args .shape .k) (omega arith) (start .pre .1 .1)
+    fill-end (λ (i : ℕ). start .args .line .now) (start .args .shape .l) (λ (j : ℕ). start .pre .1 .0) (start .args .table .now) (at-loop .loop .table) (at-loop .loop .j) (start .args .shape .k) (omega arith) (start .pre .1 .1)
     (at-loop .loop .inv .1 .1)
 
 pub begin-spec : {M : Type 1} → statement M

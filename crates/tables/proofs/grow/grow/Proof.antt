@@ -12,10 +12,10 @@ use Rattle.tables.proofs.grow.grow.Statement.{statement}
 use Rattle.tables.proofs.grow.grow.Tie as tie
 
 abbrev Inv-loop : tie.InvT-loop
-Inv-loop shape line d₀ c₀ l j₀ d c j = (j < shape .k) × (((length d ≡ length d₀) × (length c ≡ length c₀)) × (d ≡ take (suc j * l) d₀ ++ drop (suc j * l) (grownList (shape .greatest) (shape .q) l (shape .k) line d₀)))
+Inv-loop shape line table₀ c₀ l j₀ table c j = (j < shape .k) × (((length table ≡ length table₀) × (length c ≡ length c₀)) × (table ≡ take (suc j * l) table₀ ++ drop (suc j * l) (grownList (shape .greatest) (shape .q) l (shape .k) line table₀)))
 
 abbrev μ-loop : tie.MeasureT-loop
-μ-loop shape line d₀ c₀ l j₀ d c j = j
+μ-loop shape line table₀ c₀ l j₀ table c j = j
 
 sub-j : tie.Need-sub-j Inv-loop μ-loop
 sub-j c = search needs
@@ -23,7 +23,7 @@ sub-j c = search needs
 loop-holds : tie.Need-loop-holds Inv-loop μ-loop
 loop-holds c =
     let start = c .before .before .before .before in
-    (omega arith, ((refl, refl), half-start (start .args .shape .greatest) (start .args .shape .q) (start .args .shape .l) (start .args .shape .k) (start .args .line .now) (start .args .d .now) (start .pre .1 .1) (start .args .shape .k - 1) (omega arith)))
+    (omega arith, ((refl, refl), half-start (start .args .shape .greatest) (start .args .shape .q) (start .args .shape .l) (start .args .shape .k) (start .args .line .now) (start .args .table .now) (start .pre .1 .1) (start .args .shape .k - 1) (omega arith)))
 
 rise-requires : tie.Need-rise-requires Inv-loop μ-loop
 rise-requires c κs =
@@ -41,8 +41,8 @@ loop-again c =
     let at-rise = c .before .before .before .before in
     let at-loop = at-rise .before .before .before .before in
     let start = at-loop .before .before .before .before .before in
-    let t = half-turn (start .args .shape .greatest) (start .args .shape .q) (start .args .shape .l) (start .args .shape .k) (start .args .line .now) (start .args .d .now) (start .pre .1 .1) (at-loop .loop .j - 1) (at-loop .loop .j) (at-loop .loop .d) (omega arith) (at-loop .loop .inv .0) (at-loop .loop .inv .1 .1) (at-rise .rise .ensures) in
-    (omega arith, ((half-length (start .args .shape .greatest) (start .args .shape .q) (start .args .shape .l) (start .args .shape .k) (start .args .line .now) (start .args .d .now) (start .pre .1 .1) (at-loop .loop .j - 1) _ (omega arith) t, omega arith), t))
+    let t = half-turn (start .args .shape .greatest) (start .args .shape .q) (start .args .shape .l) (start .args .shape .k) (start .args .line .now) (start .args .table .now) (start .pre .1 .1) (at-loop .loop .j - 1) (at-loop .loop .j) (at-loop .loop .table) (omega arith) (at-loop .loop .inv .0) (at-loop .loop .inv .1 .1) (at-rise .rise .ensures) in
+    (omega arith, ((half-length (start .args .shape .greatest) (start .args .shape .q) (start .args .shape .l) (start .args .shape .k) (start .args .line .now) (start .args .table .now) (start .pre .1 .1) (at-loop .loop .j - 1) _ (omega arith) t, omega arith), t))
 
 slice-relend-prefix-raise : tie.Need-slice-relend-prefix-raise Inv-loop μ-loop
 slice-relend-prefix-raise c =
@@ -54,7 +54,7 @@ slice-aggregate-raise : tie.Need-slice-aggregate-raise Inv-loop μ-loop
 slice-aggregate-raise c =
     let at-loop = c .before .before in
     let start = at-loop .before .before .before .before .before in
-    sym (front-length (start .args .shape .l) (start .args .shape .k) (at-loop .loop .d) (omega arith) (omega arith))
+    sym (front-length (start .args .shape .l) (start .args .shape .k) (at-loop .loop .table) (omega arith) (omega arith))
 
 raise-requires : tie.Need-raise-requires Inv-loop μ-loop
 raise-requires c κs = search needs
@@ -70,11 +70,11 @@ returns c =
     let at-raise = c .before .before in
     let at-loop = at-raise .before .before .before in
     let start = at-loop .before .before .before .before .before in
-    let e = front-length (start .args .shape .l) (start .args .shape .k) (at-loop .loop .d) (omega arith) (omega arith) in
-    let risen = raised-all (start .args .line .now) (take (start .args .shape .l) (at-loop .loop .d)) (at-raise .raise .ensures) (start .pre .1 .0 .0 ∙ sym e) (omega (arith, e, start .pre .0 .table .even)) in
+    let e = front-length (start .args .shape .l) (start .args .shape .k) (at-loop .loop .table) (omega arith) (omega arith) in
+    let risen = raised-all (start .args .line .now) (take (start .args .shape .l) (at-loop .loop .table)) (at-raise .raise .ensures) (start .pre .1 .0 .0 ∙ sym e) (omega (arith, e, start .pre .0 .table .even)) in
     let z : at-loop .loop .j ≡ 0 = omega arith in
-    half-end (start .args .shape .greatest) (start .args .shape .q) (start .args .shape .l) (start .args .shape .k) (start .args .line .now) (start .args .d .now) (start .pre .1 .1) (at-loop .loop .d) (omega arith)
-    (at-loop .loop .inv .1 .1 ∙ ap (λ y. take (suc y * (start .args .shape .l)) (start .args .d .now) ++ drop (suc y * (start .args .shape .l)) (grownList (start .args .shape .greatest) (start .args .shape .q) (start .args .shape .l) (start .args .shape .k) (start .args .line .now) (start .args .d .now))) z)
+    half-end (start .args .shape .greatest) (start .args .shape .q) (start .args .shape .l) (start .args .shape .k) (start .args .line .now) (start .args .table .now) (start .pre .1 .1) (at-loop .loop .table) (omega arith)
+    (at-loop .loop .inv .1 .1 ∙ ap (λ y. take (suc y * (start .args .shape .l)) (start .args .table .now) ++ drop (suc y * (start .args .shape .l)) (grownList (start .args .shape .greatest) (start .args .shape .q) (start .args .shape .l) (start .args .shape .k) (start .args .line .now) (start .args .table .now))) z)
     risen
 
 pub grow-spec : {M : Type 1} → statement M

@@ -30,7 +30,7 @@ copies-requires : tie.Need-copies-requires
 copies-requires c κs =
     let at-part-at = c .before .before .before in
     let start = at-part-at .before .before .before .before in
-    (start .pre .0, (below-length (start .args .d .now) _ (start .args .shape .l) (omega (arith, (past-first (start .args .j) (start .args .shape .l) (omega arith)), at-part-at .part-at .ensures)) (omega (arith, at-part-at .part-at .ensures, start .pre .1 .1)), start .pre .1 .0 .1))
+    (start .pre .0, (below-length (start .args .table .now) _ (start .args .shape .l) (omega (arith, (past-first (start .args .j) (start .args .shape .l) (omega arith)), at-part-at .part-at .ensures)) (omega (arith, at-part-at .part-at .ensures, start .pre .1 .1)), start .pre .1 .0 .1))
 
 sub-join : tie.Need-sub-join
 sub-join c = search needs
@@ -45,7 +45,7 @@ join-requires : tie.Need-join-requires
 join-requires c κs =
     let at-part-at = c .before .before .before .before .before .before .before .before in
     let start = at-part-at .before .before .before .before in
-    (start .pre .0, (start .pre .1 .0 .0, (omega arith, part-length (start .args .d .now) _ _ (start .args .shape .l) refl (omega (arith, at-part-at .part-at .ensures, start .pre .1 .1)))))
+    (start .pre .0, (start .pre .1 .0 .0, (omega arith, part-length (start .args .table .now) _ _ (start .args .shape .l) refl (omega (arith, at-part-at .part-at .ensures, start .pre .1 .1)))))
 
 same-length : tie.Need-same-length
 same-length c = search needs
@@ -59,7 +59,7 @@ returns c =
     let at-copies = at-join .before .before .before .before .before in
     let at-part-at = at-copies .before .before .before .before in
     let start = at-part-at .before .before .before .before in
-    rise-in-is (start .args .shape .greatest) (start .args .shape .q) (start .args .shape .l) (start .args .shape .k) (start .args .line .now) (start .args .d .now) _ (start .args .j) _ _ (omega arith) (at-part-at .part-at .ensures .0) refl
+    rise-in-is (start .args .shape .greatest) (start .args .shape .q) (start .args .shape .l) (start .args .shape .k) (start .args .line .now) (start .args .table .now) _ (start .args .j) _ _ (omega arith) (at-part-at .part-at .ensures .0) refl
     (start .pre .0 .table) (start .pre .0 .within) (at-copies .copies .ensures) (at-join .join .ensures)
 
 pub rise-spec : {M : Type 1} → statement M

@@ -5,13 +5,13 @@ use borrow.Author.Needs.{needs}
 use lib.ListN.{length}
 use Rattle.trellis.specs.Lists.{tab}
 use Rattle.trellis.proofs.Loops.{length-tab}
-use Rattle.tables.specs.inner.Lanes.{joinAt}
+use Rattle.tables.specs.inner.Lanes.{joinTo}
 use Rattle.tables.proofs.Joining.{join-turn, join-none, wide-of, copies-room}
 use Rattle.tables.proofs.join.all_blocks.Statement.{statement}
 use Rattle.tables.proofs.join.all_blocks.Tie as tie
 
 abbrev Inv-loop : tie.InvT-loop
-Inv-loop shape u s e₀ q l b₀ e b = ((b ≤ q) × (b % 4 ≡ 0)) × ((length e ≡ length e₀) × (e ≡ tab (joinAt (shape .greatest) u s l e₀ b) l))
+Inv-loop shape u s e₀ q l b₀ e b = ((b ≤ q) × (b % 4 ≡ 0)) × ((length e ≡ length e₀) × (e ≡ tab (joinTo (shape .greatest) u s l e₀ b) l))
 
 abbrev μ-loop : tie.MeasureT-loop
 μ-loop shape u s e₀ q l b₀ e b = q - b
@@ -64,7 +64,7 @@ returns c =
     let at-loop = c .before in
     let start = at-loop .before .before .before .before in
     let k : at-loop .loop .b ≡ start .args .shape .q = omega arith in
-    at-loop .loop .inv .1 .1 ∙ ap (λ y. tab (joinAt (start .args .shape .greatest) (start .args .u .now) (start .args .s .now) (start .args .shape .l) (start .args .e .now) y) (start .args .shape .l)) k
+    at-loop .loop .inv .1 .1 ∙ ap (λ y. tab (joinTo (start .args .shape .greatest) (start .args .u .now) (start .args .s .now) (start .args .shape .l) (start .args .e .now) y) (start .args .shape .l)) k
 
 pub all-blocks-spec : {M : Type 1} → statement M
 all-blocks-spec =

@@ -5,13 +5,13 @@ use borrow.Author.Needs.{needs}
 use lib.ListN.{length}
 use Rattle.trellis.specs.Lists.{tab}
 use Rattle.trellis.proofs.Loops.{length-tab}
-use Rattle.tables.specs.inner.Lanes.{joinAt}
+use Rattle.tables.specs.inner.Lanes.{joinTo}
 use Rattle.tables.proofs.Joining.{join-turn, join-none, wide-16}
 use Rattle.tables.proofs.join.one_block.Statement.{statement}
 use Rattle.tables.proofs.join.one_block.Tie as tie
 
 abbrev Inv-loop : tie.InvT-loop
-Inv-loop greatest q u s e₀ b₀ e b = ((b ≤ q) × (b % 4 ≡ 0)) × ((length e ≡ length e₀) × (e ≡ tab (joinAt greatest u s 16 e₀ b) 16))
+Inv-loop greatest q u s e₀ b₀ e b = ((b ≤ q) × (b % 4 ≡ 0)) × ((length e ≡ length e₀) × (e ≡ tab (joinTo greatest u s 16 e₀ b) 16))
 
 abbrev μ-loop : tie.MeasureT-loop
 μ-loop greatest q u s e₀ b₀ e b = q - b
@@ -50,7 +50,7 @@ loop-again c =
     let start = at-loop .before .before .before .before in
     let t = join-turn (start .args .greatest) (start .args .u .now) (start .args .s .now) 16 (start .args .e .now) (at-loop .loop .e) (at-loop .loop .b) (at-loop .loop .inv .0 .1) (at-loop .loop .inv .1 .1) _ _ _ (at-four-of .four-of .ensures)
     (at-copy-at .copy-at .ensures .0) (omega arith) (at-four .four .ensures) in
-    ((omega arith, omega arith), (omega (arith, ap length t, length-tab (joinAt (start .args .greatest) (start .args .u .now) (start .args .s .now) 16 (start .args .e .now) (at-loop .loop .b + 4)) 16), t))
+    ((omega arith, omega arith), (omega (arith, ap length t, length-tab (joinTo (start .args .greatest) (start .args .u .now) (start .args .s .now) 16 (start .args .e .now) (at-loop .loop .b + 4)) 16), t))
 
 same-length : tie.Need-same-length Inv-loop μ-loop
 same-length c = search needs
@@ -60,7 +60,7 @@ returns c =
     let at-loop = c .before in
     let start = at-loop .before .before .before .before in
     let k : at-loop .loop .b ≡ start .args .q = omega arith in
-    at-loop .loop .inv .1 .1 ∙ ap (λ y. tab (joinAt (start .args .greatest) (start .args .u .now) (start .args .s .now) 16 (start .args .e .now) y) 16) k
+    at-loop .loop .inv .1 .1 ∙ ap (λ y. tab (joinTo (start .args .greatest) (start .args .u .now) (start .args .s .now) 16 (start .args .e .now) y) 16) k
 
 pub one-block-spec : {M : Type 1} → statement M
 one-block-spec =

@@ -2,7 +2,7 @@
 use mathlib.Core.Path.{sym, ap, _∙_}
 use native.Mathlib.Omega.{arith}
 use lib.ListN.{length}
-use Rattle.text.specs.inner.Held.{held, keptOf, putAt}
+use Rattle.text.specs.inner.Held.{heldIn, keptOf, putAt}
 use Rattle.text.proofs.Laws.{close-none, close-some, turn-few, put-nothing}
 use borrow.Author.Needs.{needs}
 use Rattle.text.proofs.cut.close_in.Statement.{statement}
@@ -21,7 +21,7 @@ finish-line-requires : tie.Need-finish-line-requires
 finish-line-requires c κs =
     let s = c .before .before .before .before .before .before .before in
     let e = close-some (s .args .st .len) (s .args .st .code) (s .args .st .ended) (s .args .line .now) (s .args .code .now) (s .pre .0) (sym (c .before .before .before .silent .ensures) ∙ c .before .before .if1 .left) in
-    (s .pre .0, (s .pre .1 .0, (e .0, omega (arith, turn-few (keptOf (held (s .args .st) (s .args .line .now) (s .args .code .now))), s .pre .1 .1))))
+    (s .pre .0, (s .pre .1 .0, (e .0, omega (arith, turn-few (keptOf (heldIn (s .args .st) (s .args .line .now) (s .args .code .now))), s .pre .1 .1))))
 
 same-length : tie.Need-same-length
 same-length c = search needs

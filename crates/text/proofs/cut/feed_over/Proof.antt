@@ -7,14 +7,14 @@ use borrow.Author.Needs.{needs}
 use lib.ListN.{length, take, drop}
 use lib.Seq.{take-length}
 use Rattle.machine.specs.inner.Blocks.{fedOut}
-use Rattle.text.specs.inner.Held.{held, keptOf, fedHeld, putAt}
+use Rattle.text.specs.inner.Held.{heldIn, keptOf, fedHeld, putAt}
 use Rattle.text.proofs.Laws.{loop-start, part-same}
 use Rattle.text.proofs.Parts.{line-plain, line-piece, piece-room, piece-more, over-done, rest-done}
 use Rattle.text.proofs.cut.feed_over.Statement.{statement}
 use Rattle.text.proofs.cut.feed_over.Tie as tie
 
 abbrev Inv-loop : tie.InvT-loop
-Inv-loop bytes line₀ code₀ out₀ s₀ at₀ line code out s at = (at ≤ length bytes) × ((length line ≡ 32769) × ((length code ≡ 16384) × ((length out ≡ length out₀) × ((held s line code ≡ fedHeld (held s₀ line₀ code₀) (take at bytes)) × ((s .full ≡ length (fedOut (keptOf (held s₀ line₀ code₀)) (take at bytes))) × (out ≡ putAt out₀ 0 (fedOut (keptOf (held s₀ line₀ code₀)) (take at bytes))))))))
+Inv-loop bytes line₀ code₀ out₀ s₀ at₀ line code out s at = (at ≤ length bytes) × ((length line ≡ 32769) × ((length code ≡ 16384) × ((length out ≡ length out₀) × ((heldIn s line code ≡ fedHeld (heldIn s₀ line₀ code₀) (take at bytes)) × ((s .full ≡ length (fedOut (keptOf (heldIn s₀ line₀ code₀)) (take at bytes))) × (out ≡ putAt out₀ 0 (fedOut (keptOf (heldIn s₀ line₀ code₀)) (take at bytes))))))))
 
 abbrev μ-loop : tie.MeasureT-loop
 μ-loop bytes line₀ code₀ out₀ s₀ at₀ line code out s at = length bytes - at
@@ -22,14 +22,14 @@ abbrev μ-loop : tie.MeasureT-loop
 loop-holds : tie.Need-loop-holds Inv-loop μ-loop
 loop-holds c =
     let s = c .before .before .before .before in
-    let e = loop-start (held (s .args .st) (s .args .line .now) (s .args .code .now)) (s .args .out .now) (s .args .bytes .now) in
+    let e = loop-start (heldIn (s .args .st) (s .args .line .now) (s .args .code .now)) (s .args .out .now) (s .args .bytes .now) in
     (omega arith, (s .pre .0, (s .pre .1 .0, (refl, (e .0, (s .pre .1 .1 .0 ∙ e .1, e .2))))))
 
 returns : tie.Need-returns Inv-loop μ-loop
 returns c =
     let l = c .before .before in
     let s = l .before .before .before .before .before in
-    over-done (held (s .args .st) (s .args .line .now) (s .args .code .now)) (s .args .out .now) (s .args .bytes .now) (l .loop .at) (s .pre .0) (held (l .loop .s) (l .loop .line) (l .loop .code)) (l .loop .inv .1 .1 .1 .1 .0) (c .if1 .taken) (l .loop .s .full) (l .loop .out) (l .loop .inv .1 .1 .1 .1 .1 .0) (l .loop .inv .1 .1 .1 .1 .1 .1)
+    over-done (heldIn (s .args .st) (s .args .line .now) (s .args .code .now)) (s .args .out .now) (s .args .bytes .now) (l .loop .at) (s .pre .0) (heldIn (l .loop .s) (l .loop .line) (l .loop .code)) (l .loop .inv .1 .1 .1 .1 .0) (c .if1 .taken) (l .loop .s .full) (l .loop .out) (l .loop .inv .1 .1 .1 .1 .1 .0) (l .loop .inv .1 .1 .1 .1 .1 .1)
 
 keep-requires : tie.Need-keep-requires Inv-loop μ-loop
 keep-requires c κs = search needs
@@ -41,9 +41,9 @@ returns-2 c =
     let n = j .before in
     let l = n .before .before .before in
     let s = l .before .before .before .before .before in
-    rest-done (held (s .args .st) (s .args .line .now) (s .args .code .now)) (s .args .out .now) (s .args .bytes .now) (l .loop .at) (s .pre .0)
+    rest-done (heldIn (s .args .st) (s .args .line .now) (s .args .code .now)) (s .args .out .now) (s .args .bytes .now) (l .loop .at) (s .pre .0)
     (l .loop .s .len) (l .loop .s .code) (l .loop .s .ended) (l .loop .line) (l .loop .code) (l .loop .inv .1 .1 .1 .1 .0) (n .before .if1 .left) (l .loop .inv .1 .0)
-    (n .newline .result) (n .newline .ensures .0) (j .if2 .taken) (held (k .keep .result) (k .keep .last .1 .1 .0) (l .loop .code)) (k .keep .ensures .0 (l .loop .code)) (l .loop .s .full) (k .keep .result .full) (l .loop .out)
+    (n .newline .result) (n .newline .ensures .0) (j .if2 .taken) (heldIn (k .keep .result) (k .keep .last .1 .1 .0) (l .loop .code)) (k .keep .ensures .0 (l .loop .code)) (l .loop .s .full) (k .keep .result .full) (l .loop .out)
     (l .loop .inv .1 .1 .1 .1 .1 .0) (l .loop .inv .1 .1 .1 .1 .1 .1) (k .keep .ensures .1 .0)
 
 whole-requires : tie.Need-whole-requires Inv-loop μ-loop
@@ -53,7 +53,7 @@ whole-requires c κs =
     let l = n .before .before .before in
     let s = l .before .before .before .before .before in
     let b = s .args .bytes .now in
-    let r = piece-room (held (s .args .st) (s .args .line .now) (s .args .code .now)) (s .args .out .now) b (l .loop .at) (n .newline .result + 1) (s .pre .0) (held (l .loop .s) (l .loop .line) (l .loop .code)) (l .loop .inv .1 .1 .1 .1 .0)
+    let r = piece-room (heldIn (s .args .st) (s .args .line .now) (s .args .code .now)) (s .args .out .now) b (l .loop .at) (n .newline .result + 1) (s .pre .0) (heldIn (l .loop .s) (l .loop .line) (l .loop .code)) (l .loop .inv .1 .1 .1 .1 .0)
     (take (n .newline .result - l .loop .at) (drop (l .loop .at) b) ++ (0x0A ∷ [])) (line-piece b (l .loop .at) (n .newline .result) (omega arith) (n .newline .ensures .0) (omega arith)) (l .loop .s .full) (l .loop .inv .1 .1 .1 .1 .1 .0) in
     ((l .loop .inv .1 .0, (l .loop .inv .1 .1 .0, (n .before .if1 .left, line-plain b (l .loop .at) (n .newline .result) (n .newline .ensures .0)))), omega (arith, r, l .loop .inv .1 .1 .1 .0, s .pre .1 .1 .1))
 
@@ -71,7 +71,7 @@ loop-again c =
     let l = n .before .before .before in
     let s = l .before .before .before .before .before in
     let b = s .args .bytes .now in
-    let m = piece-more (held (s .args .st) (s .args .line .now) (s .args .code .now)) (s .args .out .now) b (l .loop .at) (n .newline .result + 1) (s .pre .0) (held (l .loop .s) (l .loop .line) (l .loop .code)) (l .loop .inv .1 .1 .1 .1 .0)
+    let m = piece-more (heldIn (s .args .st) (s .args .line .now) (s .args .code .now)) (s .args .out .now) b (l .loop .at) (n .newline .result + 1) (s .pre .0) (heldIn (l .loop .s) (l .loop .line) (l .loop .code)) (l .loop .inv .1 .1 .1 .1 .0)
     (take (n .newline .result - l .loop .at) (drop (l .loop .at) b) ++ (0x0A ∷ [])) (line-piece b (l .loop .at) (n .newline .result) (omega arith) (n .newline .ensures .0) (omega arith)) (l .loop .s .full) _ (l .loop .out) _ _
     (l .loop .inv .1 .1 .1 .1 .1 .0) (l .loop .inv .1 .1 .1 .1 .1 .1) (w .whole .ensures .0) (w .whole .ensures .1 .0) (w .whole .ensures .1 .1) in
     (omega arith, (search needs, (search needs, (search needs, (m .0, (m .1, m .2))))))
@@ -81,7 +81,7 @@ returns-3 c =
     let l = c .before in
     let s = l .before .before .before .before .before in
     let e : l .loop .at ≡ length (s .args .bytes .now) = omega arith in
-    part-same (held (s .args .st) (s .args .line .now) (s .args .code .now)) (s .args .out .now) (take (l .loop .at) (s .args .bytes .now)) (s .args .bytes .now) _ _ _ (ap (λ m. take m (s .args .bytes .now)) e ∙ take-length (s .args .bytes .now)) (l .loop .inv .1 .1 .1 .1 .0) (l .loop .inv .1 .1 .1 .1 .1 .0) (l .loop .inv .1 .1 .1 .1 .1 .1)
+    part-same (heldIn (s .args .st) (s .args .line .now) (s .args .code .now)) (s .args .out .now) (take (l .loop .at) (s .args .bytes .now)) (s .args .bytes .now) _ _ _ (ap (λ m. take m (s .args .bytes .now)) e ∙ take-length (s .args .bytes .now)) (l .loop .inv .1 .1 .1 .1 .0) (l .loop .inv .1 .1 .1 .1 .1 .0) (l .loop .inv .1 .1 .1 .1 .1 .1)
 
 newline-requires : tie.Need-newline-requires Inv-loop μ-loop
 newline-requires c κs = search needs

@@ -4,7 +4,7 @@ use Rattle.machine.specs.Decoding.{lending}
 use Rattle.layered.specs.Answers.{stageOf}
 use Rattle.window.specs.Meaning.{bytesOf}
 use Rattle.window.specs.Window.{second}
-use Rattle.window.proofs.Taking.{stepped}
+use Rattle.window.proofs.Taking.{iteration-taken}
 use borrow.Author.Needs.{needs}
 use Rattle.window.proofs.commands.iterated.Statement.{statement}
 use Rattle.window.proofs.commands.iterated.Tie as tie
@@ -42,7 +42,7 @@ returns-3 : tie.Need-returns-3
 returns-3 c =
     let a = c .before .before .before .before .before .before .before .before .before .before .before .before .before .before .before .before .before .before .before .before .before .before .before .before .args in
     let k = c .before .before .before .before .before .before .before .before .before .step in
-    stepped (a .code .now) (a .frame .now) (lending (a .symbols .now) (a .costs .now) (a .store .now) (a .margins .now)) _ (stageOf (k .result)) (bytesOf (a .window)) (bytesOf (c .taking .result)) (k .ensures) (c .taking .ensures) (c .before .before .before .before .before .before .before .before .before .before .before .before .before .before .before .before .if1 .left) (c .before .before .before .before .before .before .before .before .before .before .before .before .before .before .if2 .left)
+    iteration-taken (a .code .now) (a .frame .now) (lending (a .symbols .now) (a .costs .now) (a .store .now) (a .margins .now)) _ (stageOf (k .result)) (bytesOf (a .window)) (bytesOf (c .taking .result)) (k .ensures) (c .taking .ensures) (c .before .before .before .before .before .before .before .before .before .before .before .before .before .before .before .before .if1 .left) (c .before .before .before .before .before .before .before .before .before .before .before .before .before .before .if2 .left)
 
 pub iterated-spec : {M : Type 1} → statement M
 iterated-spec =
