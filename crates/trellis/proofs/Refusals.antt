@@ -68,13 +68,13 @@ Passed (unless b k ∷ l) = (b ≡ true) × Passed l
 
 pub none-applies : (l : List Test) → Numbered l → faultBy l ≡ 0 → Passed l
 none-applies [] n e = tt
-none-applies (when b k ∷ l) n e = go b refl e
+none-applies (when b k ∷ l) n e = go b refl (none-applies l (n .1)) e
   where
-    go : (c : Bool) → b ≡ c → pick c k (faultBy l) ≡ 0 → Passed (when b k ∷ l)
-    go true i e = absurd (n .0 e)
-    go false i e = (i, none-applies l (n .1) e)
-none-applies (unless b k ∷ l) n e = go b refl e
+    go : (c : Bool) → b ≡ c → (faultBy l ≡ 0 → Passed l) → pick c k (faultBy l) ≡ 0 → Passed (when b k ∷ l)
+    go true i f e = absurd (n .0 e)
+    go false i f e = (i, f e)
+none-applies (unless b k ∷ l) n e = go b refl (none-applies l (n .1)) e
   where
-    go : (c : Bool) → b ≡ c → pick c (faultBy l) k ≡ 0 → Passed (unless b k ∷ l)
-    go true i e = (i, none-applies l (n .1) e)
-    go false i e = absurd (n .0 e)
+    go : (c : Bool) → b ≡ c → (faultBy l ≡ 0 → Passed l) → pick c (faultBy l) k ≡ 0 → Passed (unless b k ∷ l)
+    go true i f e = (i, f e)
+    go false i f e = absurd (n .0 e)
