@@ -18,7 +18,7 @@ use Rattle.machine.specs.CodeLine.{Read, good, bad, parse, Code, size, zeroIn, 
 use Rattle.machine.specs.Machine.{settled}
 use Rattle.machine.proofs.Lists.{at-upTo, map-after}
 use Rattle.machine.specs.inner.Accepted.{GoodCode}
-use Rattle.trellis.proofs.Refusals.{Passed}
+use Rattle.trellis.proofs.Refusals.{Numbered, Passed}
 use Rattle.machine.proofs.Lines.{parse-good}
 use Rattle.machine.specs.inner.InRange.{Below}
 use Rattle.machine.proofs.Ranges.{below-take, below-drop}
@@ -30,7 +30,7 @@ use Rattle.channels.specs.inner.Rounds.{RoomFor}
 use Rattle.channels.proofs.Servings.{length-counts, sum-left, unfinished-before, spent-left}
 use Rattle.channels.proofs.Fairness.{fair}
 use Rattle.channels.proofs.Alone.{after-none, alone}
-use Rattle.channels.proofs.Refused.{Numbered, Told, told, count-numbered, count-passed, whole-numbered, whole-passed}
+use Rattle.channels.proofs.Refused.{Told, told, count-numbered, count-passed, whole-numbered, whole-passed}
 use Rattle.channels.proofs.Parts.{length-part, exact-room, own-exact, own-together, received-exact, received-refused}
 
 -- none of the refusals of the whole call

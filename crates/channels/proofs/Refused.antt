@@ -1,17 +1,31 @@
 -- The two tables of the whole call: their numbers are not 0, and what is known where none of their tests applies.
 use mathlib.Core.Path.{_≡_, refl}
 use mathlib.Core.Bool.{Bool, true, false, _||_}
+use mathlib.Core.Logic.{_⊎_, inl, inr}
 use mathlib.Core.List.{List}
 use Prim.Native.Nat.{ℕ, _*_, _≤_, _<_}
+use native.Mathlib.Decide.{ℕ-discrete}
 use native.Mathlib.Omega.{arith}
 use lib.Dec.{ltb}
 use lib.ListN.{length}
 use borrow.Author.Tests.{ltb-false, eqb-true, eqb-false}
-use Rattle.trellis.proofs.Refusals.{Numbered, Passed}
+use Rattle.trellis.specs.Refusals.{Test, refusedBy, faultBy}
+use Rattle.trellis.proofs.Refusals.{Numbered, Passed, refused-by, passed-by, none-applies}
 use Rattle.machine.specs.CodeLine.{Code, size}
 use Rattle.machine.specs.Decoding.{Buffers}
 use Rattle.channels.specs.Channels.{countTests, testsFor}
 use Rattle.channels.specs.inner.Rounds.{RoomFor}
+
+-- what a table gives of f and x, by its number: no test applies, or the first that does
+abbrev pub Told : {A : Type 0} → (ℕ → A) → A → Type 0 → ℕ → A → Type 0
+Told f x P k r = (P × (k ≡ 0) × (r ≡ x)) ⊎ ((0 < k) × (r ≡ f k))
+
+pub told : {A : Type 0} (f : ℕ → A) (x : A) (l : List Test) → Numbered l → Told f x (Passed l) (faultBy l) (refusedBy l f x)
+told f x l n =
+    elim (ℕ-discrete (faultBy l) 0) [
+      | yes e ↦ inl (none-applies l n e, e, passed-by l n (faultBy l) refl e f x)
+      | no e ↦ inr (omega (arith, e), refused-by l n (faultBy l) refl e f x)
+    ]
 
 -- 21 and 22
 pub count-numbered : (n A : ℕ) → Numbered (countTests n A)

@@ -16,10 +16,11 @@ use Rattle.trellis.proofs.Places.{length-count}
 use Rattle.machine.specs.CodeLine.{Read, good, bad, Code, parse, frameFault, numbersOf, columnsRead}
 use Rattle.machine.specs.Line.{byteAt, lineBytes, lineOk, lineReply, lineLeaves}
 use Rattle.machine.specs.Machine.{run, symbols}
-use Rattle.machine.specs.Decoding.{Buffers, Decodes, admitted, decoding, outcome}
+use Rattle.machine.specs.Decoding.{Buffers, Decodes, admittedUnder, admitted, decodingUnder, decoding, outcome}
 use Rattle.machine.specs.Printing.{digitsOf, said, ofFrame, frameSaid, printed}
 use Rattle.machine.proofs.Lines.{parse-good}
 use Rattle.machine.proofs.Rooms.{roomy}
+use Rattle.machine.proofs.Faults.{admitted-by}
 use Rattle.machine.proofs.Buffers.{accepted-call}
 use Rattle.layered.specs.Answers.{answerReply}
 use Rattle.layered.specs.declared.answers.Answer.{Answer}
@@ -78,8 +79,9 @@ module _ (code f : List ℕ) (b o : Buffers) (r : Reply) (i : length (b .symbols
               let a = fit C e (eqb-true (frameFault C f) 0 g) in
               rw (g, a .0, a .1) (refl, refl)
           under false g =
-              let b : r ≡ refusal (frameFault C f) = rw (e, g) at (D .replies) in
-              rw (g, b) (refl, refl)
+              let w : r ≡ refusal (frameFault C f) =
+              D .replies ∙ ap (λ q. decodingUnder (admittedUnder q f b) f b .reply) e ∙ ap (λ q. decodingUnder q f b .reply) (admitted-by C f b) ∙ rw g in
+              rw (g, w) (refl, refl)
 
   pub tells : (n : ℕ) → n ≡ columnsRead (numbersOf (parse code)) → (r ≡ ofFrame (parse code) f .reply) × (printed (said r (take n z)) ≡ printed (ofFrame (parse code) f))
   tells n e = rw e tells-of
