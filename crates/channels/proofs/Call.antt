@@ -30,7 +30,7 @@ use Rattle.channels.specs.inner.Rounds.{RoomFor}
 use Rattle.channels.proofs.Servings.{length-counts, sum-left, unfinished-before, spent-left}
 use Rattle.channels.proofs.Fairness.{fair}
 use Rattle.channels.proofs.Alone.{after-none, alone}
-use Rattle.channels.proofs.Refused.{Told, told, count-numbered, count-passed, whole-numbered, whole-passed}
+use Rattle.channels.proofs.Refused.{TableGives, told, count-numbered, count-passed, whole-numbered, whole-passed}
 use Rattle.channels.proofs.Parts.{length-part, exact-room, own-exact, own-together, received-exact, received-refused}
 
 -- none of the refusals of the whole call
@@ -55,8 +55,8 @@ open-of n A code fs b C I =
     number : (k : ℕ) → channels n A code fs b ≡ refusing k b → k ≡ 0
     number k e = ap (λ r. r .number) (sym e) ∙ I .served
 
-    go : Told (λ k. refusing k b) (under (good C) n A fs b) (Passed (countTests n A)) (faultBy (countTests n A)) (refusedBy (countTests n A) (λ k. refusing k b) (under (good C) n A fs b))
-        → Told (λ k. refusing k b) (results C n A fs b) (Passed (testsFor C n fs b)) (faultBy (testsFor C n fs b)) (under (good C) n A fs b) → Open n A code fs b C
+    go : TableGives (λ k. refusing k b) (under (good C) n A fs b) (Passed (countTests n A)) (faultBy (countTests n A)) (refusedBy (countTests n A) (λ k. refusing k b) (under (good C) n A fs b))
+        → TableGives (λ k. refusing k b) (results C n A fs b) (Passed (testsFor C n fs b)) (faultBy (testsFor C n fs b)) (under (good C) n A fs b) → Open n A code fs b C
     go (inr s) t = absurd (omega (arith, number _ (same ∙ s .1)))
     go (inl s) (inr t) = absurd (omega (arith, number _ (same ∙ s .2 ∙ t .1)))
     go (inl s) (inl t) = open-by (s .0) (t .0) (same ∙ s .2 ∙ t .2)
@@ -237,7 +237,7 @@ channels-whole n A code fs b h = by (countTests n A) (count-numbered n A) (under
         → Unchanged b (refusedBy l (λ k. refusing k b) x)
     by l N x g = go (refusedBy l (λ k. refusing k b) x) (told (λ k. refusing k b) x l N)
       where
-        go : (r : Results) → Told (λ k. refusing k b) x (Passed l) (faultBy l) r → r .number ≢ 0 → Unchanged b r
+        go : (r : Results) → TableGives (λ k. refusing k b) x (Passed l) (faultBy l) r → r .number ≢ 0 → Unchanged b r
         go r (inl t) h = rw (t .2) (g (λ e. h (ap (λ (r : Results). r .number) (t .2) ∙ e)))
         go r (inr t) h = rw (t .1) (refl, refl, refl)
 

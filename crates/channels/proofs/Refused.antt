@@ -17,10 +17,10 @@ use Rattle.channels.specs.Channels.{countTests, testsFor}
 use Rattle.channels.specs.inner.Rounds.{RoomFor}
 
 -- what a table gives of f and x, by its number: no test applies, or the first that does
-abbrev pub Told : {A : Type 0} → (ℕ → A) → A → Type 0 → ℕ → A → Type 0
-Told f x P k r = (P × (k ≡ 0) × (r ≡ x)) ⊎ ((0 < k) × (r ≡ f k))
+abbrev pub TableGives : {A : Type 0} → (ℕ → A) → A → Type 0 → ℕ → A → Type 0
+TableGives f x P k r = (P × (k ≡ 0) × (r ≡ x)) ⊎ ((0 < k) × (r ≡ f k))
 
-pub told : {A : Type 0} (f : ℕ → A) (x : A) (l : List Test) → Numbered l → Told f x (Passed l) (faultBy l) (refusedBy l f x)
+pub told : {A : Type 0} (f : ℕ → A) (x : A) (l : List Test) → Numbered l → TableGives f x (Passed l) (faultBy l) (refusedBy l f x)
 told f x l n =
     elim (ℕ-discrete (faultBy l) 0) [
       | yes e ↦ inl (none-applies l n e, e, passed-by l n (faultBy l) refl e f x)

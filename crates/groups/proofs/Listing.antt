@@ -13,9 +13,9 @@ use Rattle.trellis.specs.Lists.{pick, blocks, part, patch}
 use Rattle.trellis.proofs.Loops.{blocks-ext}
 use Rattle.engine.specs.inner.Rests.{mostTo}
 use Rattle.engine.specs.inner.Groups.{pushed, listedColumn, listedRest, listedPair, listedGroup}
-use Rattle.blocks.specs.Calls.{lanes}
-use Rattle.groups.specs.inner.Pairs.{lowAt, pairAt, Pushes, restAt, Best, Listed, pairBytes, bytesAt, groupOf, groupRows}
-use Rattle.blocks.proofs.Turns.{lanes-length, lanes-at}
+use Rattle.tables.specs.inner.Lanes.{lanes, lowAt}
+use Rattle.groups.specs.inner.Pairs.{pairAt, Pushes, restAt, Best, Listed, pairBytes, bytesAt, groupOf, groupRows}
+use Rattle.tables.proofs.Turns.{lanes-length, lanes-at}
 use Rattle.tables.proofs.Parts.{patch-in, patch-below, patch-above, blocks-length, times-plus, fill-many}
 
 -- row j of t, by a local row

@@ -1,5 +1,6 @@
 // The bytes of each a: E, and the columns whose rest is below the best, sixteen rows at a time. The columns found so far stand in rows
 // of sixteen places, end to end: row 0 is the column that is looked at, the k rows behind it are the pairs.
+use crate::lane;
 use crate::layout;
 use crate::layout::Shape;
 ghost use mathlib.Core.Path.{_≡_};
@@ -8,9 +9,9 @@ ghost use lib.Dec.{ltb};
 ghost use lib.ListN.{length, getD, replicate};
 ghost use Rattle.trellis.specs.Lists.{blocks, part, patch, pick};
 ghost use Rattle.trellis.specs.Sizes.{mostDegree};
-ghost use Rattle.blocks.specs.Calls.{lanes};
+ghost use Rattle.tables.specs.inner.Lanes.{lanes, lowAt};
 ghost use Rattle.tables.specs.inner.Tables.{Shaped};
-ghost use Rattle.groups.specs.inner.Pairs.{lowAt, Pushes, Best, Listed, pairBytes, bytesAt, groupOf, groupRows};
+ghost use Rattle.groups.specs.inner.Pairs.{Pushes, Best, Listed, pairBytes, bytesAt, groupOf, groupRows};
 
 fn low(s: u8, e: u8, x: u8, y: u8) -> u8
     ensures { λ r. ⌜ r ≡ pick (ltb s e) x y ⌝ }
@@ -44,7 +45,7 @@ fn shift(s: &[u8], e: &[u8], j: usize, t: &mut [u8])
     let m = 16 * j;
     let n = m + 16;
     chosen(s, e, &t[m - 16..m], &t[m..n], &mut o);
-    blocks::copy_block(&o, &mut t[m..n]);
+    lane::copy(&o, &mut t[m..n]);
 }
 
 // Row 0 of each put before the k rows behind it, where s is below e: from the last row to the first, so that each still stands where
@@ -86,7 +87,7 @@ fn column(k: usize, n: u8, s: &[u8], e: &[u8], columns: &mut [u8], rests: &mut [
         Pushes k (now (s .entry)) (now (e .entry)) (λ i. getD (now (s .entry)) i 0) (now (rests .entry)) (now (rests .exit)) ⌝ }
 {
     fill(n, &mut columns[..16]);
-    blocks::copy_block(s, &mut rests[..16]);
+    lane::copy(s, &mut rests[..16]);
     push(k, s, e, columns, rests);
 }
 
@@ -108,12 +109,12 @@ fn best(shape: Shape, d: usize, v: usize, sent: &[u8], e: &mut [u8])
 {
     let a = row_at(shape, d, 0, v);
     let b = a + 16;
-    blocks::copy_block(&sent[a..b], e);
+    lane::copy_block(&sent[a..b], e);
     let mut n = 1;
     while n < d {
         let a = row_at(shape, d, n, v);
         let b = a + 16;
-        blocks::raise_block(&sent[a..b], e);
+        lane::raise_block(&sent[a..b], e);
         n += 1;
     }
 }
@@ -143,13 +144,6 @@ fn list(
     }
 }
 
-// A rest as the cost that it is left by.
-fn cost(r: u8) -> u8
-    ensures { λ c. ⌜ c ≡ 255 - r ⌝ }
-{
-    255 - r
-}
-
 // The k pairs at place i, two bytes each.
 fn put_pairs(k: usize, i: usize, columns: &[u8], rests: &[u8], out: &mut [u8])
     requires { ⌜ ((k ≤ 3) × (i < 16)) × ((length (now columns) ≡ 64) × (length (now rests) ≡ 64)) ⌝ }
@@ -160,7 +154,7 @@ fn put_pairs(k: usize, i: usize, columns: &[u8], rests: &[u8], out: &mut [u8])
     while j < k {
         let a = 16 * j + 16 + i;
         out[j * 2] = columns[a];
-        out[j * 2 + 1] = cost(rests[a]);
+        out[j * 2 + 1] = layout::cost(rests[a]);
         j += 1;
     }
 }
@@ -172,7 +166,7 @@ fn put_group(k: usize, i: usize, e: &[u8], columns: &[u8], rests: &[u8], out: &m
     ensures { λ _. ⌜ now (out .exit) ≡ bytesAt k (now (e .entry)) (now (columns .entry)) (now (rests .entry)) i ⌝ }
 {
     let n = out.len();
-    out[0] = cost(e[i]);
+    out[0] = layout::cost(e[i]);
     put_pairs(k, i, columns, rests, &mut out[1..n]);
 }
 

@@ -1,15 +1,13 @@
 -- Lists that the machine is made of.
 use mathlib.Core.Path.{_≡_, refl, ap, _∙_}
 use mathlib.Core.Bool.{Bool, true, false, _&&_}
-use mathlib.Core.List.{List, [], _∷_, _++_, map}
+use mathlib.Core.List.{List, [], _∷_, map}
 use Prim.Native.Nat.{ℕ, zero, suc, _+_, _<_}
 use native.Mathlib.Nat.{not-suc-le-zero, le-of-suc-le-suc}
 use native.Mathlib.Decide.{ℕ-discrete}
 use native.Mathlib.Omega.{arith}
-use lib.ListN.{length, getD, drop}
-use lib.Seq.{ext-getD}
-use Rattle.trellis.specs.Lists.{countFrom, upTo, pick, allTo, tab}
-use Rattle.trellis.proofs.Loops.{tab-whole, length-tab, getD-tab}
+use lib.ListN.{getD}
+use Rattle.trellis.specs.Lists.{countFrom, upTo, pick, allTo}
 
 pub at-count : {A : Type 0} (f : ℕ → A) (i n j : ℕ) (e : A) → j < n → getD (map f (countFrom i n)) j e ≡ f (i + j)
 at-count f i zero j e h = absurd (not-suc-le-zero h)
@@ -39,10 +37,3 @@ all-not f m (suc n) h e =
       | yes i ↦ rw (← i, e) (and-false (allTo f m))
       | no i ↦ rw (all-not f m n (omega arith) e)
     ]
-
--- a list copied whole, place by place
-list-tab : (l : List ℕ) → tab (λ k. getD l k 0) (length l) ≡ l
-list-tab l = ext-getD 0 (tab (λ k. getD l k 0) (length l)) l (length-tab _ (length l)) (λ i h. getD-tab (λ k. getD l k 0) (length l) i (omega (arith, length-tab (λ k. getD l k 0) (length l))))
-
-pub copied : (f d out : List ℕ) (i : ℕ) → length f ≡ length d → i ≡ length d → out ≡ tab (λ k. getD f k 0) i ++ drop i d → out ≡ f
-copied f d out i e k o = o ∙ rw k (tab-whole (λ k. getD f k 0) d ∙ rw (← e) (list-tab f))

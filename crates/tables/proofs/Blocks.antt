@@ -1,19 +1,21 @@
--- Blocks of sixteen rows: exclusive or with multiples of sixteen, and a table filled block by block.
+-- Blocks of sixteen rows: exclusive or with multiples of sixteen, lists filled block by block.
 use mathlib.Core.Path.{_≡_, refl, sym, ap, ap₂, _∙_}
-use mathlib.Core.List.{List, _++_}
-use Prim.Native.Nat.{ℕ, zero, suc, _+_, _-_, _*_, _/_, _%_, _^_, _≤_, _<_}
+use mathlib.Core.Bool.{Bool}
+use mathlib.Core.List.{List, [], _∷_, _++_, append-assoc, append-nil}
+use Prim.Native.Nat.{ℕ, zero, suc, _+_, _-_, _*_, _/_, _%_, _^_, _≤_, _<_, max}
+use native.Mathlib.Nat.{add-zero}
 use native.Mathlib.Omega.{arith}
-use lib.ListN.{length, drop, take, getD, length-drop}
-use lib.Seq.{getD-drop, take-all}
+use lib.ListN.{length, drop, take, getD, length-take, length-drop}
+use lib.Seq.{ext-getD, getD-take, getD-drop, take-at, drop-at, drop-drop, take-all}
+use lib.Dec.{ltb}
+use lib.Bits as Bits
 use lib.Bits.{bitXor, xor-shr, xor-mod, xor-zero-l}
-use Rattle.trellis.specs.Lists.{tab}
+use Rattle.trellis.specs.Lists.{tab, pick}
 use Rattle.trellis.specs.Field.{xor}
 use Rattle.trellis.proofs.Xor.{xor-assoc, xor-comm, xor-lt, xor-self, xor-right}
-use Rattle.trellis.proofs.Loops.{tab-length}
-use Rattle.blocks.specs.Calls.{lanes}
-use Rattle.blocks.proofs.Filling.{block-turn, block-seam}
+use Rattle.trellis.proofs.Loops.{tab-length, length-tab, getD-tab, tab-ext}
 use Rattle.tables.specs.declared.rests.Four.{Four}
-use Rattle.tables.specs.inner.Lanes.{laneAt, Wide, fourAt}
+use Rattle.tables.specs.inner.Lanes.{laneAt, lanes, Wide, fourAt, lowAt}
 
 -- what two numbers share modulo sixteen
 xor-sixteen : (x y : ℕ) → (xor x y / 16 ≡ xor (x / 16) (y / 16)) × (xor x y % 16 ≡ xor (x % 16) (y % 16))
@@ -64,6 +66,35 @@ block-inside l t v W h k =
     let e = xor-even v t h (W .even) in
     (omega arith, omega arith)
 
+pub tab-append : (f : ℕ → ℕ) (n m : ℕ) → tab f (n + m) ≡ tab f n ++ tab (λ i. f (n + i)) m
+tab-append f n zero = rw (add-zero n) (sym (append-nil (tab f n)))
+tab-append f n (suc m) =
+    let e : n + suc m ≡ suc (n + m) = omega arith in
+    rw e (ap {B = List ℕ} (λ l. l ++ (f (n + m) ∷ [])) (tab-append f n m) ∙ append-assoc (tab f n) (tab (λ i. f (n + i)) m) (f (n + m) ∷ []))
+
+-- one block more
+block-of : (f h : ℕ → ℕ) (w : ℕ) (d out : List ℕ) (v : ℕ) {r : List ℕ} → out ≡ tab f v ++ drop v d → r ≡ tab h w → ((i : ℕ) → i < w → h i ≡ f (v + i))
+    → take v out ++ (r ++ drop (v + w - v) (drop v out)) ≡ tab f (v + w) ++ drop (v + w) d
+block-of f h w d out v e o s =
+    let a : v + w - v ≡ w = omega arith in
+    let t : take v (tab f v ++ drop v d) ≡ tab f v = take-at (tab f v) (drop v d) v (length-tab f v) in
+    let u : drop v (tab f v ++ drop v d) ≡ drop v d = drop-at (tab f v) (drop v d) v (length-tab f v) in
+    let k : drop w (drop v d) ≡ drop (v + w) d = drop-drop w v d in
+    let m : tab h w ≡ tab (λ i. f (v + i)) w = tab-ext h (λ i. f (v + i)) w s in
+    rw (e, o, a, t, u, k, m, tab-append f v w) (sym (append-assoc (tab f v) (tab (λ i. f (v + i)) w) (drop (v + w) d)))
+
+pub block-turn : (f h : ℕ → ℕ) (d out : List ℕ) (v : ℕ) {r : List ℕ} → out ≡ tab f v ++ drop v d → r ≡ lanes h → ((i : ℕ) → i < 16 → h i ≡ f (v + i))
+    → take v out ++ (r ++ drop (v + 16 - v) (drop v out)) ≡ tab f (v + 16) ++ drop (v + 16) d
+unfolding lanes
+block-turn f h d out v e o s = block-of f h 16 d out v e o s
+
+-- a place that such a loop has not reached
+pub block-seam : (f : ℕ → ℕ) (d out : List ℕ) (v i : ℕ) → out ≡ tab f v ++ drop v d → i < 16 → getD (take (v + 16 - v) (drop v out)) i 0 ≡ getD d (v + i) 0
+block-seam f d out v i e h =
+    let a : v + 16 - v ≡ 16 = omega arith in
+    let u : drop v (tab f v ++ drop v d) ≡ drop v d = drop-at (tab f v) (drop v d) v (length-tab f v) in
+    rw (a, e, u) (getD-take 16 (drop v d) i 0 h ∙ getD-drop v d i 0)
+
 module _ (f : Four) (s : List ℕ) (at turn l : ℕ) (d out : List ℕ) (v : ℕ) (W : Wide l turn) (even : v % 16 ≡ 0) (inside : v < l) (full : length d ≡ l)
     (filled : out ≡ tab (fourAt f s at turn l d) v ++ drop v d) where
   tail-at : (a n i : ℕ) → n ≡ length s → getD (take (n - a) (drop a s)) i 0 ≡ getD s (a + i) 0
@@ -101,3 +132,52 @@ place-is at turn l v W h k e = let i = block-inside l turn v W h k in (e, (omega
 pub place-small : (turn l v : ℕ) → Wide l turn → v % 16 ≡ 0 → v < l → bitXor v turn < l
 unfolding xor
 place-small turn l v W h k = let i = block-inside l turn v W h k in omega (arith, i)
+
+part-at : (w : List ℕ) (v b i : ℕ) → b ≡ v + 16 → i < 16 → getD (take (b - v) (drop v w)) i 0 ≡ getD w (v + i) 0
+part-at w v b i e h = let a : b - v ≡ 16 = omega arith in rw a (getD-take 16 (drop v w) i 0 h ∙ getD-drop v w i 0)
+
+-- a block of a list
+part-lanes : (w : List ℕ) (v b : ℕ) → b ≡ v + 16 → v + 16 ≤ length w → take (b - v) (drop v w) ≡ lanes (λ i. getD w (v + i) 0)
+unfolding lanes
+part-lanes w v b e h =
+    let a : b - v ≡ 16 = omega arith in
+    let n : length (take (b - v) (drop v w)) ≡ 16 = length-take (b - v) (drop v w) ∙ omega (arith, length-drop v w) in
+    ext-getD 0 (take (b - v) (drop v w)) (tab (λ i. getD w (v + i) 0) 16) (n ∙ sym (length-tab (λ i. getD w (v + i) 0) 16)) (λ i k. part-at w v b i e (omega (arith, n)) ∙ sym (getD-tab (λ i. getD w (v + i) 0) 16 i (omega (arith, n))))
+
+module _ (w d out : List ℕ) (v b : ℕ) (next : b ≡ v + 16) (room : v + 16 ≤ length d) (same : length w ≡ length d) where
+  pub copy-turn : {r : List ℕ} → out ≡ tab (λ k. getD w k 0) v ++ drop v d → r ≡ take (b - v) (drop v w)
+      → let s : List ℕ = take v out ++ (r ++ drop (b - v) (drop v out)) in (length s ≡ length d) × (s ≡ tab (λ k. getD w k 0) b ++ drop b d)
+  copy-turn {r} e o =
+      let t : take v out ++ (r ++ drop (b - v) (drop v out)) ≡ tab (λ k. getD w k 0) b ++ drop b d =
+      rw next (block-turn (λ k. getD w k 0) (λ i. getD w (v + i) 0) d out v e (o ∙ part-lanes w v b next (omega arith)) (λ i h. refl)) in
+      (ap length t ∙ tab-length (λ k. getD w k 0) d b (omega arith), t)
+
+  pub raise-turn : {r : List ℕ} → out ≡ tab (λ k. max (getD d k 0) (getD w k 0)) v ++ drop v d
+      → r ≡ lanes (λ i. max (getD (take (b - v) (drop v out)) i 0) (getD (take (b - v) (drop v w)) i 0))
+      → let s : List ℕ = take v out ++ (r ++ drop (b - v) (drop v out)) in (length s ≡ length d) × (s ≡ tab (λ k. max (getD d k 0) (getD w k 0)) b ++ drop b d)
+  raise-turn {r} e o =
+      let h : ℕ → ℕ = λ i. max (getD (take (b - v) (drop v out)) i 0) (getD (take (b - v) (drop v w)) i 0) in
+      let at : (i : ℕ) → i < 16 → h i ≡ max (getD d (v + i) 0) (getD w (v + i) 0) =
+      λ i k. ap₂ max (ap (λ y. getD (take (y - v) (drop v out)) i 0) next ∙ block-seam (λ k. max (getD d k 0) (getD w k 0)) d out v i e k) (part-at w v b i next k) in
+      let t : take v out ++ (r ++ drop (b - v) (drop v out)) ≡ tab (λ k. max (getD d k 0) (getD w k 0)) b ++ drop b d =
+      ap (λ y. take v out ++ (r ++ drop (y - v) (drop v out))) next ∙ block-turn (λ k. max (getD d k 0) (getD w k 0)) h d out v e o at ∙ ap (λ y. tab (λ k. max (getD d k 0) (getD w k 0)) y ++ drop y d) (sym next) in
+      (ap length t ∙ tab-length (λ k. max (getD d k 0) (getD w k 0)) d b (omega arith), t)
+
+module _ (s e x d out : List ℕ) (v b : ℕ) (next : b ≡ v + 16) (room : v + 16 ≤ length d) where
+  pub choose-turn : {r : List ℕ} → out ≡ tab (lowAt s e x d) v ++ drop v d
+      → r ≡ lanes (lowAt (take (b - v) (drop v s)) (take (b - v) (drop v e)) (take (b - v) (drop v x)) (take (b - v) (drop v out)))
+      → let w : List ℕ = take v out ++ (r ++ drop (b - v) (drop v out)) in (length w ≡ length d) × (w ≡ tab (lowAt s e x d) b ++ drop b d)
+  choose-turn {r} f o =
+      let h : ℕ → ℕ = lowAt (take (b - v) (drop v s)) (take (b - v) (drop v e)) (take (b - v) (drop v x)) (take (b - v) (drop v out)) in
+      let at : (i : ℕ) → i < 16 → h i ≡ lowAt s e x d (v + i) =
+      λ i k.
+      let y : getD (take (b - v) (drop v out)) i 0 ≡ getD d (v + i) 0 = ap (λ y. getD (take (y - v) (drop v out)) i 0) next ∙ block-seam (lowAt s e x d) d out v i f k in
+      ap₂ (λ (p : Bool) (q : ℕ). pick p q (getD (take (b - v) (drop v out)) i 0)) (ap₂ ltb (part-at s v b i next k) (part-at e v b i next k)) (part-at x v b i next k) ∙ ap (λ (q : ℕ). pick (ltb (getD s (v + i) 0) (getD e (v + i) 0)) (getD x (v + i) 0) q) y in
+      let t : take v out ++ (r ++ drop (b - v) (drop v out)) ≡ tab (lowAt s e x d) b ++ drop b d =
+      ap (λ y. take v out ++ (r ++ drop (y - v) (drop v out))) next ∙ block-turn (lowAt s e x d) h d out v f o at ∙ ap (λ y. tab (lowAt s e x d) y ++ drop y d) (sym next) in
+      (ap length t ∙ tab-length (lowAt s e x d) d b (omega arith), t)
+
+-- one block alone
+pub raised-one : (w e : List ℕ) {r : List ℕ} → length e ≡ 16 → r ≡ lanes (λ i. max (getD e i 0) (getD w i 0)) → r ≡ tab (λ a. max (getD e a 0) (getD w a 0)) (length e)
+unfolding lanes
+raised-one w e h o = o ∙ ap (tab (λ a. max (getD e a 0) (getD w a 0))) (sym h)

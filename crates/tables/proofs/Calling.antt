@@ -6,7 +6,7 @@ use Prim.Native.Nat.{ℕ, _+_, _-_, _*_, _≤_, _<_}
 use native.Mathlib.Omega.{arith}
 use borrow.Author.Tests.{le-leb, lt-leb}
 use lib.ListN.{length, take, drop}
-use Rattle.tables.specs.declared.layout.Shape.{Shape}
+use Rattle.tables.specs.declared.rests.Shape.{Shape}
 use Rattle.tables.specs.inner.Tables.{on, sentRows}
 use Rattle.tables.specs.Calls.{side, inRange, shapeFor, sentFits, sentLeaves}
 

@@ -1,10 +1,10 @@
 -- Blocks flipped by a bit below sixteen.
 use mathlib.Core.Path.{_≡_, refl, sym, ap, ap₂, _∙_}
-use mathlib.Core.Logic.{_⊎_, inl, inr, ⊎-elim}
+use mathlib.Core.Logic.{_≢_, _⊎_, inl, inr, ⊎-elim}
 use mathlib.Core.List.{List, [], _∷_, _++_, append-assoc}
 use Prim.Native.Nat.{ℕ, zero, suc, _+_, _-_, _%_, _≤_, _<_}
 use native.Mathlib.Omega.{arith}
-use lib.ListN.{length, drop, take, getD, replicate, length-append, length-take, length-drop, List·getD-append}
+use lib.ListN.{length, drop, take, getD, length-append, length-take, length-drop, List·getD-append}
 use lib.Seq.{getD-take, getD-drop, take-at, drop-at, drop-drop}
 use lib.Bits as Bits
 use lib.Bits.{bitXor}
@@ -12,14 +12,14 @@ use Rattle.trellis.specs.Lists.{tab}
 use Rattle.trellis.specs.Field.{xor}
 use Rattle.trellis.proofs.Xor.{xor-assoc, xor-lt}
 use Rattle.trellis.proofs.Loops.{length-tab, tab-ext}
-use Rattle.blocks.specs.Calls.{lanes, copyOne}
-use Rattle.blocks.proofs.Filling.{tab-append, part-length}
-use Rattle.blocks.proofs.Leaving.{copied-one}
-use Rattle.tables.specs.inner.Lanes.{Flips}
-use Rattle.tables.proofs.Blocks.{align}
+use Rattle.tables.specs.inner.Lanes.{lanes, Flips}
+use Rattle.tables.proofs.Blocks.{align, tab-append}
 
 pub flips-small : (f : ℕ) → Flips f → f < 16
 flips-small f F = ⊎-elim (λ (e : f ≡ 1). omega arith) (λ r. ⊎-elim (λ (e : f ≡ 2). omega arith) (λ s. ⊎-elim (λ (e : f ≡ 4). omega arith) (λ (e : f ≡ 8). omega arith) s) r) (F .one)
+
+pub flips-last : (f : ℕ) → Flips f → f ≢ 1 → f ≢ 2 → f ≢ 4 → f ≡ 8
+flips-last f F a b c = ⊎-elim (λ (e : f ≡ 1). absurd (a e)) (λ r. ⊎-elim (λ (e : f ≡ 2). absurd (b e)) (λ s. ⊎-elim (λ (e : f ≡ 4). absurd (c e)) (λ (e : f ≡ 8). e) s) r) (F .one)
 
 pub bit-small : (i f : ℕ) → i < 16 → f < 16 → bitXor i f < 16
 bit-small i f h k = Bits.xor-lt 4 i f h k
@@ -62,14 +62,16 @@ double-turn f n d s i {r} F e h m k o u =
     u ∙ ap₂ {C = List ℕ} (λ x y. x ++ y) t (ap₂ {C = List ℕ} (λ x y. x ++ y) v w) ∙ append-assoc (take n d) _ _
     ∙ ap {B = List ℕ} (λ x. take n d ++ x) (sym (append-assoc (tab (λ j. getD d (xor j f) 0) i) _ _) ∙ ap {B = List ℕ} (λ x. x ++ drop (n + (i + 16)) d) (sym (tab-append (λ j. getD d (xor j f) 0) i 16)))
 
+pub flip-done : (t : List ℕ) (f k : ℕ) {o : List ℕ} → f ≡ k → o ≡ lanes (λ i. getD t (xor i k) 0) → o ≡ lanes (λ i. getD t (xor i f) 0)
+flip-done t f k e o = rw e o
+
 lanes-ext : (f h : ℕ → ℕ) → ((i : ℕ) → i < 16 → f i ≡ h i) → lanes f ≡ lanes h
 unfolding lanes
 lanes-ext f h e = tab-ext f h 16 e
 
-pub flip-patched : (f from to a b : ℕ) (s : List ℕ) {t r : List ℕ} → Flips f → a ≡ from + 16 → b ≡ to + 16 → from + 16 ≤ length s → t ≡ copyOne (take (a - from) (drop from s)) (replicate 16 0) → r ≡ lanes (λ i. getD t (xor i f) 0)
+pub flip-patched : (f from to a b : ℕ) (s : List ℕ) {t r : List ℕ} → Flips f → a ≡ from + 16 → b ≡ to + 16 → t ≡ take (a - from) (drop from s) → r ≡ lanes (λ i. getD t (xor i f) 0)
     → take to s ++ (r ++ drop (b - to) (drop to s)) ≡ take to s ++ (lanes (λ i. getD s (from + xor i f) 0) ++ drop (to + 16) s)
-flip-patched f from to a b s {t} {r} F ea eb room o er =
-    let et = copied-one (take (a - from) (drop from s)) (replicate 16 0) o (part-length s from a ea room) refl in
+flip-patched f from to a b s {t} {r} F ea eb et er =
     let x : a - from ≡ 16 = omega arith in
     let y : b - to ≡ 16 = omega arith in
     let at : (i : ℕ) → i < 16 → getD t (xor i f) 0 ≡ getD s (from + xor i f) 0 =

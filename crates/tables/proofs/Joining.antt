@@ -13,7 +13,7 @@ use Rattle.engine.specs.inner.Rests.{mostTo}
 use Rattle.tables.specs.declared.rests.Four.{Four}
 use Rattle.tables.specs.inner.Lanes.{cut, taken, Wide, fourAt, fourOf, rowAt, joinTo}
 use Rattle.tables.specs.inner.Tables.{Shaped}
-use Rattle.blocks.proofs.Turns.{list-tab}
+use Rattle.tables.proofs.Turns.{list-tab}
 
 pub copy-room : (q l b : ℕ) → b < q → b % 4 ≡ 0 → q % 4 ≡ 0 → l ≤ 64 → (b % 16 * l + 4 * l ≤ min 16 q * l) × (b % 16 * l ≤ 65536)
 copy-room q l b h k m n =

@@ -1,7 +1,7 @@
--- Laws by topic; a function's own proof stands in a folder of its name. Meaning is what another crate cites; Ranges and Parts are laws of
+-- Laws by topic; a function's own proof stands in a folder of its name. Meaning is what another crate cites; Ranges, Turns and Parts are laws of
 -- numbers and lists that serve the groups too.
 pub mod Ranges
-mod Turns
+pub mod Turns
 mod Blocks
 mod Joining
 mod Flipping

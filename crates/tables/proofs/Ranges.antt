@@ -9,7 +9,7 @@ use lib.Pow.{pow-lt}
 use borrow.Author.Tests.{le-leb, lt-leb, leb-true}
 use Rattle.tables.specs.inner.Tables.{Shaped}
 use Rattle.tables.specs.Calls.{side, inRange, shapeFor}
-use Rattle.tables.specs.declared.layout.Shape.{Shape}
+use Rattle.tables.specs.declared.rests.Shape.{Shape}
 
 pub parts-room : (j n w : ℕ) → j < n → n ≤ 32 → w ≤ 192 → (j * w + w ≤ n * w) × (n * w ≤ 6144)
 parts-room j n w h m e =

@@ -7,7 +7,7 @@ use lib.Dec.{leb}
 use lib.ListN.{length, take, drop}
 use Rattle.trellis.specs.Lists.{pick}
 use Rattle.trellis.specs.Sizes.{mostDegree}
-use Rattle.tables.specs.declared.layout.Shape.{Shape}
+use Rattle.tables.specs.declared.rests.Shape.{Shape}
 use Rattle.tables.specs.inner.Tables.{sentRows}
 
 -- rows of a table: q, and sixteen at least

@@ -1,13 +1,14 @@
 // The copies of a table that a join needs: copy j has row x + j at x. Each doubling flips a bit of the row inside its block of sixteen: a
 // function for each of the four bits, for the compiler makes a shuffle of it only where the bit is a constant.
-use crate::layout::Shape;
+use crate::block;
+use crate::lane;
+use crate::rests::Shape;
 ghost use mathlib.Core.Path.{_≡_};
 ghost use mathlib.Core.List.{_++_};
 ghost use Prim.Native.Nat.{_+_, _*_, _≤_, min};
 ghost use lib.ListN.{length, getD, take, drop};
 ghost use Rattle.trellis.specs.Field.{xor};
-ghost use Rattle.blocks.specs.Calls.{lanes};
-ghost use Rattle.tables.specs.inner.Lanes.{Doubled, Copied};
+ghost use Rattle.tables.specs.inner.Lanes.{lanes, Doubled, Copied};
 ghost use Rattle.tables.specs.inner.Tables.{Table, Shaped};
 
 fn flip1(t: &[u8], o: &mut [u8])
@@ -31,7 +32,7 @@ fn flip1_at(s: &mut [u8], from: usize, to: usize)
     let mut t = [0u8; 16];
     let a = from + 16;
     let b = to + 16;
-    blocks::copy_block(&s[from..a], &mut t);
+    lane::copy(&s[from..a], &mut t);
     flip1(&t, &mut s[to..b]);
 }
 
@@ -70,7 +71,7 @@ fn flip2_at(s: &mut [u8], from: usize, to: usize)
     let mut t = [0u8; 16];
     let a = from + 16;
     let b = to + 16;
-    blocks::copy_block(&s[from..a], &mut t);
+    lane::copy(&s[from..a], &mut t);
     flip2(&t, &mut s[to..b]);
 }
 
@@ -109,7 +110,7 @@ fn flip4_at(s: &mut [u8], from: usize, to: usize)
     let mut t = [0u8; 16];
     let a = from + 16;
     let b = to + 16;
-    blocks::copy_block(&s[from..a], &mut t);
+    lane::copy(&s[from..a], &mut t);
     flip4(&t, &mut s[to..b]);
 }
 
@@ -148,7 +149,7 @@ fn flip8_at(s: &mut [u8], from: usize, to: usize)
     let mut t = [0u8; 16];
     let a = from + 16;
     let b = to + 16;
-    blocks::copy_block(&s[from..a], &mut t);
+    lane::copy(&s[from..a], &mut t);
     flip8(&t, &mut s[to..b]);
 }
 
@@ -174,7 +175,7 @@ pub fn copies(shape: Shape, table: &[u8], s: &mut [u8])
 {
     let q = shape.q;
     let l = shape.l;
-    blocks::copy(table, &mut s[..l]);
+    block::copy(table, &mut s[..l]);
     twice1(l, s);
     twice2(l, s);
     if q <= 4 {

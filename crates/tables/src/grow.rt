@@ -1,8 +1,9 @@
 // One column more in the tables over a part of the columns, and the tables over the columns after each one.
+use crate::block;
 use crate::copies;
 use crate::join;
-use crate::layout;
-use crate::layout::Shape;
+use crate::rests;
+use crate::rests::Shape;
 ghost use mathlib.Core.Path.{_≡_};
 ghost use Prim.Native.Nat.{_+_, _-_, _*_, _%_, _≤_, _<_};
 ghost use lib.ListN.{length};
@@ -18,7 +19,7 @@ fn rise(shape: Shape, line: &[u8], j: usize, table: &mut [u8], c: &mut [u8])
     ensures { λ _. ⌜ now (table .exit) ≡ on shape risenIn (now (line .entry)) (now (table .entry)) j ⌝ }
 {
     let l = shape.l;
-    let m = layout::part_at(j, shape.k, l);
+    let m = rests::part_at(j, shape.k, l);
     let n = m + l;
     copies::copies(shape, &table[m - l..m], c);
     join::join(shape, line, c, &mut table[m..n]);
@@ -37,7 +38,7 @@ fn grow(shape: Shape, line: &[u8], table: &mut [u8], c: &mut [u8])
         rise(shape, line, j, table, c);
         j -= 1;
     }
-    blocks::raise(line, &mut table[..l]);
+    block::raise(line, &mut table[..l]);
 }
 
 // The tables over one column: its line, k times.
@@ -50,9 +51,9 @@ pub fn begin(shape: Shape, line: &[u8], table: &mut [u8])
     let l = shape.l;
     let mut j = 0;
     while j < k {
-        let a = layout::part_at(j, k, l);
+        let a = rests::part_at(j, k, l);
         let b = a + l;
-        blocks::copy(line, &mut table[a..b]);
+        block::copy(line, &mut table[a..b]);
         j += 1;
     }
 }
@@ -65,7 +66,7 @@ fn take_in(shape: Shape, d: usize, n: usize, lines: &[u8], table: &mut [u8], c: 
     ensures { λ _. ⌜ now (table .exit) ≡ on shape grownList (part (now (lines .entry)) (n * shape .l) (shape .l)) (now (table .entry)) ⌝ }
 {
     let l = shape.l;
-    let a = layout::part_at(n, d, l);
+    let a = rests::part_at(n, d, l);
     let b = a + l;
     grow(shape, &lines[a..b], table, c);
 }
@@ -79,9 +80,9 @@ fn keep(table: &[u8], i: usize, n: usize, kept: &mut [u8])
         ≡ patch (now (kept .entry)) (i * length (now (table .entry))) (length (now (table .entry))) (now (table .entry)) ⌝ }
 {
     let w = table.len();
-    let a = layout::part_at(i, n, w);
+    let a = rests::part_at(i, n, w);
     let b = a + w;
-    blocks::copy(table, &mut kept[a..b]);
+    block::copy(table, &mut kept[a..b]);
 }
 
 // The tables over the last column.
@@ -91,7 +92,7 @@ fn after_first(shape: Shape, d: usize, lines: &[u8], table: &mut [u8])
     ensures { λ _. ⌜ now (table .exit) ≡ on shape afterTo (now (lines .entry)) d 0 ⌝ }
 {
     let l = shape.l;
-    let a = layout::part_at(d - 1, d, l);
+    let a = rests::part_at(d - 1, d, l);
     let b = a + l;
     begin(shape, &lines[a..b], table);
 }

@@ -1,8 +1,8 @@
 // Two tables joined.
 use crate::lane;
-use crate::layout::Shape;
 use crate::rests;
 use crate::rests::Four;
+use crate::rests::Shape;
 ghost use mathlib.Core.Path.{_≡_};
 ghost use Prim.Native.Nat.{_+_, _*_, _/_, _%_, _≤_, _<_, min};
 ghost use lib.ListN.{length};

@@ -4,8 +4,7 @@ use crate::rests::Four;
 ghost use mathlib.Core.Path.{_≡_};
 ghost use Prim.Native.Nat.{_+_, _*_, _≤_};
 ghost use lib.ListN.{length};
-ghost use Rattle.blocks.specs.Calls.{lanes};
-ghost use Rattle.tables.specs.inner.Lanes.{laneAt};
+ghost use Rattle.tables.specs.inner.Lanes.{laneAt, lanes};
 
 // t: the best of e and four rows. What the rows are taken from stands in s, l apart.
 fn lane(f: Four, s: &[u8], l: usize, e: &[u8], t: &mut [u8])
@@ -21,6 +20,17 @@ fn lane(f: Four, s: &[u8], l: usize, e: &[u8], t: &mut [u8])
     }
 }
 
+pub fn copy(t: &[u8], e: &mut [u8])
+    requires { ⌜ (length (now t) ≡ 16) × (length (now e) ≡ 16) ⌝ }
+    ensures { λ _. ⌜ now (e .exit) ≡ now (t .entry) ⌝ }
+{
+    let mut i = 0;
+    while i < 16 {
+        e[i] = t[i];
+        i += 1;
+    }
+}
+
 // e: the best of e and four rows. The rows pass through a local array: s and e might overlap for all that the compiler knows, so it would
 // not read sixteen before it has written one.
 pub fn step(f: Four, s: &[u8], l: usize, e: &mut [u8])
@@ -29,5 +39,5 @@ pub fn step(f: Four, s: &[u8], l: usize, e: &mut [u8])
 {
     let mut t = [0u8; 16];
     lane(f, s, l, e, &mut t);
-    blocks::copy_block(&t, e);
+    copy(&t, e);
 }

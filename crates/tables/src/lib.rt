@@ -1,13 +1,13 @@
 // The engine of one check: tables of rests over the columns before and after each one, sixteen rows at a time.
+mod block;
 mod copies;
 mod grow;
 mod join;
 mod lane;
-mod layout;
 mod rests;
 mod rows;
 
-use crate::layout::Shape;
+use crate::rests::Shape;
 use rules::Rule;
 use scalar::sizes;
 ghost use mathlib.Core.Path.{_≡_};

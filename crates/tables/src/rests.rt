@@ -1,7 +1,17 @@
-// Rests of 255: what a cost leaves of one.
+// Rests of 255: what a cost leaves of one. The shape of tables, and where their parts start.
 ghost use mathlib.Core.Path.{_≡_};
-ghost use Prim.Native.Nat.{_-_};
+ghost use Prim.Native.Nat.{_+_, _-_, _*_, _%_, _≤_, _<_};
+ghost use Rattle.trellis.specs.Sizes.{mostDegree};
 ghost use Rattle.tables.specs.inner.Lanes.{cut, taken, twoOf};
+
+// Tables of l rows, of which q are asked for; one for each number of deviations from 1 to k; costs joined to their sum, or to their
+// greatest.
+pub struct Shape {
+    pub q: usize,
+    pub l: usize,
+    pub k: usize,
+    pub greatest: bool,
+}
 
 // Four rests, each as it is taken from others.
 pub struct Four {
@@ -42,4 +52,20 @@ pub fn two(greatest: bool, x: u8, s: u8, y: u8, t: u8) -> u8
     ensures { λ r. ⌜ r ≡ twoOf greatest x s y t ⌝ }
 {
     scalar::max_u8(meet(greatest, s, x), meet(greatest, t, y))
+}
+
+// The place behind the block of sixteen that starts at v.
+pub fn next(v: usize, n: usize) -> usize
+    requires { ⌜ ((v % 16 ≡ 0) × (n % 16 ≡ 0)) × ((v < n) × (n ≤ 65536)) ⌝ }
+    ensures { λ r. ⌜ (r ≡ v + 16) × ((r ≤ n) × (r % 16 ≡ 0)) ⌝ }
+{
+    v + 16
+}
+
+// Where part j of n parts, each width long, starts.
+pub fn part_at(j: usize, n: usize, width: usize) -> usize
+    requires { ⌜ (j < n) × ((n ≤ mostDegree) × (width ≤ 192)) ⌝ }
+    ensures { λ r. ⌜ (r ≡ j * width) × ((r + width ≤ n * width) × (n * width ≤ 6144)) ⌝ }
+{
+    j * width
 }

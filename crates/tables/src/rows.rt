@@ -1,9 +1,10 @@
 // The rests of the costs sent to each column, from the tables before and after it.
+use crate::block;
 use crate::copies;
 use crate::grow;
 use crate::join;
-use crate::layout;
-use crate::layout::Shape;
+use crate::rests;
+use crate::rests::Shape;
 ghost use mathlib.Core.Path.{_≡_};
 ghost use Prim.Native.Nat.{_+_, _-_, _*_, _≤_, _<_};
 ghost use lib.ListN.{length};
@@ -19,10 +20,10 @@ fn apart(shape: Shape, before: &[u8], after: &[u8], out: &mut [u8])
     ensures { λ _. ⌜ now (out .exit) ≡ on shape sentTo (now (before .entry)) (now (after .entry)) 0 ⌝ }
 {
     let l = shape.l;
-    let a = layout::part_at(shape.k - 1, shape.k, l);
+    let a = rests::part_at(shape.k - 1, shape.k, l);
     let b = a + l;
-    blocks::copy(&after[a..b], out);
-    blocks::raise(&before[a..b], out);
+    block::copy(&after[a..b], out);
+    block::raise(&before[a..b], out);
 }
 
 // Some deviations on either side; and table j before takes the line in. Both want the copies of table j - 1 before, so they are made once.
@@ -43,9 +44,9 @@ fn rise_both(
     ensures { λ _. ⌜ now (out .exit) ≡ on shape metIn (now (before .entry)) (now (after .entry)) (now (out .entry)) j ⌝ }
 {
     let l = shape.l;
-    let m = layout::part_at(j, shape.k, l);
+    let m = rests::part_at(j, shape.k, l);
     let n = m + l;
-    let a = layout::part_at(shape.k - 1 - j, shape.k, l);
+    let a = rests::part_at(shape.k - 1 - j, shape.k, l);
     let b = a + l;
     copies::copies(shape, &before[m - l..m], c);
     join::join(shape, &after[a..b], c, out);
@@ -67,7 +68,7 @@ fn pass(shape: Shape, after: &[u8], line: &[u8], before: &mut [u8], c: &mut [u8]
         rise_both(shape, j, after, line, before, c, out);
         j -= 1;
     }
-    blocks::raise(line, &mut before[..l]);
+    block::raise(line, &mut before[..l]);
 }
 
 // S of column n, which has columns before and after it.
@@ -95,9 +96,9 @@ fn pass_at(
 {
     let l = shape.l;
     let w = before.len();
-    let a = layout::part_at(n, d, l);
+    let a = rests::part_at(n, d, l);
     let b = a + l;
-    let e = layout::part_at(d - 2 - n, d - 1, w);
+    let e = rests::part_at(d - 2 - n, d - 1, w);
     let f = e + w;
     pass(shape, &after[e..f], &lines[a..b], before, c, &mut out[a..b]);
 }
@@ -110,11 +111,11 @@ fn end(shape: Shape, d: usize, n: usize, tables: &[u8], out: &mut [u8])
         now (out .exit) ≡ patch (now (out .entry)) (n * shape .l) (shape .l) (lastTable (shape .l) (shape .k) (now (tables .entry))) ⌝ }
 {
     let l = shape.l;
-    let t = layout::part_at(shape.k - 1, shape.k, l);
+    let t = rests::part_at(shape.k - 1, shape.k, l);
     let u = t + l;
-    let a = layout::part_at(n, d, l);
+    let a = rests::part_at(n, d, l);
     let b = a + l;
-    blocks::copy(&tables[t..u], &mut out[a..b]);
+    block::copy(&tables[t..u], &mut out[a..b]);
 }
 
 // The first row, which has no column before it, and the tables over the first column.
@@ -130,7 +131,7 @@ fn first(shape: Shape, d: usize, lines: &[u8], after: &[u8], before: &mut [u8], 
 {
     let l = shape.l;
     let w = before.len();
-    let e = layout::part_at(d - 2, d - 1, w);
+    let e = rests::part_at(d - 2, d - 1, w);
     let f = e + w;
     end(shape, d, 0, &after[e..f], out);
     grow::begin(shape, &lines[..l], before);

@@ -6,13 +6,9 @@ use mathlib.Core.List.{List, [], _∷_}
 use Prim.Native.Nat.{ℕ, suc, _+_, _-_, _*_, _<_}
 use lib.Dec.{ltb}
 use lib.ListN.{getD}
-use Rattle.trellis.specs.Lists.{pick, blocks}
+use Rattle.trellis.specs.Lists.{blocks}
 use Rattle.engine.specs.inner.Rests.{mostTo}
 use Rattle.engine.specs.inner.Groups.{pushed, listedColumn, listedRest, listedGroup}
-
--- x where s is below e, else y
-abbrev pub lowAt : List ℕ → List ℕ → List ℕ → List ℕ → ℕ → ℕ
-lowAt s e x y a = pick (ltb (getD s a 0) (getD e a 0)) (getD x a 0) (getD y a 0)
 
 -- place i of row j + 1
 abbrev pub pairAt : List ℕ → ℕ → ℕ → ℕ

@@ -5,8 +5,9 @@ use mathlib.Core.Bool.{Bool}
 use mathlib.Core.Logic.{_⊎_}
 use mathlib.Core.List.{List}
 use Prim.Native.Nat.{ℕ, _+_, _-_, _*_, _/_, _%_, _^_, _≤_, _<_, min, max}
+use lib.Dec.{ltb}
 use lib.ListN.{getD}
-use Rattle.trellis.specs.Lists.{pick}
+use Rattle.trellis.specs.Lists.{pick, tab}
 use Rattle.trellis.specs.Field.{xor}
 use Rattle.engine.specs.inner.Rests.{mostTo}
 use Rattle.tables.specs.declared.rests.Four.{Four}
@@ -21,6 +22,10 @@ taken greatest u = pick greatest u (255 - u)
 
 abbrev pub twoOf : Bool → ℕ → ℕ → ℕ → ℕ → ℕ
 twoOf greatest x s y t = max (cut greatest s x) (cut greatest t y)
+
+-- sixteen rows
+unfoldable pub lanes : (ℕ → ℕ) → List ℕ
+lanes f = tab f 16
 
 -- the best of e and four rows, at place i: what they are taken from stands l apart
 unfoldable pub laneAt : Four → List ℕ → ℕ → List ℕ → ℕ → ℕ
@@ -76,3 +81,7 @@ pub record Doubled (f l : ℕ) (s r : List ℕ) : Type 0 where
 -- s holds n copies of w: copy j has row x + j at x
 pub record Copied (n l : ℕ) (w s : List ℕ) : Type 0 where
   pub at : (j x : ℕ) → j < n → x < l → getD s (j * l + x) 0 ≡ getD w (xor x j) 0
+
+-- x where s is below e, else y
+abbrev pub lowAt : List ℕ → List ℕ → List ℕ → List ℕ → ℕ → ℕ
+lowAt s e x y a = pick (ltb (getD s a 0) (getD e a 0)) (getD x a 0) (getD y a 0)

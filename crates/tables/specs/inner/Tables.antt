@@ -8,7 +8,7 @@ use lib.Dec.{eqb}
 use lib.ListN.{getD}
 use Rattle.trellis.specs.Lists.{pick, tab, blocks, part, patch}
 use Rattle.engine.specs.inner.Rests.{meetOf, joinedAt}
-use Rattle.tables.specs.declared.layout.Shape.{Shape}
+use Rattle.tables.specs.declared.rests.Shape.{Shape}
 
 -- tables are l rows long: 16, 32 or 64
 pub record Table (l : ℕ) : Type 0 where

@@ -1,10 +1,8 @@
 use mathlib.Core.Path.{_≡_, refl}
-use Prim.Native.Nat.{_+_, _-_, _≤_}
+use Prim.Native.Nat.{_-_, _≤_}
 use native.Mathlib.Omega.{arith}
 use borrow.Author.Needs.{needs}
-use lib.ListN.{length, take, drop}
-use Rattle.blocks.proofs.Filling.{part-length}
-use Rattle.blocks.proofs.Leaving.{copied-one, raised-one}
+use lib.ListN.{length}
 use Rattle.groups.specs.inner.Pairs.{Best}
 use Rattle.groups.proofs.Listing.{best-first, best-turn}
 use Rattle.groups.proofs.list.best.Statement.{statement}
@@ -39,10 +37,7 @@ loop-holds c =
     let at-copy-block = c .before .before in
     let at-row-at = at-copy-block .before .before .before in
     let start = at-row-at .before .before .before in
-    let a = at-row-at .row-at .result in
-    let m = part-length (start .args .sent .now) a (a + 16) refl (omega (arith, at-row-at .row-at .ensures, start .pre .1 .1)) in
-    let same = copied-one (take (a + 16 - a) (drop a (start .args .sent .now))) (start .args .e .now) (at-copy-block .copy-block .ensures) m (start .pre .1 .1 .1) in
-    ((omega arith, omega arith), (omega arith, best-first (start .args .shape .l) (start .args .v) _ _ (start .args .sent .now) (at-row-at .row-at .ensures .0) refl same))
+    ((omega arith, omega arith), (omega arith, best-first (start .args .shape .l) (start .args .v) _ _ (start .args .sent .now) (at-row-at .row-at .ensures .0) refl (at-copy-block .copy-block .ensures)))
 
 row-at-requires-2 : tie.Need-row-at-requires-2 Inv-loop μ-loop
 row-at-requires-2 c κs = search needs
@@ -73,12 +68,9 @@ loop-again c =
     let at-raise-block = c .before .before in
     let at-row-at2 = at-raise-block .before .before .before in
     let at-loop = at-row-at2 .before .before in
-    let start = at-loop .before .before .before .before .before .before .before .before .before in
-    let a = at-row-at2 .row-at2 .result in
-    let m = part-length (start .args .sent .now) a (a + 16) refl (omega (arith, at-row-at2 .row-at2 .ensures, start .pre .1 .1)) in
-    let risen = raised-one (take (a + 16 - a) (drop a (start .args .sent .now))) (at-loop .loop .e) (at-raise-block .raise-block .ensures) m (at-loop .loop .inv .1 .0) in (
+    let start = at-loop .before .before .before .before .before .before .before .before .before in (
       (omega arith, omega arith),
-      (omega arith, best-turn (start .args .shape .l) (start .args .v) (at-loop .loop .n) _ _ (start .args .sent .now) (at-loop .loop .e) (at-row-at2 .row-at2 .ensures .0) refl (at-loop .loop .inv .1 .1) risen),
+      (omega arith, best-turn (start .args .shape .l) (start .args .v) (at-loop .loop .n) _ _ (start .args .sent .now) (at-loop .loop .e) (at-row-at2 .row-at2 .ensures .0) refl (at-loop .loop .inv .1 .1) (at-raise-block .raise-block .ensures)),
     )
 
 same-length : tie.Need-same-length Inv-loop μ-loop

@@ -1,5 +1,5 @@
-use Rattle.blocks.proofs.Turns.{tab-turn, lanes-end}
-use Rattle.groups.specs.inner.Pairs.{lowAt}
+use Rattle.tables.proofs.Turns.{tab-turn, lanes-end}
+use Rattle.tables.specs.inner.Lanes.{lowAt}
 use Rattle.trellis.specs.Lists.{tab}
 use mathlib.Core.Path.{_≡_}
 use mathlib.Core.List.{_++_}
@@ -19,52 +19,40 @@ Inv-loop s e x y t₀ i₀ t i = (i ≤ 16) × ((length t ≡ length t₀) × (t
 abbrev μ-loop : tie.MeasureT-loop
 μ-loop s e x y t₀ i₀ t i = 16 - i
 
--- src/list.rt:23:5
 loop-holds : tie.Need-loop-holds Inv-loop μ-loop
 loop-holds c = search needs
 
--- src/list.rt:24:20
 shared-slice-read-low : tie.Need-shared-slice-read-low Inv-loop μ-loop
 shared-slice-read-low c = search needs
 
--- src/list.rt:24:26
 shared-slice-read-low-2 : tie.Need-shared-slice-read-low-2 Inv-loop μ-loop
 shared-slice-read-low-2 c = search needs
 
--- src/list.rt:24:32
 shared-slice-read-low-3 : tie.Need-shared-slice-read-low-3 Inv-loop μ-loop
 shared-slice-read-low-3 c = search needs
 
--- src/list.rt:24:38
 shared-slice-read-low-4 : tie.Need-shared-slice-read-low-4 Inv-loop μ-loop
 shared-slice-read-low-4 c = search needs
 
--- src/list.rt:24:16
 low-requires : tie.Need-low-requires Inv-loop μ-loop
 low-requires c κs = search needs
 
--- src/list.rt:24:9
 slice-write-t : tie.Need-slice-write-t Inv-loop μ-loop
 slice-write-t c = search needs
 
--- src/list.rt:25:9
 add-i : tie.Need-add-i Inv-loop μ-loop
 add-i c = search needs
 
--- src/list.rt:23:5
 loop-less : tie.Need-loop-less Inv-loop μ-loop
 loop-less c = search needs
 
--- src/list.rt:23:5
 loop-again : tie.Need-loop-again Inv-loop μ-loop
 loop-again c = let l = c .before .before .before .before .before .before in let a = c .before .before .before .before .before .before .before .before .before .before .before .before .args in
     (omega arith, (simp length-set (omega arith), tab-turn (lowAt (a .s .now) (a .e .now) (a .x .now) (a .y .now)) (l .loop .t) (a .t .now) (l .loop .i) (omega arith) (l .loop .inv .1 .1) (c .low .ensures)))
 
--- src/list.rt:18:1
 same-length : tie.Need-same-length Inv-loop μ-loop
 same-length c = search needs
 
--- src/list.rt:18:1
 returns : tie.Need-returns Inv-loop μ-loop
 returns c = let l = c .before in let a = c .before .before .before .before .before .before .before .args in
     lanes-end (lowAt (a .s .now) (a .e .now) (a .x .now) (a .y .now)) (l .loop .t) (a .t .now) (l .loop .i) (l .loop .inv .1 .1) (omega arith) (omega arith)

@@ -3,10 +3,9 @@ use mathlib.Core.List.{_++_}
 use Prim.Native.Nat.{ℕ}
 use native.Mathlib.Omega.{arith}
 use borrow.Author.Needs.{needs}
-use lib.ListN.{take, drop, getD, length-take}
-use Rattle.blocks.specs.Calls.{lanes}
-use Rattle.blocks.proofs.Turns.{lanes-length, lanes-at}
-use Rattle.blocks.proofs.Leaving.{copied-one}
+use lib.ListN.{drop, getD, length-take}
+use Rattle.tables.specs.inner.Lanes.{lanes}
+use Rattle.tables.proofs.Turns.{lanes-length, lanes-at}
 use Rattle.groups.proofs.Listing.{push-in}
 use Rattle.groups.proofs.list.column.Statement.{statement}
 use Rattle.groups.proofs.list.column.Tie as tie
@@ -20,14 +19,16 @@ slice-aggregate-fill c = simp length-take (omega arith)
 fill-requires : tie.Need-fill-requires
 fill-requires c κs = simp length-take (omega arith)
 
-slice-relend-prefix-copy-block : tie.Need-slice-relend-prefix-copy-block
-slice-relend-prefix-copy-block c = search needs
+slice-relend-prefix-copy : tie.Need-slice-relend-prefix-copy
+slice-relend-prefix-copy c = search needs
 
-slice-aggregate-copy-block : tie.Need-slice-aggregate-copy-block
-slice-aggregate-copy-block c = simp length-take (omega arith)
+slice-aggregate-copy : tie.Need-slice-aggregate-copy
+slice-aggregate-copy c = simp length-take (omega arith)
 
-copy-block-requires : tie.Need-copy-block-requires
-copy-block-requires c κs = search needs
+copy-requires : tie.Need-copy-requires
+copy-requires c κs =
+    let start = c .before .before .before .before .before .before .before .before .before in
+    (start .pre .0 .0, simp length-take (omega arith))
 
 push-requires : tie.Need-push-requires
 push-requires c κs = search needs
@@ -41,13 +42,13 @@ same-length-2 c = search needs
 returns : tie.Need-returns
 returns c =
     let at-push = c .before .before .before .before in
-    let at-copy-block = at-push .before .before .before .before .before in
-    let at-fill = at-copy-block .before .before .before .before in
+    let at-copy = at-push .before .before .before .before .before in
+    let at-fill = at-copy .before .before .before .before in
     let start = at-fill .before .before .before .before .before .before in (
       push-in (start .args .k) (start .args .s .now) (start .args .e .now) (start .args .columns .now) (lanes (λ (i : ℕ). start .args .n)) (λ (i : ℕ). start .args .n) (lanes-length (λ (i : ℕ). start .args .n)) (λ i h. lanes-at (λ (i : ℕ). start .args .n) i h)
           (ap (λ y. y ++ drop 16 (start .args .columns .now)) (at-fill .fill .ensures)) (at-push .push .ensures .0),
       push-in (start .args .k) (start .args .s .now) (start .args .e .now) (start .args .rests .now) (start .args .s .now) (λ i. getD (start .args .s .now) i 0) (start .pre .0 .0) (λ i h. refl)
-          (ap (λ y. y ++ drop 16 (start .args .rests .now)) (copied-one (start .args .s .now) (take 16 (start .args .rests .now)) (at-copy-block .copy-block .ensures) (start .pre .0 .0) (simp length-take (omega arith)))) (at-push .push .ensures .1),
+          (ap (λ y. y ++ drop 16 (start .args .rests .now)) (at-copy .copy .ensures)) (at-push .push .ensures .1),
     )
 
 pub column-spec : {M : Type 1} → statement M
@@ -57,9 +58,9 @@ column-spec =
     slice-relend-prefix-fill
     slice-aggregate-fill
     fill-requires
-    slice-relend-prefix-copy-block
-    slice-aggregate-copy-block
-    copy-block-requires
+    slice-relend-prefix-copy
+    slice-aggregate-copy
+    copy-requires
     push-requires
     same-length
     same-length-2

@@ -5,7 +5,7 @@ use native.Mathlib.Omega.{arith}
 use borrow.Author.Needs.{needs}
 use lib.ListN.{length, drop, length-set}
 use Rattle.trellis.specs.Lists.{tab}
-use Rattle.blocks.proofs.Turns.{tab-turn, lanes-end}
+use Rattle.tables.proofs.Turns.{tab-turn, lanes-end}
 use Rattle.groups.proofs.list.fill.Statement.{statement}
 use Rattle.groups.proofs.list.fill.Tie as tie
 

@@ -5,11 +5,9 @@ use Rattle.groups.proofs.list.low.Tie as tie
 use Rattle.groups.proofs.list.low.Reads as reads
 use Rattle.groups.proofs.list.low.Lts as lts
 
--- src/list.rt:11:1
 returns : tie.Need-returns
 returns c = simp (lt-ltb (c .before .args .s) (c .before .args .e) (c .if1 .taken))
 
--- src/list.rt:11:1
 returns-2 : tie.Need-returns-2
 returns-2 c = simp (le-ltb (c .before .args .s) (c .before .args .e) (omega arith))
 

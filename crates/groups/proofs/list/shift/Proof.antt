@@ -1,10 +1,6 @@
 use mathlib.Core.Path.{refl}
-use Prim.Native.Nat.{_+_, _-_, _*_}
 use native.Mathlib.Omega.{arith}
 use borrow.Author.Needs.{needs}
-use lib.ListN.{take, drop}
-use Rattle.blocks.proofs.Filling.{part-length}
-use Rattle.blocks.proofs.Leaving.{copied-after}
 use Rattle.groups.proofs.Listing.{shift-is}
 use Rattle.groups.proofs.list.shift.Statement.{statement}
 use Rattle.groups.proofs.list.shift.Tie as tie
@@ -42,33 +38,30 @@ slice-aggregate-chosen c = search needs
 chosen-requires : tie.Need-chosen-requires
 chosen-requires c κs = search needs
 
-slice-aggregate-copy-block : tie.Need-slice-aggregate-copy-block
-slice-aggregate-copy-block c = search needs
+slice-aggregate-copy : tie.Need-slice-aggregate-copy
+slice-aggregate-copy c = search needs
 
-sub-copy-block : tie.Need-sub-copy-block
-sub-copy-block c = search needs
+sub-copy : tie.Need-sub-copy
+sub-copy c = search needs
 
-part-copy-block-start : tie.Need-part-copy-block-start
-part-copy-block-start c = search needs
+part-copy-start : tie.Need-part-copy-start
+part-copy-start c = search needs
 
-part-copy-block-end : tie.Need-part-copy-block-end
-part-copy-block-end c = search needs
+part-copy-end : tie.Need-part-copy-end
+part-copy-end c = search needs
 
-copy-block-requires : tie.Need-copy-block-requires
-copy-block-requires c κs = search needs
+copy-requires : tie.Need-copy-requires
+copy-requires c κs = search needs
 
 same-length : tie.Need-same-length
 same-length c = search needs
 
 returns : tie.Need-returns
 returns c =
-    let at-copy-block = c .before .before in
-    let at-chosen = at-copy-block .before .before .before .before in
+    let at-copy = c .before .before in
+    let at-chosen = at-copy .before .before .before .before in
     let start = at-chosen .before .before .before .before .before .before .before .before in
-    let m = 16 * start .args .j in
-    let n = part-length (start .args .t .now) m (m + 16) refl (omega arith) in
-    let same = copied-after (take (m + 16 - m) (drop m (start .args .t .now))) (at-chosen .chosen .ensures) (at-copy-block .copy-block .ensures) (omega arith) n in
-    shift-is (start .args .s .now) (start .args .e .now) (start .args .t .now) (start .args .j) _ _ refl refl (omega arith) (at-chosen .chosen .ensures) same
+    shift-is (start .args .s .now) (start .args .e .now) (start .args .t .now) (start .args .j) _ _ refl refl (omega arith) (at-chosen .chosen .ensures) (at-copy .copy .ensures)
 
 pub shift-spec : {M : Type 1} → statement M
 shift-spec =
@@ -85,10 +78,10 @@ shift-spec =
     part-chosen-end-2
     slice-aggregate-chosen
     chosen-requires
-    slice-aggregate-copy-block
-    sub-copy-block
-    part-copy-block-start
-    part-copy-block-end
-    copy-block-requires
+    slice-aggregate-copy
+    sub-copy
+    part-copy-start
+    part-copy-end
+    copy-requires
     same-length
     returns)

@@ -2,8 +2,7 @@ use mathlib.Core.Path.{ap, _∙_, sym}
 use mathlib.Core.List.{_++_}
 use native.Mathlib.Omega.{arith}
 use borrow.Author.Needs.{needs}
-use lib.ListN.{take, drop}
-use Rattle.blocks.proofs.Leaving.{copied-all}
+use lib.ListN.{drop}
 use Rattle.tables.proofs.Flipping.{flips1, flips2, flips4, flips8}
 use Rattle.tables.proofs.Copying.{copied-one, copied-double, copied-less, take-room}
 use Rattle.tables.proofs.copies.copies.Statement.{statement}
@@ -18,7 +17,9 @@ slice-aggregate-copy c =
     sym (take-room (start .args .shape .l) (start .args .s .now) (start .pre .1 .1))
 
 copy-requires : tie.Need-copy-requires
-copy-requires c κs = search needs
+copy-requires c κs =
+    let start = c .before .before .before in
+    let e = take-room (start .args .shape .l) (start .args .s .now) (start .pre .1 .1) in (start .pre .1 .0 ∙ sym e, (omega (arith, e, (start .pre .0 .table) .even), omega (arith, e, (start .pre .0 .table) .limit)))
 
 twice1-requires : tie.Need-twice1-requires
 twice1-requires c κs = search needs
@@ -35,9 +36,7 @@ returns c =
     let at-twice1 = at-twice2 .before .before .before .before in
     let at-copy = at-twice1 .before .before .before .before in
     let start = at-copy .before .before .before .before in
-    let m = take-room (start .args .shape .l) (start .args .s .now) (start .pre .1 .1) in
-    let same = copied-all (start .args .table .now) (take (start .args .shape .l) (start .args .s .now)) (at-copy .copy .ensures) (start .pre .1 .0 ∙ sym m) (omega (arith, m, (start .pre .0 .table) .even)) in
-    copied-less _ 4 (start .args .shape .l) (start .args .table .now) _ (omega arith) (copied-double 2 (start .args .shape .l) (start .args .table .now) _ _ flips2 (start .pre .0 .table) (copied-double 1 (start .args .shape .l) (start .args .table .now) _ _ flips1 (start .pre .0 .table) (copied-one (start .args .shape .l) (start .args .table .now) (start .args .s .now) (start .pre .1 .0) (ap (λ y. y ++ drop (start .args .shape .l) (start .args .s .now)) same)) (at-twice1 .twice1 .ensures)) (at-twice2 .twice2 .ensures))
+    copied-less _ 4 (start .args .shape .l) (start .args .table .now) _ (omega arith) (copied-double 2 (start .args .shape .l) (start .args .table .now) _ _ flips2 (start .pre .0 .table) (copied-double 1 (start .args .shape .l) (start .args .table .now) _ _ flips1 (start .pre .0 .table) (copied-one (start .args .shape .l) (start .args .table .now) (start .args .s .now) (start .pre .1 .0) (ap (λ y. y ++ drop (start .args .shape .l) (start .args .s .now)) (at-copy .copy .ensures))) (at-twice1 .twice1 .ensures)) (at-twice2 .twice2 .ensures))
 
 twice4-requires : tie.Need-twice4-requires
 twice4-requires c κs = search needs
@@ -52,9 +51,7 @@ returns-2 c =
     let at-twice1 = at-twice2 .before .before .before .before in
     let at-copy = at-twice1 .before .before .before .before in
     let start = at-copy .before .before .before .before in
-    let m = take-room (start .args .shape .l) (start .args .s .now) (start .pre .1 .1) in
-    let same = copied-all (start .args .table .now) (take (start .args .shape .l) (start .args .s .now)) (at-copy .copy .ensures) (start .pre .1 .0 ∙ sym m) (omega (arith, m, (start .pre .0 .table) .even)) in
-    copied-less _ 8 (start .args .shape .l) (start .args .table .now) _ (omega arith) (copied-double 4 (start .args .shape .l) (start .args .table .now) _ _ flips4 (start .pre .0 .table) (copied-double 2 (start .args .shape .l) (start .args .table .now) _ _ flips2 (start .pre .0 .table) (copied-double 1 (start .args .shape .l) (start .args .table .now) _ _ flips1 (start .pre .0 .table) (copied-one (start .args .shape .l) (start .args .table .now) (start .args .s .now) (start .pre .1 .0) (ap (λ y. y ++ drop (start .args .shape .l) (start .args .s .now)) same)) (at-twice1 .twice1 .ensures)) (at-twice2 .twice2 .ensures)) (at-twice4 .twice4 .ensures))
+    copied-less _ 8 (start .args .shape .l) (start .args .table .now) _ (omega arith) (copied-double 4 (start .args .shape .l) (start .args .table .now) _ _ flips4 (start .pre .0 .table) (copied-double 2 (start .args .shape .l) (start .args .table .now) _ _ flips2 (start .pre .0 .table) (copied-double 1 (start .args .shape .l) (start .args .table .now) _ _ flips1 (start .pre .0 .table) (copied-one (start .args .shape .l) (start .args .table .now) (start .args .s .now) (start .pre .1 .0) (ap (λ y. y ++ drop (start .args .shape .l) (start .args .s .now)) (at-copy .copy .ensures))) (at-twice1 .twice1 .ensures)) (at-twice2 .twice2 .ensures)) (at-twice4 .twice4 .ensures))
 
 twice8-requires : tie.Need-twice8-requires
 twice8-requires c κs = search needs
@@ -70,9 +67,7 @@ returns-3 c =
     let at-twice1 = at-twice2 .before .before .before .before in
     let at-copy = at-twice1 .before .before .before .before in
     let start = at-copy .before .before .before .before in
-    let m = take-room (start .args .shape .l) (start .args .s .now) (start .pre .1 .1) in
-    let same = copied-all (start .args .table .now) (take (start .args .shape .l) (start .args .s .now)) (at-copy .copy .ensures) (start .pre .1 .0 ∙ sym m) (omega (arith, m, (start .pre .0 .table) .even)) in
-    copied-less _ 16 (start .args .shape .l) (start .args .table .now) _ (omega arith) (copied-double 8 (start .args .shape .l) (start .args .table .now) _ _ flips8 (start .pre .0 .table) (copied-double 4 (start .args .shape .l) (start .args .table .now) _ _ flips4 (start .pre .0 .table) (copied-double 2 (start .args .shape .l) (start .args .table .now) _ _ flips2 (start .pre .0 .table) (copied-double 1 (start .args .shape .l) (start .args .table .now) _ _ flips1 (start .pre .0 .table) (copied-one (start .args .shape .l) (start .args .table .now) (start .args .s .now) (start .pre .1 .0) (ap (λ y. y ++ drop (start .args .shape .l) (start .args .s .now)) same)) (at-twice1 .twice1 .ensures)) (at-twice2 .twice2 .ensures)) (at-twice4 .twice4 .ensures)) (at-twice8 .twice8 .ensures))
+    copied-less _ 16 (start .args .shape .l) (start .args .table .now) _ (omega arith) (copied-double 8 (start .args .shape .l) (start .args .table .now) _ _ flips8 (start .pre .0 .table) (copied-double 4 (start .args .shape .l) (start .args .table .now) _ _ flips4 (start .pre .0 .table) (copied-double 2 (start .args .shape .l) (start .args .table .now) _ _ flips2 (start .pre .0 .table) (copied-double 1 (start .args .shape .l) (start .args .table .now) _ _ flips1 (start .pre .0 .table) (copied-one (start .args .shape .l) (start .args .table .now) (start .args .s .now) (start .pre .1 .0) (ap (λ y. y ++ drop (start .args .shape .l) (start .args .s .now)) (at-copy .copy .ensures))) (at-twice1 .twice1 .ensures)) (at-twice2 .twice2 .ensures)) (at-twice4 .twice4 .ensures)) (at-twice8 .twice8 .ensures))
 
 pub copies-spec : {M : Type 1} → statement M
 copies-spec =

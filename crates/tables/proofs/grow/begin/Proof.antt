@@ -1,12 +1,10 @@
-use mathlib.Core.Path.{_≡_, refl, sym, _∙_}
+use mathlib.Core.Path.{_≡_, refl}
 use mathlib.Core.List.{_++_}
-use Prim.Native.Nat.{ℕ, _+_, _-_, _*_, _≤_}
+use Prim.Native.Nat.{ℕ, _-_, _*_, _≤_}
 use native.Mathlib.Omega.{arith}
 use borrow.Author.Needs.{needs}
-use lib.ListN.{length, take, drop}
+use lib.ListN.{length, drop}
 use Rattle.trellis.specs.Lists.{blocks}
-use Rattle.blocks.proofs.Filling.{part-size}
-use Rattle.blocks.proofs.Leaving.{copied-all}
 use Rattle.tables.proofs.Parts.{fill-start, fill-turn, fill-end}
 use Rattle.tables.proofs.grow.begin.Statement.{statement}
 use Rattle.tables.proofs.grow.begin.Tie as tie
@@ -52,14 +50,10 @@ loop-again c =
     let at-part-at = at-copy .before .before in
     let at-loop = at-part-at .before .before in
     let start = at-loop .before .before .before in
-    let x = at-part-at .part-at .ensures in
-    let l = start .args .shape .l in
-    let a = at-part-at .part-at .result in
-    let m = part-size (at-loop .loop .table) a (a + l) l refl (omega (arith, x, start .pre .1)) in
-    let same = copied-all (start .args .line .now) (take (a + l - a) (drop a (at-loop .loop .table))) (at-copy .copy .ensures) (start .pre .1 .0 ∙ sym m) (omega (arith, m, start .pre .0 .table .even)) in (
+    let x = at-part-at .part-at .ensures in (
       omega arith,
       fill-turn (λ (i : ℕ). start .args .line .now) (start .args .shape .l) (λ (j : ℕ). start .pre .1 .0) (start .args .table .now) (at-loop .loop .table) (at-loop .loop .j) _ _ (x .0) refl (omega (arith, x, start .pre .1))
-          (at-loop .loop .inv .1 .1) same,
+          (at-loop .loop .inv .1 .1) (at-copy .copy .ensures),
     )
 
 same-length : tie.Need-same-length Inv-loop μ-loop

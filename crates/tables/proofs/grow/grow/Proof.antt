@@ -4,7 +4,6 @@ use Prim.Native.Nat.{suc, _-_, _*_, _<_}
 use native.Mathlib.Omega.{arith}
 use borrow.Author.Needs.{needs}
 use lib.ListN.{length, take, drop}
-use Rattle.blocks.proofs.Leaving.{raised-all}
 use Rattle.tables.specs.inner.Tables.{grownList}
 use Rattle.tables.proofs.Parts.{past-first, front-length}
 use Rattle.tables.proofs.Growing.{half-start, half-length, half-turn, half-end}
@@ -57,7 +56,10 @@ slice-aggregate-raise c =
     sym (front-length (start .args .shape .l) (start .args .shape .k) (at-loop .loop .table) (omega arith) (omega arith))
 
 raise-requires : tie.Need-raise-requires Inv-loop μ-loop
-raise-requires c κs = search needs
+raise-requires c κs =
+    let at-loop = c .before .before in
+    let start = at-loop .before .before .before .before .before in
+    let e = front-length (start .args .shape .l) (start .args .shape .k) (at-loop .loop .table) (omega arith) (omega arith) in (start .pre .1 .0 .0 ∙ sym e, (omega (arith, e, start .pre .0 .table .even), omega (arith, e, start .pre .0 .table .limit)))
 
 same-length : tie.Need-same-length Inv-loop μ-loop
 same-length c = search needs
@@ -70,12 +72,10 @@ returns c =
     let at-raise = c .before .before in
     let at-loop = at-raise .before .before .before in
     let start = at-loop .before .before .before .before .before in
-    let e = front-length (start .args .shape .l) (start .args .shape .k) (at-loop .loop .table) (omega arith) (omega arith) in
-    let risen = raised-all (start .args .line .now) (take (start .args .shape .l) (at-loop .loop .table)) (at-raise .raise .ensures) (start .pre .1 .0 .0 ∙ sym e) (omega (arith, e, start .pre .0 .table .even)) in
     let z : at-loop .loop .j ≡ 0 = omega arith in
     half-end (start .args .shape .greatest) (start .args .shape .q) (start .args .shape .l) (start .args .shape .k) (start .args .line .now) (start .args .table .now) (start .pre .1 .1) (at-loop .loop .table) (omega arith)
     (at-loop .loop .inv .1 .1 ∙ ap (λ y. take (suc y * (start .args .shape .l)) (start .args .table .now) ++ drop (suc y * (start .args .shape .l)) (grownList (start .args .shape .greatest) (start .args .shape .q) (start .args .shape .l) (start .args .shape .k) (start .args .line .now) (start .args .table .now))) z)
-    risen
+    (at-raise .raise .ensures)
 
 pub grow-spec : {M : Type 1} → statement M
 grow-spec =

@@ -1,10 +1,6 @@
-use mathlib.Core.Path.{refl, sym}
-use Prim.Native.Nat.{_+_, _-_}
-use native.Mathlib.Omega.{arith}
+use mathlib.Core.Path.{refl}
 use borrow.Author.Needs.{needs}
-use lib.ListN.{length, take, drop}
-use Rattle.blocks.proofs.Filling.{part-size}
-use Rattle.blocks.proofs.Leaving.{copied-all}
+use lib.ListN.{length}
 use Rattle.tables.proofs.Parts.{patched}
 use Rattle.tables.proofs.grow.keep.Statement.{statement}
 use Rattle.tables.proofs.grow.keep.Tie as tie
@@ -35,11 +31,7 @@ returns c =
     let at-copy = c .before .before in
     let at-part-at = at-copy .before .before in
     let start = at-part-at .before .before .before in
-    let w = length (start .args .table .now) in
-    let a = at-part-at .part-at .result in
-    let m = part-size (start .args .kept .now) a (a + w) w refl (omega (arith, at-part-at .part-at .ensures, start .pre .1)) in
-    let same = copied-all (start .args .table .now) (take (a + w - a) (drop a (start .args .kept .now))) (at-copy .copy .ensures) (sym m) (omega (arith, m, start .pre .0)) in
-    patched (start .args .kept .now) (start .args .i) w _ _ (at-part-at .part-at .ensures .0) refl same
+    patched (start .args .kept .now) (start .args .i) (length (start .args .table .now)) _ _ (at-part-at .part-at .ensures .0) refl (at-copy .copy .ensures)
 
 pub keep-spec : {M : Type 1} → statement M
 keep-spec =

@@ -6,11 +6,9 @@ use Rattle.tables.proofs.join.copy_at.Tie as tie
 use Rattle.tables.proofs.join.copy_at.Reads as reads
 use Rattle.tables.proofs.join.copy_at.Lts as lts
 
--- src/join.rt:41:5
 mul-result : tie.Need-mul-result
 mul-result c = let r = copy-room (c .args .q) (c .args .l) (c .args .b) (c .pre .0 .0) (c .pre .0 .1) (c .pre .1 .0) (c .pre .1 .1) in omega (arith, r)
 
--- src/join.rt:37:1
 returns : tie.Need-returns
 returns c = (refl, copy-room (c .args .q) (c .args .l) (c .args .b) (c .pre .0 .0) (c .pre .0 .1) (c .pre .1 .0) (c .pre .1 .1))
 

@@ -6,7 +6,7 @@ use borrow.Author.Needs.{needs}
 use lib.ListN.{length, drop}
 use Rattle.trellis.specs.Lists.{tab}
 use Rattle.tables.specs.inner.Lanes.{fourAt}
-use Rattle.blocks.proofs.Turns.{tab-end}
+use Rattle.tables.proofs.Turns.{tab-end}
 use Rattle.tables.proofs.Blocks.{four-turn}
 use Rattle.tables.proofs.join.four.Statement.{statement}
 use Rattle.tables.proofs.join.four.Tie as tie

@@ -6,11 +6,9 @@ use Rattle.tables.proofs.join.place.Tie as tie
 use Rattle.tables.proofs.join.place.Reads as reads
 use Rattle.tables.proofs.join.place.Lts as lts
 
--- src/join.rt:17:5
 add-result : tie.Need-add-result
 add-result c = omega (arith, place-small (c .args .turn) (c .args .l) (c .args .v) (c .pre .0) (c .pre .1 .0 .0) (c .pre .1 .0 .1))
 
--- src/join.rt:12:1
 returns : tie.Need-returns
 returns c = place-is (c .args .at) (c .args .turn) (c .args .l) (c .args .v) (c .pre .0) (c .pre .1 .0 .0) (c .pre .1 .0 .1) refl
 

@@ -6,8 +6,7 @@ use borrow.Author.Needs.{needs}
 use lib.ListN.{length, drop, length-set}
 use Rattle.trellis.specs.Lists.{tab}
 use Rattle.tables.specs.inner.Lanes.{laneAt}
-use Rattle.blocks.proofs.Turns.{tab-turn, lanes-end}
-use Rattle.tables.proofs.Turns.{lane-value}
+use Rattle.tables.proofs.Turns.{tab-turn, lanes-end, lane-value}
 use Rattle.tables.proofs.lane.lane.Statement.{statement}
 use Rattle.tables.proofs.lane.lane.Tie as tie
 

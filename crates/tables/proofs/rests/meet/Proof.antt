@@ -6,19 +6,15 @@ use Rattle.tables.proofs.rests.meet.Reads as reads
 use Rattle.tables.proofs.rests.meet.Lts as lts
 use Rattle.tables.proofs.rests.left.Reads as left-reads
 
--- src/num.rt:29:12
 min-u8-requires : tie.Need-min-u8-requires
 min-u8-requires c κs = search needs
 
--- src/num.rt:29:33
 left-requires : tie.Need-left-requires
 left-requires c κs = search needs
 
--- src/num.rt:26:1
 returns : tie.Need-returns
 returns c = cut-lower (c .before .before .args .v) (c .before .before .args .x) (c .before .if1 .taken) (c .min-u8 .ensures)
 
--- src/num.rt:26:1
 returns-2 : tie.Need-returns-2
 returns-2 c = cut-left (c .before .before .args .v) (c .before .before .args .x) (c .before .if1 .left) (c .left .ensures)
 

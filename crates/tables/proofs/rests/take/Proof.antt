@@ -6,15 +6,12 @@ use Rattle.tables.proofs.rests.take.Tie as tie
 use Rattle.tables.proofs.rests.take.Reads as reads
 use Rattle.tables.proofs.rests.take.Lts as lts
 
--- src/num.rt:36:23
 sub-result : tie.Need-sub-result
 sub-result c = search needs
 
--- src/num.rt:33:1
 returns : tie.Need-returns
 returns c = search needs
 
--- src/num.rt:33:1
 returns-2 : tie.Need-returns-2
 returns-2 c = taken-cost (c .before .args .u) (c .if1 .left) refl
 

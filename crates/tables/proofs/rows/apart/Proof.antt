@@ -1,10 +1,6 @@
-use mathlib.Core.Path.{refl, sym, _∙_}
-use Prim.Native.Nat.{_+_, _-_}
+use mathlib.Core.Path.{refl}
 use native.Mathlib.Omega.{arith}
 use borrow.Author.Needs.{needs}
-use lib.ListN.{take, drop}
-use Rattle.blocks.proofs.Filling.{part-size}
-use Rattle.blocks.proofs.Leaving.{copied-all, raised-after}
 use Rattle.tables.proofs.Passing.{apart-is}
 use Rattle.tables.proofs.rows.apart.Statement.{statement}
 use Rattle.tables.proofs.rows.apart.Tie as tie
@@ -51,15 +47,8 @@ returns c =
     let at-copy = at-raise .before .before .before .before .before in
     let at-part-at = at-copy .before .before .before in
     let start = at-part-at .before .before .before .before .before in
-    let l = start .args .shape .l in
-    let a = at-part-at .part-at .result in
-    let x = at-part-at .part-at .ensures in
-    let m = part-size (start .args .after .now) a (a + l) l refl (omega (arith, x, start .pre .1)) in
-    let n = part-size (start .args .before .now) a (a + l) l refl (omega (arith, x, start .pre .1)) in
-    let same = copied-all (take (a + l - a) (drop a (start .args .after .now))) (start .args .out .now) (at-copy .copy .ensures) (m ∙ sym (start .pre .1 .1 .1)) (omega (arith, start .pre .1 .1 .1, start .pre .0 .table .even)) in
-    let risen = raised-after (take (a + l - a) (drop a (start .args .before .now))) (at-copy .copy .ensures) (at-raise .raise .ensures) (omega (arith, n)) (omega (arith, start .pre .0 .table .even)) in
     apart-is (start .args .shape .greatest) (start .args .shape .q) (start .args .shape .l) (start .args .shape .k) (start .args .before .now) (start .args .after .now) _ _ (at-part-at .part-at .ensures .0) refl
-    same (omega arith) risen
+    (at-copy .copy .ensures) (omega arith) (at-raise .raise .ensures)
 
 pub apart-spec : {M : Type 1} → statement M
 apart-spec =

@@ -1,10 +1,6 @@
-use mathlib.Core.Path.{refl, sym, _∙_}
-use Prim.Native.Nat.{_+_, _-_}
-use native.Mathlib.Omega.{arith}
+use mathlib.Core.Path.{refl, _∙_}
+use Prim.Native.Nat.{_-_}
 use borrow.Author.Needs.{needs}
-use lib.ListN.{take, drop}
-use Rattle.blocks.proofs.Filling.{part-size}
-use Rattle.blocks.proofs.Leaving.{copied-all}
 use Rattle.tables.proofs.Parts.{patched, part-of}
 use Rattle.tables.proofs.rows.end.Statement.{statement}
 use Rattle.tables.proofs.rows.end.Tie as tie
@@ -54,14 +50,8 @@ returns c =
     let at-part-at2 = at-copy .before .before .before in
     let at-part-at = at-part-at2 .before in
     let start = at-part-at .before .before .before .before in
-    let l = start .args .shape .l in
-    let t = at-part-at .part-at .result in
-    let a = at-part-at2 .part-at2 .result in
-    let m = part-size (start .args .tables .now) t (t + l) l refl (omega (arith, at-part-at .part-at .ensures, start .pre .1)) in
-    let n = part-size (start .args .out .now) a (a + l) l refl (omega (arith, at-part-at2 .part-at2 .ensures, start .pre .1)) in
-    let same = copied-all (take (t + l - t) (drop t (start .args .tables .now))) (take (a + l - a) (drop a (start .args .out .now))) (at-copy .copy .ensures) (m ∙ sym n) (omega (arith, n, start .pre .0 .table .even)) in
     patched (start .args .out .now) (start .args .n) (start .args .shape .l) _ _ (at-part-at2 .part-at2 .ensures .0) refl
-    (same ∙ part-of (start .args .tables .now) _ _ (start .args .shape .k - 1) (start .args .shape .l) (at-part-at .part-at .ensures .0) refl)
+    (at-copy .copy .ensures ∙ part-of (start .args .tables .now) _ _ (start .args .shape .k - 1) (start .args .shape .l) (at-part-at .part-at .ensures .0) refl)
 
 pub end-spec : {M : Type 1} → statement M
 end-spec =

@@ -4,7 +4,6 @@ use Prim.Native.Nat.{suc, _-_, _*_, _<_}
 use native.Mathlib.Omega.{arith}
 use borrow.Author.Needs.{needs}
 use lib.ListN.{length, take, drop}
-use Rattle.blocks.proofs.Leaving.{raised-all}
 use Rattle.tables.specs.inner.Tables.{grownList, sentTo}
 use Rattle.tables.proofs.Parts.{past-first, front-length}
 use Rattle.tables.proofs.Growing.{half-start, half-length, half-turn, half-end}
@@ -70,7 +69,10 @@ slice-aggregate-raise c =
     sym (front-length (start .args .shape .l) (start .args .shape .k) (at-loop .loop .before) (omega arith) (omega arith))
 
 raise-requires : tie.Need-raise-requires Inv-loop μ-loop
-raise-requires c κs = search needs
+raise-requires c κs =
+    let at-loop = c .before .before in
+    let start = at-loop .before .before .before .before .before .before .before .before .before .before .before .before in
+    let e = front-length (start .args .shape .l) (start .args .shape .k) (at-loop .loop .before) (omega arith) (omega arith) in (start .pre .1 .1 .0 ∙ sym e, (omega (arith, e, start .pre .0 .table .even), omega (arith, e, start .pre .0 .table .limit)))
 
 same-length : tie.Need-same-length Inv-loop μ-loop
 same-length c = search needs
@@ -86,12 +88,10 @@ returns c =
     let at-raise = c .before .before in
     let at-loop = at-raise .before .before .before in
     let start = at-loop .before .before .before .before .before .before .before .before .before .before .before .before in
-    let e = front-length (start .args .shape .l) (start .args .shape .k) (at-loop .loop .before) (omega arith) (omega arith) in
-    let risen = raised-all (start .args .line .now) (take (start .args .shape .l) (at-loop .loop .before)) (at-raise .raise .ensures) (start .pre .1 .1 .0 ∙ sym e) (omega (arith, e, start .pre .0 .table .even)) in
     let z : at-loop .loop .j ≡ 0 = omega arith in (
       half-end (start .args .shape .greatest) (start .args .shape .q) (start .args .shape .l) (start .args .shape .k) (start .args .line .now) (start .args .before .now) (start .pre .1 .0 .0) (at-loop .loop .before) (omega arith)
           (at-loop .loop .inv .1 .1 .0 ∙ ap (λ y. take (suc y * (start .args .shape .l)) (start .args .before .now) ++ drop (suc y * (start .args .shape .l)) (grownList (start .args .shape .greatest) (start .args .shape .q) (start .args .shape .l) (start .args .shape .k) (start .args .line .now) (start .args .before .now))) z)
-          risen,
+          (at-raise .raise .ensures),
       at-loop .loop .inv .1 .1 .1 ∙ ap (sentTo (start .args .shape .greatest) (start .args .shape .q) (start .args .shape .l) (start .args .shape .k) (start .args .before .now) (start .args .after .now)) (let y : start .args .shape .k - 1 - at-loop .loop .j ≡ start .args .shape .k - 1 = omega arith in y),
     )
 

@@ -1,13 +1,15 @@
 use Rattle.trellis.specs.Lists.{tab}
-use Rattle.blocks.proofs.Turns.{tab-turn, copied}
+use Rattle.tables.proofs.Turns.{tab-turn, copied}
 use mathlib.Core.Path.{_≡_, refl}
 use mathlib.Core.List.{_++_}
 use Prim.Native.Nat.{ℕ, _+_, _-_, _/_, _≤_}
 use native.Mathlib.Omega.{arith}
 use borrow.Author.Needs.{needs}
 use lib.ListN.{length, drop, getD, length-set}
-use Rattle.blocks.proofs.sixteen.copy.Statement.{statement}
-use Rattle.blocks.proofs.sixteen.copy.Tie as tie
+use Rattle.tables.proofs.lane.copy.Statement.{statement}
+use Rattle.tables.proofs.lane.copy.Tie as tie
+use Rattle.tables.proofs.lane.copy.Reads as reads
+use Rattle.tables.proofs.lane.copy.Lts as lts
 
 abbrev Inv-loop : tie.InvT-loop
 Inv-loop t e₀ i₀ e i = (i ≤ 16) × ((length e ≡ length e₀) × (e ≡ tab (λ (k : ℕ). getD t k 0) i ++ drop i e₀))

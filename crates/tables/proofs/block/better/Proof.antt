@@ -1,4 +1,4 @@
-use Rattle.blocks.proofs.Turns.{tab-turn, lanes-end}
+use Rattle.tables.proofs.Turns.{tab-turn, lanes-end}
 use Rattle.trellis.specs.Lists.{tab}
 use Prim.Native.Nat.{max}
 use mathlib.Core.Path.{_≡_}
@@ -7,8 +7,11 @@ use Prim.Native.Nat.{ℕ, _+_, _-_, _/_, _≤_}
 use native.Mathlib.Omega.{arith}
 use borrow.Author.Needs.{needs}
 use lib.ListN.{length, drop, getD, length-set}
-use Rattle.blocks.proofs.sixteen.better.Statement.{statement}
-use Rattle.blocks.proofs.sixteen.better.Tie as tie
+use Rattle.tables.proofs.block.better.Statement.{statement}
+use Rattle.tables.proofs.block.better.Tie as tie
+use Rattle.tables.proofs.block.better.Reads as reads
+use Rattle.tables.proofs.block.better.Lts as lts
+use Rattle.scalar.proofs.max_u8.Reads as max-u8-reads
 
 abbrev Inv-loop : tie.InvT-loop
 Inv-loop from e t₀ i₀ t i = (i ≤ 16) × ((length t ≡ length t₀) × (t ≡ tab (λ (j : ℕ). max (getD e j 0) (getD from j 0)) i ++ drop i t₀))

@@ -1,2 +1,0 @@
--- What the public calls leave.
-pub mod Calls
