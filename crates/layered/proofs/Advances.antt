@@ -15,8 +15,8 @@ use Rattle.trellis.specs.Check.{decide}
 use Rattle.trellis.specs.Rules.{sizeOf}
 use Rattle.machine.specs.CodeLine.{Code, size, check, edgeAt, columnOf}
 use Rattle.machine.specs.Machine.{found, notFound, symbols, settled}
-use Rattle.machine.specs.Lent.{Lent, lent, updateLent}
-use Rattle.machine.specs.inner.LentEarly.{halted, nextLent, stopLent}
+use Rattle.machine.specs.Lent.{Lent, lent, ended, updateLent}
+use Rattle.machine.specs.inner.LentEarly.{nextLent, stopLent}
 use Rattle.machine.specs.inner.Tables.{edgesBefore, bytesBefore, tableAt}
 use Rattle.machine.specs.inner.InRange.{Advancing}
 use Rattle.trellis.proofs.Loops.{length-tab}
@@ -26,13 +26,13 @@ use Rattle.machine.proofs.InTables.{columns-length, degree-is, column-part}
 use Rattle.codeline.specs.declared.answers.Numbers.{Numbers}
 use Rattle.codeline.specs.Answers.{numbersIn}
 use Rattle.codeline.specs.inner.Coding.{codeOf}
-use Rattle.layered.specs.declared.answers.Stopped.the-variants.{Found, NotFound}
+use Rattle.layered.specs.declared.answers.Outcome.the-variants.{Found, NotFound}
 use Rattle.layered.specs.declared.parity.CheckAt.{CheckAt}
 use Rattle.layered.specs.declared.place.Place.{Place}
 use Rattle.layered.specs.inner.Parity.{EdgeOf}
-use Rattle.layered.specs.inner.Iterations.{RunRoom}
+use Rattle.layered.specs.inner.Iterations.{endedIn, RunRoom}
 use Rattle.layered.specs.inner.Places.{Stands, Around, Updatable}
-use Rattle.layered.specs.inner.Early.{decidedAgain, RetestRoom, Retested, haltedIn, Unsettled, Going}
+use Rattle.layered.specs.inner.Early.{decidedAgain, RetestRoom, Retested, Unsettled, Going}
 use Rattle.layered.proofs.Places.{stands-own}
 use Rattle.layered.proofs.Satisfied.{symbols-are}
 use Rattle.layered.proofs.Runs.{checks-count}
@@ -71,7 +71,7 @@ module _ (first : ℕ) (ds : List ℕ) (n : ℕ) (p r : Place) (A : Around n p r
 
 -- what is left of the updates, after u of them that have not satisfied every check
 module _ (C : Code) (most u : ℕ) (l l₀ : Lent) (not : settled C (l .costs) ≡ false) (left : stopLent C (most - u) u l ≡ stopLent C most 0 l₀) where
-  pub stop-end : u ≡ most → halted notFound u l ≡ stopLent C most 0 l₀
+  pub stop-end : u ≡ most → ended notFound u l ≡ stopLent C most 0 l₀
   unfolding stopLent
   stop-end e = let z : most - u ≡ 0 = omega arith in sym (rw (z, not)) ∙ left
 
@@ -80,11 +80,11 @@ module _ (C : Code) (most u : ℕ) (l l₀ : Lent) (not : settled C (l .costs) �
     unfolding stopLent
     stop-more = let z : most - u ≡ suc (most - (u + 1)) = omega arith in ap (stopLent C (most - (u + 1)) (u + 1)) o ∙ sym (rw (z, not)) ∙ left
 
-    pub stop-found : settled C (l′ .costs) ≡ true → halted found (u + 1) l′ ≡ stopLent C most 0 l₀
+    pub stop-found : settled C (l′ .costs) ≡ true → ended found (u + 1) l′ ≡ stopLent C most 0 l₀
     unfolding stopLent
     stop-found e = sym (by (most - (u + 1))) ∙ stop-more
       where
-        by : (k : ℕ) → stopLent C k (u + 1) l′ ≡ halted found (u + 1) l′
+        by : (k : ℕ) → stopLent C k (u + 1) l′ ≡ ended found (u + 1) l′
         by zero = rw e
         by (suc k) = rw e
 
@@ -191,7 +191,7 @@ module _ (k : Numbers) (ds cs ws : List ℕ) (most : ℕ) (l₀ : Lent) where
       }
 
   module _ (u : ℕ) (here : Place) (from : CheckAt) (P s z : List ℕ) (G : Going k ds cs ws most l₀ u here from P s z) where
-    pub going-end : u ≡ most → haltedIn (NotFound u) (lent P s) ≡ stopLent D most 0 l₀
+    pub going-end : u ≡ most → endedIn (NotFound u) (lent P s) ≡ stopLent D most 0 l₀
     going-end e = stop-end D most u (lent P s) l₀ (G .unsettled .unsettled) (G .left) e
 
     module _ (b : Bool) (i : b ≡ ltb u (k .checks)) where
@@ -211,7 +211,7 @@ module _ (k : Numbers) (ds cs ws : List ℕ) (most : ℕ) (l₀ : Lent) where
           checks-all : n ≡ length (D .checks)
           checks-all = all ∙ sym (checks-count k ds cs ws (G .unsettled .coded))
 
-          pub going-found : r .check ≡ n → haltedIn (Found (u + 1)) (lent P′ s′) ≡ stopLent D most 0 l₀
+          pub going-found : r .check ≡ n → endedIn (Found (u + 1)) (lent P′ s′) ≡ stopLent D most 0 l₀
           going-found e =
               stop-found D most u (lent P s) l₀ (G .unsettled .unsettled) (G .left) h (lent P′ s′) on (sym (R .test-is) ∙ eq-eqb _ _ (e ∙ checks-all))
 
@@ -230,7 +230,7 @@ module _ (k : Numbers) (ds cs ws : List ℕ) (most : ℕ) (l₀ : Lent) where
               }
 
 -- the first test
-pub stop-first : (C : Code) (k u : ℕ) (l : Lent) → settled C (l .costs) ≡ true → halted found u l ≡ stopLent C k u l
+pub stop-first : (C : Code) (k u : ℕ) (l : Lent) → settled C (l .costs) ≡ true → ended found u l ≡ stopLent C k u l
 unfolding stopLent
 stop-first C zero u l e = sym (rw e)
 stop-first C (suc k) u l e = sym (rw e)

@@ -21,7 +21,10 @@ use Rattle.trellis.specs.Reply.{Reply, refusal}
 use Rattle.machine.specs.CodeLine.{Read, good, bad, Code, numbersOf, parse, size, columnOf, zeroIn, frameFault}
 use Rattle.machine.specs.Machine.{Status, symbols, margins, run, place, used}
 use Rattle.machine.specs.Lent.{Lent, lent, Ended, ended, goLent}
-use Rattle.machine.specs.Decoding.{Buffers, After, lending, outcome, holding, storeOf, decodeTests, admittedUnder, admitted, decodingUnder, decoding, Leaves, Decodes, Room}
+use Rattle.machine.specs.Early.{mostUpdates, decodingEarly}
+use Rattle.machine.specs.inner.LentEarly.{stopLent}
+use Rattle.machine.proofs.EarlyLent.{early-stands}
+use Rattle.machine.specs.Decoding.{Buffers, After, lending, outcome, holding, storeOf, decodeTests, admittedUnder, admitted, decoding, Leaves, Room}
 use Rattle.machine.specs.inner.Faults.{roomFault}
 use Rattle.machine.specs.inner.Tables.{bytesBefore}
 use Rattle.machine.proofs.Ranges.{frame-ranged}
@@ -40,7 +43,7 @@ use Rattle.layered.specs.declared.answers.Answer.the-variants.{Decoded}
 use Rattle.layered.specs.Answers.{answerReply}
 use Rattle.machine.specs.inner.InRange.{Below}
 use Rattle.layered.specs.inner.Iterations.{endedIn, RunRoom}
-use Rattle.layered.specs.inner.Calls.{decodingOf}
+use Rattle.layered.specs.inner.Calls.{runLent, callUnder, decodingOf, called}
 use Rattle.frame.specs.Answers.{frameFaultOf, faultOf}
 use Rattle.frame.proofs.Frames.{decode-numbered, decode-parts, frame-counted}
 use Rattle.machine.proofs.Places.{length-part}
@@ -63,6 +66,11 @@ module _ (C : Code) (f : List ℕ) (b : Buffers) where
   fault-parts : faultIn ≡ pick (eqb (frameFault C f) 0) (roomFault C b) (frameFault C f)
   unfolding frameFault roomFault
   fault-parts = decode-parts (size C) (C .columns) (used C) f (length (b .symbols)) (length (b .costs)) (length (b .store)) (length (b .margins))
+
+-- a refusal changes no buffer
+bad-call : (early : Bool) (k : ℕ) (f : List ℕ) (b : Buffers) → callUnder early (bad k) f b ≡ record { reply = refusal k; buffers = b }
+bad-call false k f b = refl
+bad-call true k f b = refl
 
 -- no number but 0 in two steps
 split-fault : (x r : ℕ) → pick (eqb x 0) r x ≡ 0 → (x ≡ 0) × (r ≡ 0)
@@ -102,10 +110,10 @@ module _ (k : Numbers) (ds cs ws : List ℕ) (T : Coded k ds cs ws) (n : ℕ) (N
     unfolding faultOf
     fault-is = e ∙ rw used-is
 
-    -- a refusal, of decoding or of a call that refuses as decoding does
-    pub refused-leaves : (call : Read Code → After) → call (bad r) ≡ record { reply = refusal r; buffers = b } → (r ≡ 0 → ⊥) → Leaves (call (admittedUnder (good C) f b)) (refusal r) b
-    refused-leaves call i h =
-        let x : call (admittedUnder (good C) f b) ≡ record { reply = refusal r; buffers = b } = let q : call (admittedUnder (good C) f b) ≡ call (bad r) = by-fault C f b call ∙ rw (← fault-is, ne-eqb r 0 h) in q ∙ i in
+    pub refused-leaves : (early : Bool) → (r ≡ 0 → ⊥) → Leaves (decodingOf early C f b) (refusal r) b
+    refused-leaves early h =
+        let call : Read Code → After = λ l. callUnder early l f b in
+        let x : call (admittedUnder (good C) f b) ≡ record { reply = refusal r; buffers = b } = let q : call (admittedUnder (good C) f b) ≡ call (bad r) = by-fault C f b call ∙ rw (← fault-is, ne-eqb r 0 h) in q ∙ bad-call early r f b in
         rw x record { replies = refl; symbols-then = refl; costs-then = refl; store-then = refl; margins-then = refl }
 
     -- no refusal
@@ -158,33 +166,38 @@ module _ (k : Numbers) (ds cs ws : List ℕ) (T : Coded k ds cs ws) (n : ℕ) (N
         pub copied-room : Below 255 f → (x A S : List ℕ) → length x ≡ n → 2048 ≤ length A → 2048 ≤ length S → RunRoom k ds cs ws true (take (length f) (f′ ++ drop (length f) c)) s x A S
         copied-room d x A S l p q = start-room d _ x A S copied-front l p q
 
-        -- the run of decode
-        pub copied-leaves : (o : Outcome) (P x u x′ : List ℕ) → endedIn o (lent P u) ≡ goLent C (k .limit) 0 (lent (take (length f) (f′ ++ drop (length f) c)) s)
-            → x ≡ symbols C P → x′ ≡ margins C P
-            → Leaves (decodingOf C f b) (answerReply (Decoded o)) (lending (x ++ drop n y) (P ++ drop (length f) (f′ ++ drop (length f) c)) u (x′ ++ drop n v))
-        copied-leaves o P x u x′ a j j′ =
+        -- the run, by the machine over the lent buffers
+        call-of : (early : Bool) (o : Outcome) (P u : List ℕ) → endedIn o (lent P u) ≡ runLent early k C (lent (take (length f) (f′ ++ drop (length f) c)) s)
+            → callUnder early (good C) f b ≡ record { reply = answerReply (Decoded o); buffers = holding C P u b }
+        call-of false o P u a =
             let E = reply-is o (lent P u) _ _ _ (a ∙ ap (λ q. goLent C (k .limit) 0 (lent q s)) copied-front ∙ run-stands C (T .good) s (rooms .for-store) f) in
-            rw copied-rest
-            (holds-leaves (λ r. decodingUnder r f b) (answerReply (Decoded o)) P u x x′ (ap₂ (λ r (l : Lent). record { reply = r; buffers = holding C (l .costs) (l .store) b }) (sym (E .0)) (sym (E .1))) j j′)
+            ap₂ (λ r (l : Lent). record { reply = r; buffers = holding C (l .costs) (l .store) b }) (sym (E .0)) (sym (E .1))
+        call-of true o P u a =
+            let q : k .checks * k .limit ≡ mostUpdates C = ap (λ a. a * k .limit) (sym (checks-count k ds cs ws T)) in
+            let E = reply-is o (lent P u) _ _ _ (a ∙ ap₂ (λ n l. stopLent C n 0 (lent l s)) q copied-front ∙ early-stands C (T .good) s (rooms .for-store) f) in
+            ap₂ (λ r (l : Lent). record { reply = r; buffers = holding C (l .costs) (l .store) b }) (sym (E .0)) (sym (E .1))
+
+        pub copied-leaves : (early : Bool) (o : Outcome) (P x u x′ : List ℕ)
+            → endedIn o (lent P u) ≡ runLent early k C (lent (take (length f) (f′ ++ drop (length f) c)) s)
+            → x ≡ symbols C P → x′ ≡ margins C P
+            → Leaves (decodingOf early C f b) (answerReply (Decoded o)) (lending (x ++ drop n y) (P ++ drop (length f) (f′ ++ drop (length f) c)) u (x′ ++ drop n v))
+        copied-leaves early o P x u x′ a j j′ =
+            rw copied-rest (holds-leaves (λ r. callUnder early r f b) (answerReply (Decoded o)) P u x x′ (call-of early o P u a) j j′)
 
 -- a call whose code line is refused, and one whose code line says C
-module _ (s₀ f : List ℕ) (b : Buffers) (call : Read Code → After) where
-  pub refused-calls : (h : Header) → headerNumbers h ≡ numbersOf (parse s₀) → (k : ℕ) → call (bad k) ≡ record { reply = refusal k; buffers = b } → h ≡ HeaderRefused k
-      → Leaves (call (admitted s₀ f b)) (refusal k) b
-  unfolding admitted
-  refused-calls h e k o i =
-      let x : call (admitted s₀ f b) ≡ record { reply = refusal k; buffers = b } = ap (λ r. call (admittedUnder r f b)) (header-refused s₀ h e k i) ∙ o in
-      rw x record { replies = refl; symbols-then = refl; costs-then = refl; store-then = refl; margins-then = refl }
-
-  pub said-calls : (C : Code) → parse s₀ ≡ good C → (r : Reply) (b′ : Buffers) → Leaves (call (admittedUnder (good C) f b)) r b′ → Leaves (call (admitted s₀ f b)) r b′
-  unfolding admitted
-  said-calls C e r b′ L = rw e L
-
 module _ (s₀ f : List ℕ) (b : Buffers) where
-  pub refused-decodes : (h : Header) → headerNumbers h ≡ numbersOf (parse s₀) → (k : ℕ) → h ≡ HeaderRefused k → Decodes s₀ f b (refusal k) b
-  unfolding decoding
-  refused-decodes h e k i = refused-calls s₀ f b (λ r. decodingUnder r f b) h e k refl i
+  call-is : (early : Bool) → called early s₀ f b ≡ callUnder early (admitted s₀ f b) f b
+  unfolding decoding decodingEarly
+  call-is false = refl
+  call-is true = refl
 
-  pub said-decodes : (C : Code) → parse s₀ ≡ good C → (r : Reply) (b′ : Buffers) → Leaves (decodingOf C f b) r b′ → Decodes s₀ f b r b′
-  unfolding decoding
-  said-decodes C e r b′ L = said-calls s₀ f b (λ r. decodingUnder r f b) C e r b′ L
+  module _ (early : Bool) where
+    pub refused-calls : (h : Header) → headerNumbers h ≡ numbersOf (parse s₀) → (k : ℕ) → h ≡ HeaderRefused k → Leaves (called early s₀ f b) (refusal k) b
+    unfolding admitted
+    refused-calls h e k i =
+        let x : called early s₀ f b ≡ record { reply = refusal k; buffers = b } = call-is early ∙ ap (λ r. callUnder early (admittedUnder r f b) f b) (header-refused s₀ h e k i) ∙ bad-call early k f b in
+        rw x record { replies = refl; symbols-then = refl; costs-then = refl; store-then = refl; margins-then = refl }
+
+    pub said-calls : (C : Code) → parse s₀ ≡ good C → (r : Reply) (b′ : Buffers) → Leaves (decodingOf early C f b) r b′ → Leaves (called early s₀ f b) r b′
+    unfolding admitted
+    said-calls C e r b′ L = rw (call-is early, e) L

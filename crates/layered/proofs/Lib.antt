@@ -8,6 +8,5 @@ pub mod Runs
 pub mod Retests
 pub mod Advances
 pub mod Decoded
-pub mod EarlyDecoded
 pub mod Steps
 pub mod TwoCalls

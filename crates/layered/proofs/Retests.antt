@@ -41,15 +41,12 @@ set-own l c h =
     ])
 
 -- one column decided again
-module _ (q c z : ℕ) (P y : List ℕ) (e : z ≡ decide (part P (c * q) (c * q + q - c * q)) .symbol) where
-  whole : z ≡ decide (columnOf q P c) .symbol
-  whole = e ∙ ap (λ k. decide (part P (c * q) k) .symbol) (add-sub-cancel-left (c * q) q)
-
+module _ (q c z : ℕ) (P y : List ℕ) (e : z ≡ decide (columnOf q P c) .symbol) where
   pub decided-same : c < length y → getD y c 0 ≡ z → y ≡ set y c (decide (columnOf q P c) .symbol)
-  decided-same h i = sym (set-own y c h) ∙ ap (set y c) (i ∙ whole)
+  decided-same h i = sym (set-own y c h) ∙ ap (set y c) (i ∙ e)
 
   pub decided-other : set y c z ≡ set y c (decide (columnOf q P c) .symbol)
-  decided-other = ap (set y c) whole
+  decided-other = ap (set y c) e
 
 -- one more
 pub again-start : (q : ℕ) (P cs z : List ℕ) → z ≡ decidedAgain q P cs 0 z

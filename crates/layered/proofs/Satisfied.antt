@@ -4,7 +4,6 @@ use mathlib.Core.Path.{_≡_, refl, sym, ap, ap₂, _∙_}
 use mathlib.Core.Bool.{Bool, true, false}
 use mathlib.Core.List.{List, _++_}
 use Prim.Native.Nat.{ℕ, zero, suc, _+_, _-_, _*_, _≤_, _<_}
-use native.Mathlib.Nat.{add-sub-cancel-left}
 use native.Mathlib.Decide.{ℕ-discrete}
 use native.Mathlib.Numerals.{add-one}
 use native.Mathlib.Omega.{arith}
@@ -12,7 +11,7 @@ use lib.Bits.{bitXor}
 use lib.Dec.{eqb}
 use lib.ListN.{length, getD, drop, set}
 use borrow.Author.Tests.{eq-eqb, ne-eqb}
-use Rattle.trellis.specs.Lists.{tab, part, allTo}
+use Rattle.trellis.specs.Lists.{tab, allTo}
 use Rattle.trellis.specs.Field.{xor, product}
 use Rattle.trellis.specs.Check.{firstZero, decide}
 use Rattle.trellis.specs.Rules.{powerOf, sizeOf}
@@ -35,8 +34,8 @@ use Rattle.machine.proofs.Places.{length-part}
 
 -- a loop over the columns of q costs, which leaves g of each: its turn and its end
 pub each-turn : (g : List ℕ → ℕ) (q : ℕ) (P d now : List ℕ) (c z : ℕ) → c < length d → now ≡ tab (λ k. g (columnOf q P k)) c ++ drop c d
-    → z ≡ g (part P (c * q) (c * q + q - c * q)) → set now c z ≡ tab (λ k. g (columnOf q P k)) (c + 1) ++ drop (c + 1) d
-each-turn g q P d now c z h o i = rw (o, i, add-sub-cancel-left (c * q) q) (tab-more (λ k. g (columnOf q P k)) d c h)
+    → z ≡ g (columnOf q P c) → set now c z ≡ tab (λ k. g (columnOf q P k)) (c + 1) ++ drop (c + 1) d
+each-turn g q P d now c z h o i = rw (o, i) (tab-more (λ k. g (columnOf q P k)) d c h)
 
 pub each-done : (g : List ℕ → ℕ) (q : ℕ) (P d now : List ℕ) (c : ℕ) → c ≡ length d → now ≡ tab (λ k. g (columnOf q P k)) c ++ drop c d
     → now ≡ tab (λ k. g (columnOf q P k)) (length d)

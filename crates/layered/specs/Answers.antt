@@ -8,20 +8,12 @@ use Rattle.layered.specs.declared.answers.Answer.the-variants.{Decoded, 
 use Rattle.layered.specs.declared.answers.Stage.{Stage}
 use Rattle.layered.specs.declared.answers.Stage.the-variants.{Running, Found as StageFound, NotFound as StageNotFound}
 use Rattle.layered.specs.declared.answers.Stage.the-variants.{Refused as StageRefused}
-use Rattle.layered.specs.declared.answers.Stopped.the-variants.{Found as FoundEarly, NotFound as NotFoundEarly}
-use Rattle.layered.specs.declared.answers.EarlyAnswer.{EarlyAnswer}
-use Rattle.layered.specs.declared.answers.EarlyAnswer.the-variants.{Decoded as DecodedEarly, Refused as RefusedEarly}
 
+-- the value is t, or the number of check updates
 abbrev pub answerReply : Answer → Reply
 answerReply (Decoded (Found t)) = foundIn t
 answerReply (Decoded (NotFound t)) = notFoundIn t
 answerReply (Refused k) = refusal k
-
--- the value is the number of check updates
-abbrev pub earlyReply : EarlyAnswer → Reply
-earlyReply (DecodedEarly (FoundEarly u)) = foundIn u
-earlyReply (DecodedEarly (NotFoundEarly u)) = notFoundIn u
-earlyReply (RefusedEarly k) = refusal k
 
 -- where a load or an iteration ends
 abbrev pub ends : ℕ → ℕ → Ends

@@ -1,9 +1,9 @@
 // What the calls answer.
 
-// How a run of the machine ended, with its iterations.
+// How a run of the machine ended: with its iterations, or with its check updates where it may stop inside an iteration.
 pub enum Outcome {
-    Found(u8),
-    NotFound(u8),
+    Found(u16),
+    NotFound(u16),
 }
 
 // A decoding's outcome, or the number of the refusal.
@@ -16,18 +16,6 @@ pub enum Answer {
 pub struct Counted {
     pub answer: Answer,
     pub columns: usize,
-}
-
-// How a run that may stop inside an iteration ended, with its check updates.
-pub enum Stopped {
-    Found(u16),
-    NotFound(u16),
-}
-
-// Where such a decoding stopped, or the number of the refusal.
-pub enum EarlyAnswer {
-    Decoded(Stopped),
-    Refused(u8),
 }
 
 // Where a load or an iteration ended.

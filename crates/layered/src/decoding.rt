@@ -1,21 +1,122 @@
-// Decoding over lent tables and lists to work in: the code is read, then its refusals, or the run.
+// Decoding over lent tables and lists to work in: the code is read, then its refusals, or the run. `early`: it may stop inside an
+// iteration.
 use crate::answers::Answer;
 use crate::answers::Counted;
+use crate::answers::Outcome;
+use crate::early;
 use crate::iterate;
+use crate::parity;
 use codeline::answers::Header;
 use codeline::answers::Numbers;
 use scalar::sizes;
 ghost use mathlib.Core.Path.{_≡_};
+ghost use mathlib.Core.Bool.{true};
 ghost use Prim.Native.Nat.{_≤_};
+ghost use lib.ListN.{length};
 ghost use Rattle.trellis.specs.Sizes.{mostSymbols};
 ghost use Rattle.machine.specs.CodeLine.{parse, numbersOf, columnsRead};
-ghost use Rattle.machine.specs.Decoding.{lending, Leaves, Decodes};
+ghost use Rattle.machine.specs.Machine.{symbols as symbolsOf, margins as marginsOf};
+ghost use Rattle.machine.specs.Lent.{lent};
+ghost use Rattle.machine.specs.Decoding.{lending, Leaves};
 ghost use Rattle.layered.specs.Answers.{answerReply};
 ghost use Rattle.codeline.specs.inner.Coding.{codeOf};
-ghost use Rattle.layered.specs.inner.Calls.{decodingOf, CodeRoom};
+ghost use Rattle.layered.specs.inner.Iterations.{endedIn, RunRoom};
+ghost use Rattle.layered.specs.inner.Calls.{runLent, decodingOf, called, CodeRoom};
+
+// The machine on the costs in `costs`.
+fn run(
+    early: bool,
+    numbers: Numbers,
+    degrees: &[u8],
+    columns: &[u16],
+    weights: &[u8],
+    symbols: &mut [u8],
+    costs: &mut [u16],
+    store: &mut [u8],
+    arrived: &mut [u8],
+    sent: &mut [u8],
+) -> Outcome
+    requires { ⌜ RunRoom numbers (now degrees) (now columns) (now weights) true
+        (now costs) (now store) (now symbols) (now arrived) (now sent) ⌝ }
+    ensures { λ r. ⌜ endedIn r (lent (now (costs .exit)) (now (store .exit)))
+        ≡ runLent early numbers (codeOf numbers (now (degrees .entry)) (now (columns .entry)) (now (weights .entry)))
+        (lent (now (costs .entry)) (now (store .entry))) ⌝ }
+    ensures { λ _. ⌜ now (symbols .exit)
+        ≡ symbolsOf (codeOf numbers (now (degrees .entry)) (now (columns .entry)) (now (weights .entry)))
+        (now (costs .exit)) ⌝ }
+{
+    if early {
+        return early::run(
+            numbers,
+            degrees,
+            columns,
+            weights,
+            symbols,
+            costs,
+            store,
+            arrived,
+            sent,
+        );
+    }
+    iterate::run(
+        numbers,
+        degrees,
+        columns,
+        weights,
+        symbols,
+        costs,
+        store,
+        arrived,
+        sent,
+    )
+}
+
+// The same, with the margins of the last decisions.
+fn run_to_margins(
+    early: bool,
+    numbers: Numbers,
+    degrees: &[u8],
+    columns: &[u16],
+    weights: &[u8],
+    symbols: &mut [u8],
+    costs: &mut [u16],
+    store: &mut [u8],
+    margins: &mut [u16],
+    arrived: &mut [u8],
+    sent: &mut [u8],
+) -> Outcome
+    requires { ⌜ RunRoom numbers (now degrees) (now columns) (now weights) true
+        (now costs) (now store) (now symbols) (now arrived) (now sent)
+        × (length (now margins) ≡ numbers .columns) ⌝ }
+    ensures { λ r. ⌜ endedIn r (lent (now (costs .exit)) (now (store .exit)))
+        ≡ runLent early numbers (codeOf numbers (now (degrees .entry)) (now (columns .entry)) (now (weights .entry)))
+        (lent (now (costs .entry)) (now (store .entry))) ⌝ }
+    ensures { λ _. ⌜ now (symbols .exit)
+        ≡ symbolsOf (codeOf numbers (now (degrees .entry)) (now (columns .entry)) (now (weights .entry)))
+        (now (costs .exit)) ⌝ }
+    ensures { λ _. ⌜ now (margins .exit)
+        ≡ marginsOf (codeOf numbers (now (degrees .entry)) (now (columns .entry)) (now (weights .entry)))
+        (now (costs .exit)) ⌝ }
+{
+    let o = run(
+        early,
+        numbers,
+        degrees,
+        columns,
+        weights,
+        symbols,
+        costs,
+        store,
+        arrived,
+        sent,
+    );
+    parity::margins(costs, rules::size(numbers.first), margins);
+    o
+}
 
 // "Decode: code, 12, 13, 2, 3, 4.", 19. Nothing is written before the last refusal has been tested.
 fn under_code(
+    early: bool,
     numbers: Numbers,
     degrees: &[u8],
     columns: &[u16],
@@ -30,7 +131,7 @@ fn under_code(
 ) -> Answer
     requires { ⌜ CodeRoom numbers (now degrees) (now columns) (now weights) (now arrived) (now sent) ⌝ }
     ensures { λ r. ⌜ Leaves
-        (decodingOf (codeOf numbers (now (degrees .entry)) (now (columns .entry)) (now (weights .entry)))
+        (decodingOf early (codeOf numbers (now (degrees .entry)) (now (columns .entry)) (now (weights .entry)))
         (now (frame .entry)) (lending (now (symbols .entry)) (now (costs .entry)) (now (store .entry)) (now (margins .entry))))
         (answerReply r)
         (lending (now (symbols .exit)) (now (costs .exit)) (now (store .exit)) (now (margins .exit))) ⌝ }
@@ -42,7 +143,8 @@ fn under_code(
     }
     let w = frame.len();
     frame::copy(frame, &mut costs[..w]);
-    let o = iterate::run_to_margins(
+    let o = run_to_margins(
+        early,
         numbers,
         degrees,
         columns,
@@ -57,8 +159,9 @@ fn under_code(
     Answer::Decoded(o)
 }
 
-// Over the tables and lists of decode_counted.
+// Over the tables and lists of decode_counted and decode_early.
 pub fn decode_in(
+    early: bool,
     code: &[u8],
     frame: &[u8],
     symbols: &mut [u8],
@@ -71,8 +174,9 @@ pub fn decode_in(
     arrived: &mut [u8; sizes::MOST_EXPANSION],
     sent: &mut [u8; sizes::MOST_EXPANSION],
 ) -> Counted
-    ensures { λ r. ⌜ Decodes (now (code .entry)) (now (frame .entry))
-        (lending (now (symbols .entry)) (now (costs .entry)) (now (store .entry)) (now (margins .entry))) (answerReply (r .answer))
+    ensures { λ r. ⌜ Leaves
+        (called early (now (code .entry)) (now (frame .entry))
+        (lending (now (symbols .entry)) (now (costs .entry)) (now (store .entry)) (now (margins .entry)))) (answerReply (r .answer))
         (lending (now (symbols .exit)) (now (costs .exit)) (now (store .exit)) (now (margins .exit))) ⌝ }
     ensures { λ r. ⌜ (r .columns ≡ columnsRead (numbersOf (parse (now (code .entry))))) × (r .columns ≤ mostSymbols) ⌝ }
 {
@@ -83,6 +187,7 @@ pub fn decode_in(
         },
         Header::Read(numbers) => {
             let answer = under_code(
+                early,
                 numbers,
                 degrees,
                 columns,

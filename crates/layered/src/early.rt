@@ -1,6 +1,6 @@
 // Stopping inside an iteration: the checks are updated one after the other, and after each update its columns are decided again and the
 // test is made where a symbol changed, from a check on that was not satisfied at the last test.
-use crate::answers::Stopped;
+use crate::answers::Outcome;
 use crate::parity;
 use crate::parity::CheckAt;
 use crate::place;
@@ -12,13 +12,13 @@ ghost use Prim.Native.Nat.{_+_, _*_, _≤_, _<_};
 ghost use lib.ListN.{length, set};
 ghost use Rattle.trellis.specs.Check.{decide as decideOf};
 ghost use Rattle.machine.specs.CodeLine.{columnOf};
-ghost use Rattle.machine.specs.Machine.{symbols as symbolsOf, margins as marginsOf};
+ghost use Rattle.machine.specs.Machine.{symbols as symbolsOf};
 ghost use Rattle.machine.specs.Lent.{lent};
 ghost use Rattle.machine.specs.inner.LentEarly.{stopLent};
 ghost use Rattle.codeline.specs.inner.Coding.{codeOf};
 ghost use Rattle.layered.specs.inner.Parity.{ParityRoom, FromTo, SomeNot};
-ghost use Rattle.layered.specs.inner.Iterations.{RunRoom};
-ghost use Rattle.layered.specs.inner.Early.{decidedAgain, AgainRoom, RetestRoom, Retested, haltedIn, GoRoom};
+ghost use Rattle.layered.specs.inner.Iterations.{endedIn, RunRoom};
+ghost use Rattle.layered.specs.inner.Early.{decidedAgain, AgainRoom, RetestRoom, Retested, GoRoom};
 
 // Decides column c again; 1 where its symbol is another one now, else 0.
 fn decide_at(costs: &[u16], q: usize, c: usize, symbols: &mut [u8]) -> usize
@@ -26,9 +26,7 @@ fn decide_at(costs: &[u16], q: usize, c: usize, symbols: &mut [u8]) -> usize
     ensures { λ _. ⌜ now (symbols .exit) ≡ set (now (symbols .entry)) c (decideOf (columnOf q (now (costs .entry)) c) .symbol) ⌝ }
     ensures { λ r. ⌜ (r ≤ 1) × (r ≡ 0 → now (symbols .exit) ≡ now (symbols .entry)) ⌝ }
 {
-    let a = c * q;
-    let e = a + q;
-    let z = decision::decide_u16(&costs[a..e]).symbol as u8;
+    let z = parity::decided(costs, q, c).symbol as u8;
     if symbols[c] == z {
         return 0;
     }
@@ -132,10 +130,10 @@ fn go_on(
     store: &mut [u8],
     arrived: &mut [u8],
     sent: &mut [u8],
-) -> Stopped
+) -> Outcome
     requires { ⌜ GoRoom numbers (now degrees) (now columns) (now weights)
         (now costs) (now store) (now symbols) (now arrived) (now sent) ⌝ }
-    ensures { λ r. ⌜ haltedIn r (lent (now (costs .exit)) (now (store .exit)))
+    ensures { λ r. ⌜ endedIn r (lent (now (costs .exit)) (now (store .exit)))
         ≡ stopLent (codeOf numbers (now (degrees .entry)) (now (columns .entry)) (now (weights .entry)))
         most 0 (lent (now (costs .entry)) (now (store .entry))) ⌝ }
     ensures { λ _. ⌜ now (symbols .exit)
@@ -152,7 +150,7 @@ fn go_on(
     let mut u: u16 = 0;
     loop {
         if u == most {
-            return Stopped::NotFound(u);
+            return Outcome::NotFound(u);
         }
         let next = place::update_at(
             numbers,
@@ -178,7 +176,7 @@ fn go_on(
             symbols,
         );
         if from.check == count {
-            return Stopped::Found(u);
+            return Outcome::Found(u);
         }
         here = place::around(next, count);
     }
@@ -192,7 +190,7 @@ fn most_updates(numbers: Numbers) -> u16
 }
 
 // The machine on the costs in `costs`, "tested at the start and after each check update".
-fn run(
+pub fn run(
     numbers: Numbers,
     degrees: &[u8],
     columns: &[u16],
@@ -202,10 +200,10 @@ fn run(
     store: &mut [u8],
     arrived: &mut [u8],
     sent: &mut [u8],
-) -> Stopped
+) -> Outcome
     requires { ⌜ RunRoom numbers (now degrees) (now columns) (now weights) true
         (now costs) (now store) (now symbols) (now arrived) (now sent) ⌝ }
-    ensures { λ r. ⌜ haltedIn r (lent (now (costs .exit)) (now (store .exit)))
+    ensures { λ r. ⌜ endedIn r (lent (now (costs .exit)) (now (store .exit)))
         ≡ stopLent (codeOf numbers (now (degrees .entry)) (now (columns .entry)) (now (weights .entry)))
         (numbers .checks * numbers .limit) 0 (lent (now (costs .entry)) (now (store .entry))) ⌝ }
     ensures { λ _. ⌜ now (symbols .exit)
@@ -213,7 +211,7 @@ fn run(
         (now (costs .exit)) ⌝ }
 {
     if parity::settled(numbers, degrees, columns, weights, costs, symbols) {
-        return Stopped::Found(0);
+        return Outcome::Found(0);
     }
     let most = most_updates(numbers);
     go_on(
@@ -228,45 +226,4 @@ fn run(
         arrived,
         sent,
     )
-}
-
-// The same, with the margins of the last decisions.
-pub fn run_to_margins(
-    numbers: Numbers,
-    degrees: &[u8],
-    columns: &[u16],
-    weights: &[u8],
-    symbols: &mut [u8],
-    costs: &mut [u16],
-    store: &mut [u8],
-    margins: &mut [u16],
-    arrived: &mut [u8],
-    sent: &mut [u8],
-) -> Stopped
-    requires { ⌜ RunRoom numbers (now degrees) (now columns) (now weights) true
-        (now costs) (now store) (now symbols) (now arrived) (now sent)
-        × (length (now margins) ≡ numbers .columns) ⌝ }
-    ensures { λ r. ⌜ haltedIn r (lent (now (costs .exit)) (now (store .exit)))
-        ≡ stopLent (codeOf numbers (now (degrees .entry)) (now (columns .entry)) (now (weights .entry)))
-        (numbers .checks * numbers .limit) 0 (lent (now (costs .entry)) (now (store .entry))) ⌝ }
-    ensures { λ _. ⌜ now (symbols .exit)
-        ≡ symbolsOf (codeOf numbers (now (degrees .entry)) (now (columns .entry)) (now (weights .entry)))
-        (now (costs .exit)) ⌝ }
-    ensures { λ _. ⌜ now (margins .exit)
-        ≡ marginsOf (codeOf numbers (now (degrees .entry)) (now (columns .entry)) (now (weights .entry)))
-        (now (costs .exit)) ⌝ }
-{
-    let o = run(
-        numbers,
-        degrees,
-        columns,
-        weights,
-        symbols,
-        costs,
-        store,
-        arrived,
-        sent,
-    );
-    parity::margins(costs, rules::size(numbers.first), margins);
-    o
 }

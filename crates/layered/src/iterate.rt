@@ -6,8 +6,7 @@ use crate::place::Place;
 use codeline::answers::Numbers;
 ghost use mathlib.Core.Path.{_≡_};
 ghost use mathlib.Core.Bool.{true};
-ghost use lib.ListN.{length};
-ghost use Rattle.machine.specs.Machine.{symbols as symbolsOf, margins as marginsOf};
+ghost use Rattle.machine.specs.Machine.{symbols as symbolsOf};
 ghost use Rattle.machine.specs.Lent.{lent, iterationLent, goLent};
 ghost use Rattle.codeline.specs.inner.Coding.{codeOf};
 ghost use Rattle.layered.specs.inner.Iterations.{endedIn, IterateRoom, RunRoom};
@@ -53,7 +52,7 @@ pub fn iterate(
 }
 
 // The machine on the costs in `costs`: "all checks satisfied means found. Otherwise, if t = I, not found."
-fn run(
+pub fn run(
     numbers: Numbers,
     degrees: &[u8],
     columns: &[u16],
@@ -73,12 +72,13 @@ fn run(
         ≡ symbolsOf (codeOf numbers (now (degrees .entry)) (now (columns .entry)) (now (weights .entry)))
         (now (costs .exit)) ⌝ }
 {
-    let mut t: u8 = 0;
+    let limit = scalar::u8_to_u16(numbers.limit);
+    let mut t: u16 = 0;
     loop {
         if parity::settled(numbers, degrees, columns, weights, costs, symbols) {
             return Outcome::Found(t);
         }
-        if t == numbers.limit {
+        if t == limit {
             return Outcome::NotFound(t);
         }
         iterate(
@@ -94,45 +94,4 @@ fn run(
         );
         t += 1;
     }
-}
-
-// The same, with the margins of the last decisions.
-pub fn run_to_margins(
-    numbers: Numbers,
-    degrees: &[u8],
-    columns: &[u16],
-    weights: &[u8],
-    symbols: &mut [u8],
-    costs: &mut [u16],
-    store: &mut [u8],
-    margins: &mut [u16],
-    arrived: &mut [u8],
-    sent: &mut [u8],
-) -> Outcome
-    requires { ⌜ RunRoom numbers (now degrees) (now columns) (now weights) true
-        (now costs) (now store) (now symbols) (now arrived) (now sent)
-        × (length (now margins) ≡ numbers .columns) ⌝ }
-    ensures { λ r. ⌜ endedIn r (lent (now (costs .exit)) (now (store .exit)))
-        ≡ goLent (codeOf numbers (now (degrees .entry)) (now (columns .entry)) (now (weights .entry)))
-        (numbers .limit) 0 (lent (now (costs .entry)) (now (store .entry))) ⌝ }
-    ensures { λ _. ⌜ now (symbols .exit)
-        ≡ symbolsOf (codeOf numbers (now (degrees .entry)) (now (columns .entry)) (now (weights .entry)))
-        (now (costs .exit)) ⌝ }
-    ensures { λ _. ⌜ now (margins .exit)
-        ≡ marginsOf (codeOf numbers (now (degrees .entry)) (now (columns .entry)) (now (weights .entry)))
-        (now (costs .exit)) ⌝ }
-{
-    let o = run(
-        numbers,
-        degrees,
-        columns,
-        weights,
-        symbols,
-        costs,
-        store,
-        arrived,
-        sent,
-    );
-    parity::margins(costs, rules::size(numbers.first), margins);
-    o
 }

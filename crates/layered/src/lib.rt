@@ -7,12 +7,10 @@ mod iterate;
 mod parity;
 mod place;
 pub mod stages;
-mod stopping;
 mod update;
 
 use crate::answers::Answer;
 use crate::answers::Counted;
-use crate::answers::EarlyAnswer;
 use crate::answers::Stage;
 use scalar::sizes;
 ghost use mathlib.Core.Path.{_≡_};
@@ -22,7 +20,7 @@ ghost use Rattle.machine.specs.CodeLine.{parse, numbersOf, columnsRead};
 ghost use Rattle.machine.specs.Decoding.{lending, Decodes};
 ghost use Rattle.machine.specs.Early.{DecodesEarly};
 ghost use Rattle.machine.specs.Moments.{Moves, loading, iterating};
-ghost use Rattle.layered.specs.Answers.{answerReply, earlyReply, stageOf};
+ghost use Rattle.layered.specs.Answers.{answerReply, stageOf};
 
 // Decodes a frame of N times q costs under a code line: found or not found with the iterations made, the decisions in `symbols`, the
 // costs P in `costs`, the records in `store`, the decisions' margins in `margins`. Refused: the code line's 5 to 11; 12, cost count; 13,
@@ -62,6 +60,7 @@ pub fn decode_counted(
     let mut arrived = [0u8; sizes::MOST_EXPANSION];
     let mut sent = [0u8; sizes::MOST_EXPANSION];
     decoding::decode_in(
+        false,
         code,
         frame,
         symbols,
@@ -86,9 +85,9 @@ pub fn decode_early(
     costs: &mut [u16],
     store: &mut [u8],
     margins: &mut [u16],
-) -> EarlyAnswer
+) -> Answer
     ensures { λ r. ⌜ DecodesEarly (now (code .entry)) (now (frame .entry))
-        (lending (now (symbols .entry)) (now (costs .entry)) (now (store .entry)) (now (margins .entry))) (earlyReply r)
+        (lending (now (symbols .entry)) (now (costs .entry)) (now (store .entry)) (now (margins .entry))) (answerReply r)
         (lending (now (symbols .exit)) (now (costs .exit)) (now (store .exit)) (now (margins .exit))) ⌝ }
 {
     let mut degrees = [0u8; sizes::MOST_CHECKS];
@@ -96,7 +95,8 @@ pub fn decode_early(
     let mut weights = [0u8; sizes::MOST_EDGES];
     let mut arrived = [0u8; sizes::MOST_EXPANSION];
     let mut sent = [0u8; sizes::MOST_EXPANSION];
-    stopping::decode_early_in(
+    decoding::decode_in(
+        true,
         code,
         frame,
         symbols,
@@ -108,7 +108,7 @@ pub fn decode_early(
         &mut weights,
         &mut arrived,
         &mut sent,
-    )
+    ).answer
 }
 
 // Loads a frame and runs the first test: the buffers hold the first decisions with their margins and the frame as costs; the store is only

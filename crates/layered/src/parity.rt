@@ -1,8 +1,9 @@
 // The decisions with their margins, and whether they satisfy every check.
 use codeline::answers::Numbers;
+use decision::answers::Decision;
 use field::Element;
 ghost use mathlib.Core.Path.{_≡_};
-ghost use Prim.Native.Nat.{_*_, _^_, _≤_, _<_};
+ghost use Prim.Native.Nat.{_+_, _*_, _^_, _≤_, _<_};
 ghost use lib.ListN.{length};
 ghost use Rattle.trellis.specs.Lists.{tab};
 ghost use Rattle.trellis.specs.Check.{decide as decideOf};
@@ -15,7 +16,18 @@ ghost use Rattle.codeline.specs.inner.Coding.{codeOf};
 ghost use Rattle.machine.specs.inner.Tables.{EdgeRoom};
 ghost use Rattle.layered.specs.inner.Parity.{allHold, ParityRoom, FromTo, FirstNot, SettledRoom};
 
-// The decision of each column of q costs.
+// The decision of column c of q costs.
+pub fn decided(costs: &[u16], q: usize, c: usize) -> Decision
+    requires { ⌜ c * q + q ≤ length (now costs) ⌝ }
+    ensures { λ r. ⌜ (r .symbol ≡ decideOf (columnOf q (now (costs .entry)) c) .symbol) × (r .symbol ≤ q) ⌝ }
+    ensures { λ r. ⌜ r .margin ≡ decideOf (columnOf q (now (costs .entry)) c) .margin ⌝ }
+{
+    let a = c * q;
+    let e = a + q;
+    decision::decide_u16(&costs[a..e])
+}
+
+// The symbol of each column.
 fn decisions(costs: &[u16], q: usize, symbols: &mut [u8])
     requires { ⌜ (length (now symbols) * q ≤ length (now costs)) × (q ≤ 64) ⌝ }
     ensures { λ _. ⌜ now (symbols .exit)
@@ -23,15 +35,12 @@ fn decisions(costs: &[u16], q: usize, symbols: &mut [u8])
 {
     let mut c = 0;
     while c < symbols.len() {
-        let a = c * q;
-        let e = a + q;
-        let z = decision::decide_u16(&costs[a..e]).symbol;
-        symbols[c] = z as u8;
+        symbols[c] = decided(costs, q, c).symbol as u8;
         c += 1;
     }
 }
 
-// The margin of each column's decision.
+// The margin of each column.
 pub fn margins(costs: &[u16], q: usize, margins: &mut [u16])
     requires { ⌜ length (now margins) * q ≤ length (now costs) ⌝ }
     ensures { λ _. ⌜ now (margins .exit)
@@ -39,9 +48,7 @@ pub fn margins(costs: &[u16], q: usize, margins: &mut [u16])
 {
     let mut c = 0;
     while c < margins.len() {
-        let a = c * q;
-        let e = a + q;
-        margins[c] = decision::decide_u16(&costs[a..e]).margin;
+        margins[c] = decided(costs, q, c).margin;
         c += 1;
     }
 }

@@ -76,10 +76,10 @@ module _ (C : Code) (es : List Edge) (H : GoodCheck (C .columns) (size C) es) (c
       let r = room k h Q (length-steps k (omega arith)) in
       let l = length-outgoing (size C) (size-some C) (column cs k .costs) (new k) in
       elim (decLt c (edgeAt es k .column)) [
-        | yes i ↦ part-before Q s (edgeAt es k .column * size C) (size C) r l (c * size C) (column-room c (edgeAt es k .column) (size C) i) ∙ steps-other c k (omega arith) (λ j m. n j (omega arith))
+        | yes i ↦ part-before Q s (edgeAt es k .column * size C) (size C) r l (c * size C) (size C) (column-room c (edgeAt es k .column) (size C) i) ∙ steps-other c k (omega arith) (λ j m. n j (omega arith))
         | no i ↦
             let m : edgeAt es k .column ≢ c = n k (omega arith) in
-            part-after Q s (edgeAt es k .column * size C) (size C) r l (c * size C) (column-room (edgeAt es k .column) c (size C) (omega arith)) ∙ steps-other c k (omega arith) (λ j m. n j (omega arith))
+            part-after Q s (edgeAt es k .column * size C) (size C) r l (c * size C) (size C) (column-room (edgeAt es k .column) c (size C) (omega arith)) ∙ steps-other c k (omega arith) (λ j m. n j (omega arith))
       ]
 
   pub spread-other : (c : ℕ) → ((j : ℕ) → j < length es → edgeAt es j .column ≢ c) → columnOf (size C) (spread (size C) es cs new P) c ≡ columnOf (size C) P c

@@ -11,9 +11,10 @@ use lib.Dec.{eqb}
 use lib.ListN.{length, getD}
 use Rattle.trellis.specs.Lists.{pick, upto}
 use Rattle.trellis.specs.Rules.{sizeOf}
+use Rattle.trellis.specs.Reply.{Reply}
 use Rattle.machine.specs.CodeLine.{Read, good, bad, Code, wordAt, checks, headTests, parse, frameFault}
 use Rattle.machine.specs.Machine.{State, settled, update, iteration, start, Status, found, notFound, Result, result, go, run}
-use Rattle.machine.specs.Decoding.{outcome, admittedUnder, admitted, decodingUnder, decoding}
+use Rattle.machine.specs.Decoding.{Buffers, After, outcome, admittedUnder, admitted, decodingUnder, decoding, Decodes}
 use Rattle.machine.specs.inner.Faults.{roomFault}
 use Rattle.machine.proofs.Faults.{admitted-by}
 use Rattle.machine.specs.Early.{momentAfter, testAfter, firstFrom, mostUpdates, updates, statusEarly, earlyUnder, decodingEarly, Whole-iterations, FirstMoment, Never-more, Few-updates}
@@ -125,6 +126,7 @@ module _ (C : Code) where
   -- where the run ends
   record Ends (n : ℕ) (s : State) (r : Result) : Type 0 where
     pub j : ℕ
+    pub at-most : j ≤ n
     pub end-is : r .end ≡ iterations j s
     pub if-found : r .status ≡ found → settled C (r .end .costs) ≡ true
     pub if-not : r .status ≡ notFound → j ≡ n
@@ -134,13 +136,20 @@ module _ (C : Code) where
   ends zero s = by (settled C (s .costs)) refl
     where
       by : (b : Bool) → settled C (s .costs) ≡ b → Ends 0 s (pick b (result found s) (result notFound s))
-      by true e = record { j = 0; end-is = refl; if-found = λ _. e; if-not = λ _. refl }
-      by false e = record { j = 0; end-is = refl; if-found = λ i. absurd (found-not (sym i)); if-not = λ _. refl }
+      by true e = record { j = 0; at-most = omega arith; end-is = refl; if-found = λ _. e; if-not = λ _. refl }
+      by false e = record { j = 0; at-most = omega arith; end-is = refl; if-found = λ i. absurd (found-not (sym i)); if-not = λ _. refl }
   ends (suc n) s = by (settled C (s .costs)) refl (ends n (iteration C s))
     where
       by : (b : Bool) → settled C (s .costs) ≡ b → Ends n (iteration C s) (go C n (iteration C s)) → Ends (suc n) s (pick b (result found s) (go C n (iteration C s)))
-      by true e E = record { j = 0; end-is = refl; if-found = λ _. e; if-not = λ i. absurd (found-not i) }
-      by false e E = record { j = suc (E .j); end-is = E .end-is ∙ iterations-front (E .j) s; if-found = E .if-found; if-not = λ i. ap suc (E .if-not i) }
+      by true e E = record { j = 0; at-most = omega arith; end-is = refl; if-found = λ _. e; if-not = λ i. absurd (found-not i) }
+      by false e E = record { j = suc (E .j); at-most = omega (arith, E .at-most); end-is = E .end-is ∙ iterations-front (E .j) s; if-found = E .if-found; if-not = λ i. ap suc (E .if-not i) }
+
+  -- t is at most I
+  iterations-few : (f : List ℕ) → run C f .end .t ≤ C .limit
+  unfolding run
+  iterations-few f =
+      let E : Ends (C .limit) (start C f) (run C f) = ends (C .limit) (start C f) in
+      rw (ap (λ s. s .t) (E .end-is) ∙ iterations-t (E .j) (start C f)) (omega (arith, E .at-most))
 
   module _ (f : List ℕ) (some : 0 < M) where
     -- after t iterations, k updates more
@@ -221,18 +230,37 @@ limit-read s C h =
 pub most-small : (C : Code) → GoodCode C → C .limit ≤ 255 → mostUpdates C ≤ 32640
 most-small C G h = let m : length (C .checks) * C .limit ≤ 128 * 255 = mul-le-mul (G .checks-high) h in omega arith
 
+-- the value of a call that refuses as decoding does is at most n where it is that of no refusal
+module _ (code f : List ℕ) (b : Buffers) (n : ℕ) (call : Read Code → After) (R : (k : ℕ) → call (bad k) .reply .value ≤ n)
+    (A : (C : Code) → parse code ≡ good C → call (good C) .reply .value ≤ n) where
+  value-most : call (admitted code f b) .reply .value ≤ n
+  unfolding admitted
+  value-most = under (parse code) refl
+    where
+      by : (C : Code) → parse code ≡ good C → (x y : Bool) → call (pick x (pick y (good C) (bad (roomFault C b))) (bad (frameFault C f))) .reply .value ≤ n
+      by C e true true = A C e
+      by C e true false = R (roomFault C b)
+      by C e false y = R (frameFault C f)
+
+      under : (l : Read Code) → parse code ≡ l → call (admittedUnder l f b) .reply .value ≤ n
+      under (bad k) e = R k
+      under (good C) e = rw (admitted-by C f b) (by C e (eqb (frameFault C f) 0) (eqb (roomFault C b) 0))
+
 pub few-updates : Few-updates
-unfolding decodingEarly admitted
-few-updates code f b h r o D = rw (ap (λ a. a .value) (D .replies)) (under (parse code) refl)
+unfolding decodingEarly
+few-updates code f b h r o D =
+    rw (ap (λ a. a .value) (D .replies)) (value-most code f b 32640 (λ r. earlyUnder r f b) (λ k. omega arith) full)
   where
-    full : (C : Code) → parse code ≡ good C → updates C f ≤ 32640
-    full C e = omega (arith, first-moment C f .at-most, most-small C (parse-good code C e) (omega (arith, limit-read code C e, h 5)))
+    full : (C : Code) → parse code ≡ good C → earlyUnder (good C) f b .reply .value ≤ 32640
+    full C e =
+        rw (outcome-value (statusEarly C f) (updates C f))
+        (omega (arith, first-moment C f .at-most, most-small C (parse-good code C e) (omega (arith, limit-read code C e, h 5))))
 
-    by : (C : Code) → parse code ≡ good C → (x y : Bool) → earlyUnder (pick x (pick y (good C) (bad (roomFault C b))) (bad (frameFault C f))) f b .reply .value ≤ 32640
-    by C e true true = rw (outcome-value (statusEarly C f) (updates C f)) (full C e)
-    by C e true false = omega arith
-    by C e false y = omega arith
-
-    under : (l : Read Code) → parse code ≡ l → earlyUnder (admittedUnder l f b) f b .reply .value ≤ 32640
-    under (bad k) e = omega arith
-    under (good C) e = rw (admitted-by C f b) (by C e (eqb (frameFault C f) 0) (eqb (roomFault C b) 0))
+-- a byte holds t of any call with a line of bytes
+pub few-iterations : (code f : List ℕ) (b : Buffers) → ((i : ℕ) → getD code i 0 ≤ 255) → (r : Reply) (o : Buffers) → Decodes code f b r o → r .value ≤ 255
+unfolding decoding
+few-iterations code f b h r o D =
+    rw (ap (λ a. a .value) (D .replies)) (value-most code f b 255 (λ r. decodingUnder r f b) (λ k. omega arith) full)
+  where
+    full : (C : Code) → parse code ≡ good C → decodingUnder (good C) f b .reply .value ≤ 255
+    full C e = rw (outcome-value (run C f .status) (run C f .end .t)) (omega (arith, iterations-few C f, limit-read code C e, h 5))

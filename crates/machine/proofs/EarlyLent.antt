@@ -12,8 +12,8 @@ use borrow.Author.Tests.{le-ltb, lt-ltb}
 use Rattle.trellis.specs.Lists.{pick}
 use Rattle.machine.specs.CodeLine.{Code, frameFault}
 use Rattle.machine.specs.Machine.{none, lastOf, start, found, notFound, used, held}
-use Rattle.machine.specs.Lent.{Lent}
-use Rattle.machine.specs.inner.LentEarly.{Halted, halted, nextLent, stopLent}
+use Rattle.machine.specs.Lent.{Lent, Ended, ended}
+use Rattle.machine.specs.inner.LentEarly.{nextLent, stopLent}
 use Rattle.machine.specs.Early.{momentAfter, testAfter, firstFrom, mostUpdates, updates, stateEarly, statusEarly}
 use Rattle.machine.specs.inner.Accepted.{GoodCode}
 use Rattle.machine.specs.inner.InRange.{Below, Ranged}
@@ -50,14 +50,14 @@ module _ (C : Code) (G : GoodCode C) (s₀ : List ℕ) (room : used C ≤ length
       ap (lentOf C s₀) (moment-start C f) ∙ ap (λ l. record { costs = f; store = l }) (held-none C G s₀ room (start C f) no)
 
   -- a run that ends after v updates
-  abbrev endingAt : ℕ → Halted
-  endingAt v = halted (pick (testAfter C f v) found notFound) v (lentAfter v)
+  abbrev endingAt : ℕ → Ended
+  endingAt v = ended (pick (testAfter C f v) found notFound) v (lentAfter v)
 
   pub stop-stands : (n u : ℕ) → stopLent C n u (lentAfter u) ≡ endingAt (firstFrom (testAfter C f) n u)
   unfolding stopLent lentAfter
   stop-stands zero u = by (testAfter C f u)
     where
-      by : (b : Bool) → pick b (halted found u (lentAfter u)) (halted notFound u (lentAfter u)) ≡ halted (pick b found notFound) u (lentAfter u)
+      by : (b : Bool) → pick b (ended found u (lentAfter u)) (ended notFound u (lentAfter u)) ≡ ended (pick b found notFound) u (lentAfter u)
       by true = refl
       by false = refl
   stop-stands (suc n) u = by (testAfter C f u) refl (stop-stands n (suc u))
@@ -66,13 +66,13 @@ module _ (C : Code) (G : GoodCode C) (s₀ : List ℕ) (room : used C ≤ length
       next = let e : u + 1 ≡ suc u = omega arith in ap₂ (stopLent C n) e (lent-suc u)
 
       by : (b : Bool) → testAfter C f u ≡ b → stopLent C n (suc u) (lentAfter (suc u)) ≡ endingAt (firstFrom (testAfter C f) n (suc u))
-          → pick b (halted found u (lentAfter u)) (stopLent C n (u + 1) (nextLent C u (lentAfter u))) ≡ endingAt (pick b u (firstFrom (testAfter C f) n (suc u)))
-      by true e i = ap (λ b. halted (pick b found notFound) u (lentAfter u)) (sym e)
+          → pick b (ended found u (lentAfter u)) (stopLent C n (u + 1) (nextLent C u (lentAfter u))) ≡ endingAt (pick b u (firstFrom (testAfter C f) n (suc u)))
+      by true e i = ap (λ b. ended (pick b found notFound) u (lentAfter u)) (sym e)
       by false e i = next ∙ i
 
   -- the whole run
   pub early-stands : stopLent C (mostUpdates C) 0 (record { costs = f; store = s₀ })
-      ≡ halted (statusEarly C f) (updates C f) (record { costs = stateEarly C f .costs; store = held C s₀ (stateEarly C f) })
+      ≡ ended (statusEarly C f) (updates C f) (record { costs = stateEarly C f .costs; store = held C s₀ (stateEarly C f) })
   unfolding updates lentAfter
   early-stands = ap (stopLent C (mostUpdates C) 0) (sym lent-start) ∙ stop-stands (mostUpdates C) 0
 

@@ -20,35 +20,8 @@ use Rattle.machine.specs.Lent.{Lent, weightsOf, messageLent, arrivingLen
 use Rattle.machine.specs.inner.Accepted.{GoodCheck, GoodCode}
 use Rattle.machine.specs.inner.InRange.{pieceIn, Formed, Passable, Ranged}
 use Rattle.machine.proofs.Updates.{Made, made-proper, arriving-made}
-use Rattle.machine.proofs.Ranges.{part-front, length-patch, part-patch, spread-ranged}
+use Rattle.machine.proofs.Ranges.{length-patch, part-patch, part-before, part-after, spread-ranged}
 use Rattle.machine.proofs.Lent.{len, place-suc, place-mono, spread-ext, message-made}
-
--- a part that does not meet the patched one is as it was
-module _ (l s : List ℕ) (a n : ℕ) (fits : a + n ≤ length l) (full : length s ≡ n) where
-  front : length (take a l) ≡ a
-  front = length-take-le a l (omega arith)
-
-  part-below : (c k : ℕ) → c + k ≤ a → part (patch l a n s) c k ≡ part l c k
-  part-below c k h =
-      part-front (take a l) _ c k (omega (arith, front))
-      ∙ sym (part-front (take a l) (drop a l) c k (omega (arith, front)))
-      ∙ ap (λ x. part x c k) (take-append-drop a l)
-
-  part-above : (c k : ℕ) → a + n ≤ c → part (patch l a n s) c k ≡ part l c k
-  part-above c k h = ap (take k) (two ∙ sym three)
-    where
-      e : c ≡ a + (n + (c - (a + n)))
-      e = omega arith
-
-      two : drop c (patch l a n s) ≡ drop (c - (a + n)) (drop n (drop a l))
-      two =
-          ap (λ k. drop k (patch l a n s)) (e ∙ ap (λ k. k + (n + (c - (a + n)))) (sym front))
-          ∙ drop-append-add (take a l) (s ++ drop n (drop a l)) (n + (c - (a + n)))
-          ∙ ap (λ k. drop (k + (c - (a + n))) (s ++ drop n (drop a l))) (sym full)
-          ∙ drop-append-add s (drop n (drop a l)) (c - (a + n))
-
-      three : drop c l ≡ drop (c - (a + n)) (drop n (drop a l))
-      three = ap (λ k. drop k l) e ∙ sym (drop-drop (n + (c - (a + n))) a l) ∙ sym (drop-drop (c - (a + n)) n (drop a l))
 
 module _ (C : Code) (G : GoodCode C) where
   module _ (start : Bool) (l : Lent) (R : Ranged C (l .costs)) (room : used C ≤ length (l .store)) (m : ℕ) (h : m < length (C .checks)) where
@@ -97,8 +70,8 @@ module _ (C : Code) (G : GoodCode C) where
     update-others j k n =
         rw update-store
         (elim (decLt j m) [
-          | yes e ↦ part-below (l .store) (recordOf (rule C) cs) (place C m) (len C m) in-store long (place C j) (len C j) (omega (arith, place-suc C j, place-mono C (suc j) m e))
-          | no e ↦ part-above (l .store) (recordOf (rule C) cs) (place C m) (len C m) in-store long (place C j) (len C j) (omega (arith, place-suc C m, place-mono C (suc m) j (omega arith)))
+          | yes e ↦ part-before (l .store) (recordOf (rule C) cs) (place C m) (len C m) in-store long (place C j) (len C j) (omega (arith, place-suc C j, place-mono C (suc j) m e))
+          | no e ↦ part-after (l .store) (recordOf (rule C) cs) (place C m) (len C m) in-store long (place C j) (len C j) (omega (arith, place-suc C m, place-mono C (suc m) j (omega arith)))
         ])
 
   -- before check k of a pass

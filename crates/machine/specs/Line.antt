@@ -4,6 +4,7 @@ use mathlib.Core.List.{List, [], _∷_, _++_}
 use Prim.Native.Nat.{ℕ, _+_, _-_, _*_, _/_, _%_}
 use lib.Dec.{eqb, ltb, leb}
 use lib.ListN.{length, getD, drop}
+use Rattle.trellis.specs.Sizes.{mostLine}
 use Rattle.trellis.specs.Lists.{pick, allTo, tab}
 use Rattle.trellis.specs.Refusals.{when, unless, refusedBy}
 use Rattle.trellis.specs.Reply.{Reply, accepted, refusal}
@@ -30,7 +31,7 @@ lineOk t = eqb (length t % 2) 0 && allTo (λ i. isDigit (getD t i 0)) (length t)
 abbrev pub lineCases {ℓ} : {A : Type ℓ} → List ℕ → ℕ → (ℕ → A) → A → A
 lineCases t n bad good =
     refusedBy
-    (when (ltb 32768 (length t)) 15
+    (when (ltb mostLine (length t)) 15
     ∷ unless (lineOk t) 14
     ∷ when (ltb n (length t / 2)) 2
     ∷ [])

@@ -4,6 +4,7 @@ use Prim.Native.Nat.{ℕ, _+_, _-_, _/_, _%_}
 use lib.Dec.{eqb, ltb}
 use Rattle.trellis.specs.Lists.{pick, each}
 use Rattle.trellis.specs.Reply.{Reply, refusal}
+use Rattle.trellis.specs.Sizes.{mostLineBytes}
 use Rattle.machine.specs.Line.{lineBytes, lineCases}
 use Rattle.machine.specs.CodeLine.{Read, good, bad, Code, parse, frameFault}
 use Rattle.machine.specs.Machine.{run, symbols}
@@ -38,7 +39,7 @@ ofFrame (good C) f =
 
 -- "Line refusals come before all others": 15, 14, then decode's. The longest line has 16,384 bytes (SPEC 9.5)
 unfoldable pub frameSaid : List ℕ → List ℕ → Said
-frameSaid code text = lineCases text 16384 (λ k. said (refusal k) []) (ofFrame (parse code) (lineBytes text))
+frameSaid code text = lineCases text mostLineBytes (λ k. said (refusal k) []) (ofFrame (parse code) (lineBytes text))
 
 unfoldable pub frameLine : List ℕ → List ℕ → List ℕ
 frameLine code text = printed (frameSaid code text)

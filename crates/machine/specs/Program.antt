@@ -5,6 +5,7 @@ use lib.Dec.{eqb}
 use lib.ListN.{take}
 use Rattle.trellis.specs.Lists.{pick, each}
 use Rattle.trellis.specs.Reply.{refusal}
+use Rattle.trellis.specs.Sizes.{mostLineBytes}
 use Rattle.machine.specs.Line.{lineBytes, lineCases}
 use Rattle.machine.specs.CodeLine.{Read, good, bad, Code, parse}
 use Rattle.machine.specs.Printing.{said, printed, frameLine}
@@ -25,7 +26,7 @@ refusedLine k = printed (said (refusal k) [])
 
 -- the code line: 15, 14, then the code's own refusals (SPEC 9.4)
 unfoldable pub readCode : List ℕ → Read Code
-readCode t = lineCases t 16384 (λ k. bad k) (parse (lineBytes t))
+readCode t = lineCases t mostLineBytes (λ k. bad k) (parse (lineBytes t))
 
 -- "a refused code line ends the program"; else "Each frame gives one line" (SPEC 9.4, 9.5)
 abbrev pub afterCode : Read Code → List ℕ → List (List ℕ) → List ℕ

@@ -4,8 +4,6 @@ use Prim.Native.Nat.{ℕ, _/_, _%_}
 use Rattle.trellis.specs.Reply.{Reply, foundIn, notFoundIn}
 use Rattle.layered.specs.declared.answers.Outcome.{Outcome}
 use Rattle.layered.specs.declared.answers.Outcome.the-variants.{Found, NotFound}
-use Rattle.layered.specs.declared.answers.Stopped.{Stopped}
-use Rattle.layered.specs.declared.answers.Stopped.the-variants.{Found as FoundEarly, NotFound as NotFoundEarly}
 
 -- What include/petsivola.h reads from a result: PETSIVOLA_NUMBER is document 01's number (0 accepted or found, 1 not found, else the
 -- refusal's), PETSIVOLA_VALUE the value (the product, the bytes written, t, or the check updates; 0 on a refusal). The two fix the
@@ -17,7 +15,3 @@ pub record Packs (result : ℕ) (r : Reply) : Type 0 where
 abbrev pub outcomeReply : Outcome → Reply
 outcomeReply (Found t) = foundIn t
 outcomeReply (NotFound t) = notFoundIn t
-
-abbrev pub stoppedReply : Stopped → Reply
-stoppedReply (FoundEarly u) = foundIn u
-stoppedReply (NotFoundEarly u) = notFoundIn u

@@ -4,9 +4,7 @@ use codeline::answers::Summary;
 use field::Element;
 use field::Written;
 use layered::answers::Answer;
-use layered::answers::EarlyAnswer;
 use layered::answers::Outcome;
-use layered::answers::Stopped;
 use window::registers::Registers;
 ghost use mathlib.Core.Path.{_≡_};
 ghost use Prim.Native.Nat.{_≤_};
@@ -21,13 +19,14 @@ ghost use Rattle.machine.specs.Decoding.{lending, decoding};
 ghost use Rattle.machine.specs.Early.{decodingEarly};
 ghost use Rattle.machine.specs.Encoding.{encoding};
 ghost use Rattle.machine.specs.Combining.{combining};
-ghost use Rattle.layered.specs.Answers.{answerReply, earlyReply};
+ghost use Rattle.layered.specs.Answers.{answerReply};
 ghost use Rattle.trellis.specs.Lists.{pick};
+ghost use Rattle.trellis.specs.Sizes.{mostLineBytes};
 ghost use Rattle.window.specs.Window.{read, interrupt, write};
 ghost use Rattle.window.specs.Meaning.{bytesOf, windowOf};
 ghost use Rattle.channels.specs.Channels.{channels};
 ghost use Rattle.channels.specs.Answers.{Gives};
-ghost use Rattle.petsivola.specs.Packed.{Packs, outcomeReply, stoppedReply};
+ghost use Rattle.petsivola.specs.Packed.{Packs, outcomeReply};
 
 fn of_element(e: Element) -> u32
     ensures { λ r. ⌜ Packs r (elementReply e) ⌝ }
@@ -39,7 +38,7 @@ fn of_element(e: Element) -> u32
 }
 
 fn of_written(written: Written) -> u32
-    requires { ⌜ writtenReply written .value ≤ 16384 ⌝ }
+    requires { ⌜ writtenReply written .value ≤ mostLineBytes ⌝ }
     ensures { λ r. ⌜ Packs r (writtenReply written) ⌝ }
 {
     match written {
@@ -63,24 +62,6 @@ fn of_answer(a: Answer) -> u32
     match a {
         Answer::Decoded(o) => of_outcome(o),
         Answer::Refused(k) => (k as u32) * 65536,
-    }
-}
-
-fn of_stopped(o: Stopped) -> u32
-    ensures { λ r. ⌜ Packs r (stoppedReply o) ⌝ }
-{
-    match o {
-        Stopped::Found(u) => u as u32,
-        Stopped::NotFound(u) => 65536 + (u as u32),
-    }
-}
-
-fn of_early(a: EarlyAnswer) -> u32
-    ensures { λ r. ⌜ Packs r (earlyReply a) ⌝ }
-{
-    match a {
-        EarlyAnswer::Decoded(o) => of_stopped(o),
-        EarlyAnswer::Refused(k) => (k as u32) * 65536,
     }
 }
 
@@ -189,7 +170,7 @@ pub extern "C" fn petsivola_decode_early(
         ≡ decodingEarly (now (code .entry)) (now (frame .entry))
         (lending (now (symbols .entry)) (now (costs .entry)) (now (store .entry)) (now (margins .entry))) .buffers .margins ⌝ }
 {
-    of_early(layered::decode_early(code, frame, symbols, costs, store, margins))
+    of_answer(layered::decode_early(code, frame, symbols, costs, store, margins))
 }
 
 #[no_mangle]

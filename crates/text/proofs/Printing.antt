@@ -24,7 +24,7 @@ use Rattle.machine.proofs.Faults.{admitted-by}
 use Rattle.machine.proofs.Buffers.{accepted-call}
 use Rattle.layered.specs.Answers.{answerReply}
 use Rattle.layered.specs.declared.answers.Answer.{Answer}
-use Rattle.text.specs.inner.Lines.{asLine, over}
+use Rattle.text.specs.inner.Lines.{asLine, over, DecodeRoom}
 
 pub two-set : (l : List ℕ) (a b : ℕ) → length l ≡ 2 → set (set l 0 a) 1 b ≡ a ∷ b ∷ []
 two-set [] a b h = absurd (omega arith)
@@ -53,7 +53,7 @@ line-end l o out h e =
     (set-at d (getD o (length l * 2) 0) (drop (suc (length l * 2)) o) 0x0A (length l * 2) (length-digits l) ∙ sym (append-snoc d 0x0A (drop (suc (length l * 2)) o)))
 
 -- a decoding in buffers that are long enough for every code line
-module _ (code f : List ℕ) (b o : Buffers) (r : Reply) (i : length (b .symbols) ≡ 256) (j : length (b .costs) ≡ 16384) (k : length (b .store) ≡ 57472) (l : length (b .margins) ≡ 256) (D : Decodes code f b r o) where
+module _ (code f : List ℕ) (b o : Buffers) (r : Reply) (R : DecodeRoom (b .symbols) (b .costs) (b .store) (b .margins)) (D : Decodes code f b r o) where
   abbrev z : List ℕ
   z = o .symbols
 
@@ -64,7 +64,7 @@ module _ (code f : List ℕ) (b o : Buffers) (r : Reply) (i : length (b .symbols
       fit : (C : Code) → parse code ≡ good C → frameFault C f ≡ 0
           → (r ≡ outcome (run C f .status) (run C f .end .t)) × (take (C .columns) z ≡ symbols C (run C f .end .costs))
       fit C e g =
-          let a = accepted-call code f b C (record { line = e; fits = g }) (roomy C (parse-good code C e) b i j k l) in (
+          let a = accepted-call code f b C (record { line = e; fits = g }) (roomy C (parse-good code C e) b (R .for-symbols) (R .for-costs) (R .for-store) (R .for-margins)) in (
             D .replies ∙ ap (λ x. x .reply) a,
             rw (D .symbols-then, a) (take-at (symbols C (run C f .end .costs)) (drop (C .columns) (b .symbols)) (C .columns) (simp length-map (length-count 0 (C .columns)))),
           )

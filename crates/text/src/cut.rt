@@ -7,6 +7,7 @@ ghost use mathlib.Core.Bool.{false};
 ghost use mathlib.Core.List.{[], _∷_, _++_};
 ghost use Prim.Native.Nat.{_+_, _*_, _≤_};
 ghost use lib.ListN.{length, take, drop};
+ghost use Rattle.trellis.specs.Sizes.{lineRoom, mostLineBytes, mostPrinted};
 ghost use Rattle.machine.specs.inner.Blocks.{fedOut, closeOut};
 ghost use Rattle.text.specs.inner.Held.{heldIn, keptOf, putAt, toNewline, KeepsPart, fedHeld, quiet, closeHeld};
 
@@ -48,8 +49,8 @@ fn keep(st: State, part: &[u8], line: &mut [u8]) -> State
 
 // A part of a line, and its end.
 fn whole(st: State, part: &[u8], line: &mut [u8], code: &mut [u8], out: &mut [u8]) -> State
-    requires { ⌜ (length (now line)
-        ≡ 32769) × ((length (now code) ≡ 16384) × ((st .ended ≡ false) × (toNewline (now part) ≡ length (now part)))) ⌝ }
+    requires { ⌜ (length (now line) ≡ lineRoom) × ((length (now code) ≡ mostLineBytes)
+        × ((st .ended ≡ false) × (toNewline (now part) ≡ length (now part)))) ⌝ }
     requires { ⌜ st .full + length (fedOut (keptOf (heldIn st (now line) (now code))) (now part ++ (0x0A ∷ []))) ≤ length (now out) ⌝ }
     ensures { λ r. ⌜ heldIn r (now (line .exit)) (now (code .exit))
         ≡ fedHeld (heldIn st (now (line .entry)) (now (code .entry))) (now (part .entry) ++ (0x0A ∷ [])) ⌝ }
@@ -65,8 +66,8 @@ fn whole(st: State, part: &[u8], line: &mut [u8], code: &mut [u8], out: &mut [u8
 
 // A block, line by line; no byte counts once the program has ended.
 fn feed_over(st: State, bytes: &[u8], line: &mut [u8], code: &mut [u8], out: &mut [u8]) -> State
-    requires { ⌜ (length (now line)
-        ≡ 32769) × ((length (now code) ≡ 16384) × ((st .full ≡ 0) × (512 + 5 * length (now bytes) ≤ length (now out)))) ⌝ }
+    requires { ⌜ (length (now line) ≡ lineRoom) × ((length (now code) ≡ mostLineBytes)
+        × ((st .full ≡ 0) × (512 + 5 * length (now bytes) ≤ length (now out)))) ⌝ }
     ensures { λ r. ⌜ heldIn r (now (line .exit)) (now (code .exit))
         ≡ fedHeld (heldIn st (now (line .entry)) (now (code .entry))) (now (bytes .entry)) ⌝ }
     ensures { λ r. ⌜ r .full ≡ length (fedOut (keptOf (heldIn st (now (line .entry)) (now (code .entry)))) (now (bytes .entry))) ⌝ }
@@ -97,8 +98,8 @@ pub fn feed_in(
     code: &mut [u8],
     out: &mut [u8],
 ) -> State
-    requires { ⌜ (length (now line)
-        ≡ 32769) × ((length (now code) ≡ 16384) × ((n ≤ length (now block)) × (512 + 5 * n ≤ length (now out)))) ⌝ }
+    requires { ⌜ (length (now line) ≡ lineRoom) × ((length (now code) ≡ mostLineBytes)
+        × ((n ≤ length (now block)) × (512 + 5 * n ≤ length (now out)))) ⌝ }
     ensures { λ r. ⌜ heldIn r (now (line .exit)) (now (code .exit))
         ≡ fedHeld (heldIn st (now (line .entry)) (now (code .entry))) (take n (now (block .entry))) ⌝ }
     ensures { λ r. ⌜ r .full
@@ -130,7 +131,7 @@ fn silent(st: State) -> bool
 
 // The end of the input: what is printed for what is kept, and how many bytes that are.
 pub fn close_in(st: State, line: &[u8], code: &mut [u8], out: &mut [u8]) -> usize
-    requires { ⌜ (length (now line) ≡ 32769) × ((length (now code) ≡ 16384) × (length (now out) ≡ 517)) ⌝ }
+    requires { ⌜ (length (now line) ≡ lineRoom) × ((length (now code) ≡ mostLineBytes) × (length (now out) ≡ mostPrinted)) ⌝ }
     ensures { λ r. ⌜ r ≡ length (closeOut (keptOf (heldIn st (now (line .entry)) (now (code .entry))))) ⌝ }
     ensures { λ _. ⌜ now (code .exit) ≡ closeHeld (heldIn st (now (line .entry)) (now (code .entry))) .bytes ⌝ }
     ensures { λ _. ⌜ now (out .exit)

@@ -10,6 +10,7 @@ ghost use mathlib.Core.Bool.{false, not};
 ghost use mathlib.Core.List.{_++_};
 ghost use Prim.Native.Nat.{_+_, _≤_};
 ghost use lib.ListN.{length, take, drop};
+ghost use Rattle.trellis.specs.Sizes.{lineRoom, mostLineBytes};
 ghost use Rattle.machine.specs.Printing.{frameLine};
 ghost use Rattle.machine.specs.Program.{readCode};
 ghost use Rattle.machine.specs.inner.Blocks.{codeOut, lineFinishedOut};
@@ -54,8 +55,8 @@ fn print(code: &[u8], text: &[u8], out: &mut [u8], full: usize) -> usize
 
 // The bytes of the code line; none if the line is refused.
 fn code_bytes(text: &[u8], code: &mut [u8]) -> usize
-    requires { ⌜ length (now code) ≡ 16384 ⌝ }
-    ensures { λ r. ⌜ (r ≡ length (codeBytes (now (text .entry)))) × (r ≤ 16384) ⌝ }
+    requires { ⌜ length (now code) ≡ mostLineBytes ⌝ }
+    ensures { λ r. ⌜ (r ≡ length (codeBytes (now (text .entry)))) × (r ≤ mostLineBytes) ⌝ }
     ensures { λ _. ⌜ now (code .exit)
         ≡ codeBytes (now (text .entry)) ++ drop (length (codeBytes (now (text .entry)))) (now (code .entry)) ⌝ }
 {
@@ -76,7 +77,7 @@ fn accepted(code: &[u8]) -> bool
 
 // The code line read to its end: "a refused code line ends the program".
 fn finish_code(text: &[u8], code: &mut [u8], out: &mut [u8], full: usize) -> State
-    requires { ⌜ (length (now code) ≡ 16384) × (full + length (codeOut (readCode (now text))) ≤ length (now out)) ⌝ }
+    requires { ⌜ (length (now code) ≡ mostLineBytes) × (full + length (codeOut (readCode (now text))) ≤ length (now out)) ⌝ }
     ensures { λ r. ⌜ (r .len ≡ 0) × ((r .code ≡ pick (accepts (codeBytes (now (text .entry)))) (length (codeBytes (now (text .entry)))) 0)
         × (r .ended ≡ not (accepts (codeBytes (now (text .entry)))))) ⌝ }
     ensures { λ r. ⌜ r .full ≡ full + length (codeOut (readCode (now (text .entry)))) ⌝ }
@@ -104,10 +105,8 @@ fn finish_code(text: &[u8], code: &mut [u8], out: &mut [u8], full: usize) -> Sta
 
 // A line read to its end.
 pub fn finish_line(st: State, line: &[u8], code: &mut [u8], out: &mut [u8]) -> State
-    requires { ⌜ (length (now line)
-        ≡ 32769) × ((length (now code)
-        ≡ 16384) × ((st .ended
-        ≡ false) × (st .full + length (lineFinishedOut (keptOf (heldIn st (now line) (now code)))) ≤ length (now out)))) ⌝ }
+    requires { ⌜ (length (now line) ≡ lineRoom) × ((length (now code) ≡ mostLineBytes) × ((st .ended ≡ false)
+        × (st .full + length (lineFinishedOut (keptOf (heldIn st (now line) (now code)))) ≤ length (now out)))) ⌝ }
     ensures { λ r. ⌜ heldIn r (now (line .entry)) (now (code .exit)) ≡ finishedHeld (heldIn st (now (line .entry)) (now (code .entry))) ⌝ }
     ensures { λ r. ⌜ r .full ≡ st .full + length (lineFinishedOut (keptOf (heldIn st (now (line .entry)) (now (code .entry))))) ⌝ }
     ensures { λ _. ⌜ now (out .exit)

@@ -8,10 +8,11 @@ ghost use mathlib.Core.Path.{_≡_};
 ghost use mathlib.Core.List.{_∷_, _++_};
 ghost use Prim.Native.Nat.{_+_, _*_, _<_, _≤_};
 ghost use lib.ListN.{length, drop};
+ghost use Rattle.trellis.specs.Sizes.{mostLineBytes, mostPrinted};
 ghost use Rattle.machine.specs.CodeLine.{parse};
 ghost use Rattle.machine.specs.Printing.{digitOf, digitsOf, said, printed, ofFrame, frameLine};
 ghost use Rattle.layered.specs.Answers.{answerReply};
-ghost use Rattle.text.specs.inner.Lines.{asLine, over};
+ghost use Rattle.text.specs.inner.Lines.{asLine, over, DecodeRoom};
 
 // "hexadecimal digits 0-9 and A-F".
 fn digit(n: u8) -> u8
@@ -60,15 +61,15 @@ fn put_line(status: u8, t: u8, symbols: &[u8], out: &mut [u8]) -> usize
 
 // "A refused line prints its number as such a byte (12 as 0C) and 00 only".
 fn answer(a: Answer, symbols: &[u8], out: &mut [u8]) -> usize
-    requires { ⌜ length (now symbols) * 2 + 5 ≤ length (now out) ⌝ }
+    requires { ⌜ (length (now symbols) * 2 + 5 ≤ length (now out)) × (answerReply a .value ≤ 255) ⌝ }
     ensures { λ r. ⌜ r ≡ length (printed (said (answerReply a) (now (symbols .entry)))) ⌝ }
     ensures { λ _. ⌜ now (out .exit) ≡ over (printed (said (answerReply a) (now (symbols .entry)))) (now (out .entry)) ⌝ }
 {
     match a {
         Answer::Refused(k) => put_line(k, 0, &symbols[..0], out),
         Answer::Decoded(o) => match o {
-            Outcome::Found(t) => put_line(0, t, symbols, out),
-            Outcome::NotFound(t) => put_line(1, t, symbols, out),
+            Outcome::Found(t) => put_line(0, t as u8, symbols, out),
+            Outcome::NotFound(t) => put_line(1, t as u8, symbols, out),
         },
     }
 }
@@ -84,9 +85,7 @@ fn frame_in(
     margins: &mut [u16],
     out: &mut [u8],
 ) -> usize
-    requires { ⌜ (length (now symbols)
-        ≡ 256) × ((length (now costs)
-        ≡ 16384) × ((length (now store) ≡ 57472) × ((length (now margins) ≡ 256) × (length (now out) ≡ 517)))) ⌝ }
+    requires { ⌜ DecodeRoom (now symbols) (now costs) (now store) (now margins) × (length (now out) ≡ mostPrinted) ⌝ }
     ensures { λ r. ⌜ r ≡ length (printed (ofFrame (parse (now (code .entry))) (now (frame .entry)))) ⌝ }
     ensures { λ _. ⌜ now (out .exit) ≡ over (printed (ofFrame (parse (now (code .entry))) (now (frame .entry)))) (now (out .entry)) ⌝ }
 {
@@ -107,10 +106,8 @@ pub fn text_in(
     margins: &mut [u16],
     out: &mut [u8],
 ) -> usize
-    requires { ⌜ (length (now bytes)
-        ≡ 16384) × ((length (now symbols)
-        ≡ 256) × ((length (now costs)
-        ≡ 16384) × ((length (now store) ≡ 57472) × ((length (now margins) ≡ 256) × (length (now out) ≡ 517))))) ⌝ }
+    requires { ⌜ (length (now bytes) ≡ mostLineBytes)
+        × (DecodeRoom (now symbols) (now costs) (now store) (now margins) × (length (now out) ≡ mostPrinted)) ⌝ }
     ensures { λ r. ⌜ r ≡ length (frameLine (now (code .entry)) (now (text .entry))) ⌝ }
     ensures { λ _. ⌜ now (out .exit) ≡ over (frameLine (now (code .entry)) (now (text .entry))) (now (out .entry)) ⌝ }
 {

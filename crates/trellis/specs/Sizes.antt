@@ -18,3 +18,24 @@ mostSymbols = 256
 -- costs of one check: its degree times the symbols of the field
 abbrev pub mostExpansion : ℕ
 mostExpansion = 2048
+
+-- costs of a frame, and the bytes of a store that serves the largest code
+abbrev pub mostCosts : ℕ
+mostCosts = 16384
+
+abbrev pub mostStore : ℕ
+mostStore = 57472
+
+-- digits of a line, the bytes that they make, and room enough to refuse the line
+abbrev pub mostLine : ℕ
+mostLine = 32768
+
+abbrev pub mostLineBytes : ℕ
+mostLineBytes = 16384
+
+abbrev pub lineRoom : ℕ
+lineRoom = 32769
+
+-- the longest printed line
+abbrev pub mostPrinted : ℕ
+mostPrinted = 517

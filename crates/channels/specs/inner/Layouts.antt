@@ -6,7 +6,7 @@ use lib.Dec.{eqb}
 use lib.ListN.{length}
 use Rattle.trellis.specs.Refusals.{faultBy}
 use Rattle.trellis.specs.Rules.{sizeOf}
-use Rattle.trellis.specs.Sizes.{mostSymbols, mostExpansion}
+use Rattle.trellis.specs.Sizes.{mostSymbols, mostExpansion, mostCosts}
 use Rattle.machine.specs.CodeLine.{Code}
 use Rattle.machine.specs.Machine.{used}
 use Rattle.machine.specs.Decoding.{Buffers}
@@ -38,7 +38,7 @@ faultFor n z f y c s v = faultBy (wholeTests n (z .columns) (z .costs) (z .store
 pub record FaultRoom (n : ℕ) (z : Layout) : Type 0 where
   pub few : n ≤ 8
   pub columns : z .columns ≤ mostSymbols
-  pub costs : z .costs ≤ 16384
+  pub costs : z .costs ≤ mostCosts
   pub store : z .store ≤ 65535
 
 -- the code that the numbers of a layout and the tables say

@@ -11,15 +11,13 @@ use Rattle.trellis.specs.Check.{decide}
 use Rattle.trellis.specs.Rules.{sizeOf}
 use Rattle.trellis.specs.Sizes.{mostExpansion}
 use Rattle.machine.specs.CodeLine.{Code, columnOf}
-use Rattle.machine.specs.Machine.{found, notFound, symbols, settled}
+use Rattle.machine.specs.Machine.{symbols, settled}
 use Rattle.machine.specs.Lent.{Lent, lent}
-use Rattle.machine.specs.inner.LentEarly.{Halted, halted, stopLent}
+use Rattle.machine.specs.inner.LentEarly.{stopLent}
 use Rattle.machine.specs.inner.Tables.{edgesBefore, tableAt}
 use Rattle.machine.specs.inner.InRange.{Advancing}
 use Rattle.codeline.specs.declared.answers.Numbers.{Numbers}
 use Rattle.codeline.specs.inner.Coding.{codeOf, Coded}
-use Rattle.layered.specs.declared.answers.Stopped.{Stopped}
-use Rattle.layered.specs.declared.answers.Stopped.the-variants.{Found, NotFound}
 use Rattle.layered.specs.declared.parity.CheckAt.{CheckAt}
 use Rattle.layered.specs.declared.place.Place.{Place}
 use Rattle.layered.specs.inner.Parity.{EdgeOf, SettledRoom}
@@ -54,11 +52,6 @@ pub record Retested (C : Code) (ds P : List ℕ) (r : CheckAt) : Type 0 where
   pub edge-is : EdgeOf ds r
   pub high : r .check ≤ length (C .checks)
   pub test-is : eqb (r .check) (length (C .checks)) ≡ settled C P
-
--- where it stopped, with what the buffers then hold
-abbrev pub haltedIn : Stopped → Lent → Halted
-haltedIn (Found u) l = halted found u l
-haltedIn (NotFound u) l = halted notFound u l
 
 -- after u updates, which have not satisfied every check: the symbols are the decisions
 pub record Unsettled (k : Numbers) (ds cs ws : List ℕ) (u : ℕ) (P store z : List ℕ) : Type 0 where

@@ -6,6 +6,7 @@ use Prim.Native.Nat.{ℕ, suc, _+_, _-_, min}
 use lib.Dec.{eqb, ltb}
 use lib.ListN.{length, take, drop, set}
 use Rattle.trellis.specs.Lists.{pick}
+use Rattle.trellis.specs.Sizes.{mostLineBytes, lineRoom}
 use Rattle.machine.specs.Line.{lineBytes, lineCases}
 use Rattle.machine.specs.CodeLine.{Read, good, bad, Code, parse}
 use Rattle.machine.specs.inner.Blocks.{Session, first, later, ended}
@@ -35,7 +36,7 @@ putAt out n s = take n out ++ (s ++ drop (length s) (drop n out))
 -- a byte of a line
 abbrev pub byteHeld : Held → ℕ → Held
 byteHeld h b =
-    pick (ltb (h .len) 32769)
+    pick (ltb (h .len) lineRoom)
     (record { len = h .len + 1; code = h .code; over = h .over; line = set (h .line) (h .len) b; bytes = h .bytes })
     h
 
@@ -46,7 +47,7 @@ toNewline (b ∷ s) = pick (eqb b 0x0A) 0 (suc (toNewline s))
 
 -- how many bytes of a part the line has room for
 abbrev pub roomFor : ℕ → List ℕ → ℕ
-roomFor n s = min (length s) (32769 - n)
+roomFor n s = min (length s) (lineRoom - n)
 
 -- a part of a line at once: 32,769 bytes are enough to refuse it by 15
 unfoldable pub partHeld : Held → List ℕ → Held
@@ -66,7 +67,7 @@ KeepsPart s l t r m = (c : List ℕ) → heldIn r m c ≡ partHeld (heldIn s l c
 
 -- the bytes of the code line; none if the line is refused by 15 or 14
 unfoldable pub codeBytes : List ℕ → List ℕ
-codeBytes t = lineCases t 16384 (λ k. []) (lineBytes t)
+codeBytes t = lineCases t mostLineBytes (λ k. []) (lineBytes t)
 
 abbrev pub isGood : Read Code → Bool
 isGood (good C) = true

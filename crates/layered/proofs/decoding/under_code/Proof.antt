@@ -5,7 +5,7 @@ use borrow.Author.Needs.{needs}
 use lib.ListN.{length, take, length-take}
 use lib.Seq.{length-take-le}
 use Rattle.machine.specs.Machine.{symbols, margins}
-use Rattle.machine.specs.Decoding.{lending, decodingUnder}
+use Rattle.machine.specs.Decoding.{lending}
 use Rattle.layered.proofs.Columns.{front-room}
 use Rattle.slices.proofs.Copies.{copied-is}
 use Rattle.layered.proofs.Decoded.{fits, refused-leaves, copied-room, copied-leaves}
@@ -35,7 +35,7 @@ returns c =
     let at-fault = c .before in
     let at-u16-to-usize = at-fault .before .before .before .before .before in
     let start = at-u16-to-usize .before .before .before .before .before .before .before .before .before .before .before in
-    refused-leaves (start .args .numbers) (start .args .degrees .now) (start .args .columns .now) (start .args .weights .now) (start .pre .coded) (at-u16-to-usize .u16-to-usize .result) (at-u16-to-usize .u16-to-usize .ensures .0) (start .args .frame .now) (start .args .symbols .now) (start .args .costs .now) (start .args .store .now) (start .args .margins .now) (at-fault .fault .result) (at-fault .fault .ensures) (λ r. decodingUnder r (start .args .frame .now) (lending (start .args .symbols .now) (start .args .costs .now) (start .args .store .now) (start .args .margins .now))) refl (c .if1 .taken)
+    refused-leaves (start .args .numbers) (start .args .degrees .now) (start .args .columns .now) (start .args .weights .now) (start .pre .coded) (at-u16-to-usize .u16-to-usize .result) (at-u16-to-usize .u16-to-usize .ensures .0) (start .args .frame .now) (start .args .symbols .now) (start .args .costs .now) (start .args .store .now) (start .args .margins .now) (at-fault .fault .result) (at-fault .fault .ensures) (start .args .early) (c .if1 .taken)
 
 slice-relend-prefix-copy : tie.Need-slice-relend-prefix-copy
 slice-relend-prefix-copy c =
@@ -141,7 +141,7 @@ returns-2 c =
     let at-fault = at-if1 .before in
     let at-u16-to-usize = at-fault .before .before .before .before .before in
     let start = at-u16-to-usize .before .before .before .before .before .before .before .before .before .before .before in
-    copied-leaves (start .args .numbers) (start .args .degrees .now) (start .args .columns .now) (start .args .weights .now) (start .pre .coded) (at-u16-to-usize .u16-to-usize .result) (at-u16-to-usize .u16-to-usize .ensures .0) (start .args .frame .now) (start .args .symbols .now) (start .args .costs .now) (start .args .store .now) (start .args .margins .now) (at-fault .fault .result) (at-fault .fault .ensures) (at-if1 .if1 .left) (at-copy .copy .last .1 .0) (copied-is (start .args .frame .now) (take (length (start .args .frame .now)) (start .args .costs .now)) (at-copy .copy .last .1 .0) (sym (length-take-le (length (start .args .frame .now)) (start .args .costs .now) (omega (arith, (fits (start .args .numbers) (start .args .degrees .now) (start .args .columns .now) (start .args .weights .now) (start .pre .coded) (at-u16-to-usize .u16-to-usize .result) (at-u16-to-usize .u16-to-usize .ensures .0) (start .args .frame .now) (start .args .symbols .now) (start .args .costs .now) (start .args .store .now) (start .args .margins .now) (at-fault .fault .result) (at-fault .fault .ensures) (at-if1 .if1 .left)))))) (at-copy .copy .ensures)) (at-run-to-margins .run-to-margins .result) _ _ _ _ (at-run-to-margins .run-to-margins .ensures .0) (at-run-to-margins .run-to-margins .ensures .1 .0) (at-run-to-margins .run-to-margins .ensures .1 .1)
+    copied-leaves (start .args .numbers) (start .args .degrees .now) (start .args .columns .now) (start .args .weights .now) (start .pre .coded) (at-u16-to-usize .u16-to-usize .result) (at-u16-to-usize .u16-to-usize .ensures .0) (start .args .frame .now) (start .args .symbols .now) (start .args .costs .now) (start .args .store .now) (start .args .margins .now) (at-fault .fault .result) (at-fault .fault .ensures) (at-if1 .if1 .left) (at-copy .copy .last .1 .0) (copied-is (start .args .frame .now) (take (length (start .args .frame .now)) (start .args .costs .now)) (at-copy .copy .last .1 .0) (sym (length-take-le (length (start .args .frame .now)) (start .args .costs .now) (omega (arith, (fits (start .args .numbers) (start .args .degrees .now) (start .args .columns .now) (start .args .weights .now) (start .pre .coded) (at-u16-to-usize .u16-to-usize .result) (at-u16-to-usize .u16-to-usize .ensures .0) (start .args .frame .now) (start .args .symbols .now) (start .args .costs .now) (start .args .store .now) (start .args .margins .now) (at-fault .fault .result) (at-fault .fault .ensures) (at-if1 .if1 .left)))))) (at-copy .copy .ensures)) (start .args .early) (at-run-to-margins .run-to-margins .result) _ _ _ _ (at-run-to-margins .run-to-margins .ensures .0) (at-run-to-margins .run-to-margins .ensures .1 .0) (at-run-to-margins .run-to-margins .ensures .1 .1)
 
 pub under-code-spec : {M : Type 1} → statement M
 under-code-spec =

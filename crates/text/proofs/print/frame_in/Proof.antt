@@ -42,7 +42,7 @@ returns c =
     let d = w .before .before .before .before .before .before .before .before .before .before .before in
     let s = d .before .before .before .before .before .before .before .before .before .before .before .before in
     let b = lending (s .args .symbols .now) (s .args .costs .now) (s .args .store .now) (s .args .margins .now) in
-    let t = tells (s .args .code .now) (s .args .frame .now) b _ _ (s .pre .0) (s .pre .1 .0) (s .pre .1 .1 .0) (s .pre .1 .1 .1 .0) (d .decode-counted .ensures .0) (d .decode-counted .result .columns) (d .decode-counted .ensures .1 .0) in
+    let t = tells (s .args .code .now) (s .args .frame .now) b _ _ (s .pre .0) (d .decode-counted .ensures .0) (d .decode-counted .result .columns) (d .decode-counted .ensures .1 .0) in
     (w .answer .ensures .0 ∙ ap length (t .1), w .answer .ensures .1 ∙ ap (λ l. over l (s .args .out .now)) (t .1))
 
 pub frame-in-spec : {M : Type 1} → statement M

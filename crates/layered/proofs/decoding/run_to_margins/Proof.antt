@@ -9,8 +9,8 @@ use Rattle.trellis.specs.Check.{decide}
 use Rattle.trellis.specs.Rules.{sizeOf}
 use Rattle.machine.specs.CodeLine.{columnOf}
 use Rattle.layered.proofs.Satisfied.{margins-are}
-use Rattle.layered.proofs.early.run_to_margins.Statement.{statement}
-use Rattle.layered.proofs.early.run_to_margins.Tie as tie
+use Rattle.layered.proofs.decoding.run_to_margins.Statement.{statement}
+use Rattle.layered.proofs.decoding.run_to_margins.Tie as tie
 
 run-requires : tie.Need-run-requires
 run-requires c κs = search needs
@@ -49,7 +49,7 @@ returns c =
     let at-size = at-margins .before .before in
     let at-run = at-size .before .before .before .before .before .before .before .before .before .before .before .before in
     let start = at-run .before .before .before .before .before .before .before .before .before .before .before .before .before .before .before in
-    (at-run .run .ensures .0, (at-run .run .ensures .1, at-margins .margins .ensures ∙ ap₂ (λ q n. tab (λ c. decide (columnOf q (at-run .run .last .1 .1 .1 .1 .1 .0) c) .margin) n) (at-size .size .ensures .0) (start .pre .1) ∙ margins-are (start .args .numbers) (start .args .degrees .now) (start .args .columns .now) (start .args .weights .now) (at-run .run .last .1 .1 .1 .1 .1 .0)))
+    (at-run .run .ensures .0, (at-run .run .ensures .1, at-margins .margins .ensures ∙ ap₂ (λ q n. tab (λ c. decide (columnOf q (at-run .run .last .1 .1 .1 .1 .1 .1 .0) c) .margin) n) (at-size .size .ensures .0) (start .pre .1) ∙ margins-are (start .args .numbers) (start .args .degrees .now) (start .args .columns .now) (start .args .weights .now) (at-run .run .last .1 .1 .1 .1 .1 .1 .0)))
 
 pub run-to-margins-spec : {M : Type 1} → statement M
 run-to-margins-spec =
