@@ -19,7 +19,7 @@ use Rattle.engine.proofs.RestGroups.{most-ext}
 use Rattle.tables.specs.inner.Lanes.{Flips, Doubled, Copied, cut, taken, rowAt, joinTo}
 use Rattle.tables.specs.inner.Tables.{Table, risenAt}
 use Rattle.tables.proofs.Blocks.{align}
-use Rattle.tables.proofs.Flipping.{flips-small, flip-lane}
+use Rattle.tables.proofs.Flipping.{flips-small, flips1, flips2, flip-lane}
 
 pub mul-even : (j l : ℕ) → Table l → j * l % 16 ≡ 0
 mul-even j l W = go (W .bits) (W .power) (W .least) (W .most)
@@ -94,7 +94,7 @@ table-wide l W = go (W .bits) (W .power) (W .least) (W .most)
     go (suc (suc (suc (suc (suc (suc zero)))))) e h k = let q : l ≡ 64 = e in rw q (omega arith)
     go (suc (suc (suc (suc (suc (suc (suc b))))))) e h k = absurd (omega arith)
 
-pub copied-one : (l : ℕ) (w s : List ℕ) {r : List ℕ} → length w ≡ l → r ≡ w ++ drop l s → Copied 1 l w r
+copied-one : (l : ℕ) (w s : List ℕ) {r : List ℕ} → length w ≡ l → r ≡ w ++ drop l s → Copied 1 l w r
 copied-one l w s e o =
     record {
       at = λ j x h k.
@@ -143,6 +143,9 @@ copied-double f l w s r F W C D =
             ∙ ap (λ y. getD w y 0) (xor-assoc x f (j - f) ∙ ap (xor x) (bit-plus f (j - f) F (omega arith) ∙ q))
       ];
     }
+
+pub copied-four : (l : ℕ) (w s : List ℕ) {r a b : List ℕ} → Table l → length w ≡ l → r ≡ w ++ drop l s → Doubled 1 l r a → Doubled 2 l a b → Copied 4 l w b
+copied-four l w s W e o D E = copied-double 2 l w _ _ flips2 W (copied-double 1 l w _ _ flips1 W (copied-one l w s e o) D) E
 
 -- a join of copies is the join of the tables
 module _ (g : Bool) (q l : ℕ) (u w s e : List ℕ) (W : Table l) (C : Copied (min 16 q) l w s) (within : q ≤ l) where

@@ -4,7 +4,7 @@ use mathlib.Core.Logic.{_≢_, _⊎_, inl, inr, ⊎-elim}
 use mathlib.Core.List.{List, [], _∷_, _++_, append-assoc}
 use Prim.Native.Nat.{ℕ, zero, suc, _+_, _-_, _%_, _≤_, _<_}
 use native.Mathlib.Omega.{arith}
-use lib.ListN.{length, drop, take, getD, length-append, length-take, length-drop, List·getD-append}
+use lib.ListN.{length, drop, take, getD, set, length-set, length-append, length-take, length-drop, List·getD-append}
 use lib.Seq.{getD-take, getD-drop, take-at, drop-at, drop-drop}
 use lib.Bits as Bits
 use lib.Bits.{bitXor}
@@ -14,6 +14,7 @@ use Rattle.trellis.proofs.Xor.{xor-assoc, xor-lt}
 use Rattle.trellis.proofs.Loops.{length-tab, tab-ext}
 use Rattle.tables.specs.inner.Lanes.{lanes, Flips}
 use Rattle.tables.proofs.Blocks.{align, tab-append}
+use Rattle.tables.proofs.Turns.{tab-turn, lanes-end}
 
 pub flips-small : (f : ℕ) → Flips f → f < 16
 flips-small f F = ⊎-elim (λ (e : f ≡ 1). omega arith) (λ r. ⊎-elim (λ (e : f ≡ 2). omega arith) (λ s. ⊎-elim (λ (e : f ≡ 4). omega arith) (λ (e : f ≡ 8). omega arith) s) r) (F .one)
@@ -62,8 +63,16 @@ double-turn f n d s i {r} F e h m k o u =
     u ∙ ap₂ {C = List ℕ} (λ x y. x ++ y) t (ap₂ {C = List ℕ} (λ x y. x ++ y) v w) ∙ append-assoc (take n d) _ _
     ∙ ap {B = List ℕ} (λ x. take n d ++ x) (sym (append-assoc (tab (λ j. getD d (xor j f) 0) i) _ _) ∙ ap {B = List ℕ} (λ x. x ++ drop (n + (i + 16)) d) (sym (tab-append (λ j. getD d (xor j f) 0) i 16)))
 
-pub flip-done : (t : List ℕ) (f k : ℕ) {o : List ℕ} → f ≡ k → o ≡ lanes (λ i. getD t (xor i k) 0) → o ≡ lanes (λ i. getD t (xor i f) 0)
-flip-done t f k e o = rw e o
+-- what the loop over a block keeps: i rows of o are done
+abbrev pub Flipped : ℕ → List ℕ → List ℕ → List ℕ → ℕ → Type 0
+Flipped f t o₀ o i = (i ≤ 16) × ((length o ≡ length o₀) × (o ≡ tab (λ (j : ℕ). getD t (xor j f) 0) i ++ drop i o₀))
+
+pub flip-turn : (f : ℕ) (t o₀ o : List ℕ) (i : ℕ) → length o₀ ≡ 16 → i < 16 → Flipped f t o₀ o i → Flipped f t o₀ (set o i (getD t (bitXor i f) 0)) (i + 1)
+flip-turn f t o₀ o i e h F =
+    (omega arith, (simp length-set (F .1 .0), tab-turn (λ (j : ℕ). getD t (xor j f) 0) o o₀ i (omega arith) (F .1 .1) (flip-value t i f)))
+
+pub flip-done : (f k : ℕ) (t o₀ o : List ℕ) (i : ℕ) → f ≡ k → length o₀ ≡ 16 → 16 ≤ i → Flipped k t o₀ o i → o ≡ lanes (λ j. getD t (xor j f) 0)
+flip-done f k t o₀ o i e l h F = rw e (lanes-end (λ (j : ℕ). getD t (xor j k) 0) o o₀ i (F .1 .1) (omega arith) l)
 
 lanes-ext : (f h : ℕ → ℕ) → ((i : ℕ) → i < 16 → f i ≡ h i) → lanes f ≡ lanes h
 unfolding lanes

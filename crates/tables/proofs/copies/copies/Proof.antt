@@ -4,7 +4,7 @@ use native.Mathlib.Omega.{arith}
 use borrow.Author.Needs.{needs}
 use lib.ListN.{drop}
 use Rattle.tables.proofs.Flipping.{flips1, flips2, flips4, flips8}
-use Rattle.tables.proofs.Copying.{copied-one, copied-double, copied-less, take-room}
+use Rattle.tables.proofs.Copying.{copied-four, copied-double, copied-less, take-room}
 use Rattle.tables.proofs.copies.copies.Statement.{statement}
 use Rattle.tables.proofs.copies.copies.Tie as tie
 
@@ -21,11 +21,11 @@ copy-requires c κs =
     let start = c .before .before .before in
     let e = take-room (start .args .shape .l) (start .args .s .now) (start .pre .1 .1) in (start .pre .1 .0 ∙ sym e, (omega (arith, e, (start .pre .0 .table) .even), omega (arith, e, (start .pre .0 .table) .limit)))
 
-twice1-requires : tie.Need-twice1-requires
-twice1-requires c κs = search needs
+twice-requires : tie.Need-twice-requires
+twice-requires c κs = (flips1, search needs)
 
-twice2-requires : tie.Need-twice2-requires
-twice2-requires c κs = search needs
+twice-requires-2 : tie.Need-twice-requires-2
+twice-requires-2 c κs = (flips2, search needs)
 
 same-length : tie.Need-same-length
 same-length c = search needs
@@ -33,41 +33,46 @@ same-length c = search needs
 returns : tie.Need-returns
 returns c =
     let at-twice2 = c .before .before .before in
-    let at-twice1 = at-twice2 .before .before .before .before in
-    let at-copy = at-twice1 .before .before .before .before in
+    let at-twice = at-twice2 .before .before .before .before in
+    let at-copy = at-twice .before .before .before .before in
     let start = at-copy .before .before .before .before in
-    copied-less _ 4 (start .args .shape .l) (start .args .table .now) _ (omega arith) (copied-double 2 (start .args .shape .l) (start .args .table .now) _ _ flips2 (start .pre .0 .table) (copied-double 1 (start .args .shape .l) (start .args .table .now) _ _ flips1 (start .pre .0 .table) (copied-one (start .args .shape .l) (start .args .table .now) (start .args .s .now) (start .pre .1 .0) (ap (λ y. y ++ drop (start .args .shape .l) (start .args .s .now)) (at-copy .copy .ensures))) (at-twice1 .twice1 .ensures)) (at-twice2 .twice2 .ensures))
+    let four = copied-four (start .args .shape .l) (start .args .table .now) (start .args .s .now) (start .pre .0 .table) (start .pre .1 .0) (ap (λ y. y ++ drop (start .args .shape .l) (start .args .s .now)) (at-copy .copy .ensures)) (at-twice .twice .ensures) (at-twice2 .twice2 .ensures) in
+    copied-less _ 4 (start .args .shape .l) (start .args .table .now) _ (omega arith) four
 
-twice4-requires : tie.Need-twice4-requires
-twice4-requires c κs = search needs
+twice-requires-3 : tie.Need-twice-requires-3
+twice-requires-3 c κs = (flips4, search needs)
 
 same-length-2 : tie.Need-same-length-2
 same-length-2 c = search needs
 
 returns-2 : tie.Need-returns-2
 returns-2 c =
-    let at-twice4 = c .before .before .before in
-    let at-twice2 = at-twice4 .before .before .before .before .before in
-    let at-twice1 = at-twice2 .before .before .before .before in
-    let at-copy = at-twice1 .before .before .before .before in
+    let at-twice3 = c .before .before .before in
+    let at-twice2 = at-twice3 .before .before .before .before .before in
+    let at-twice = at-twice2 .before .before .before .before in
+    let at-copy = at-twice .before .before .before .before in
     let start = at-copy .before .before .before .before in
-    copied-less _ 8 (start .args .shape .l) (start .args .table .now) _ (omega arith) (copied-double 4 (start .args .shape .l) (start .args .table .now) _ _ flips4 (start .pre .0 .table) (copied-double 2 (start .args .shape .l) (start .args .table .now) _ _ flips2 (start .pre .0 .table) (copied-double 1 (start .args .shape .l) (start .args .table .now) _ _ flips1 (start .pre .0 .table) (copied-one (start .args .shape .l) (start .args .table .now) (start .args .s .now) (start .pre .1 .0) (ap (λ y. y ++ drop (start .args .shape .l) (start .args .s .now)) (at-copy .copy .ensures))) (at-twice1 .twice1 .ensures)) (at-twice2 .twice2 .ensures)) (at-twice4 .twice4 .ensures))
+    let four = copied-four (start .args .shape .l) (start .args .table .now) (start .args .s .now) (start .pre .0 .table) (start .pre .1 .0) (ap (λ y. y ++ drop (start .args .shape .l) (start .args .s .now)) (at-copy .copy .ensures)) (at-twice .twice .ensures) (at-twice2 .twice2 .ensures) in
+    let eight = copied-double 4 (start .args .shape .l) (start .args .table .now) _ _ flips4 (start .pre .0 .table) four (at-twice3 .twice3 .ensures) in
+    copied-less _ 8 (start .args .shape .l) (start .args .table .now) _ (omega arith) eight
 
-twice8-requires : tie.Need-twice8-requires
-twice8-requires c κs = search needs
+twice-requires-4 : tie.Need-twice-requires-4
+twice-requires-4 c κs = (flips8, search needs)
 
 same-length-3 : tie.Need-same-length-3
 same-length-3 c = search needs
 
 returns-3 : tie.Need-returns-3
 returns-3 c =
-    let at-twice8 = c .before .before in
-    let at-twice4 = at-twice8 .before .before .before .before .before in
-    let at-twice2 = at-twice4 .before .before .before .before .before in
-    let at-twice1 = at-twice2 .before .before .before .before in
-    let at-copy = at-twice1 .before .before .before .before in
+    let at-twice4 = c .before .before in
+    let at-twice3 = at-twice4 .before .before .before .before .before in
+    let at-twice2 = at-twice3 .before .before .before .before .before in
+    let at-twice = at-twice2 .before .before .before .before in
+    let at-copy = at-twice .before .before .before .before in
     let start = at-copy .before .before .before .before in
-    copied-less _ 16 (start .args .shape .l) (start .args .table .now) _ (omega arith) (copied-double 8 (start .args .shape .l) (start .args .table .now) _ _ flips8 (start .pre .0 .table) (copied-double 4 (start .args .shape .l) (start .args .table .now) _ _ flips4 (start .pre .0 .table) (copied-double 2 (start .args .shape .l) (start .args .table .now) _ _ flips2 (start .pre .0 .table) (copied-double 1 (start .args .shape .l) (start .args .table .now) _ _ flips1 (start .pre .0 .table) (copied-one (start .args .shape .l) (start .args .table .now) (start .args .s .now) (start .pre .1 .0) (ap (λ y. y ++ drop (start .args .shape .l) (start .args .s .now)) (at-copy .copy .ensures))) (at-twice1 .twice1 .ensures)) (at-twice2 .twice2 .ensures)) (at-twice4 .twice4 .ensures)) (at-twice8 .twice8 .ensures))
+    let four = copied-four (start .args .shape .l) (start .args .table .now) (start .args .s .now) (start .pre .0 .table) (start .pre .1 .0) (ap (λ y. y ++ drop (start .args .shape .l) (start .args .s .now)) (at-copy .copy .ensures)) (at-twice .twice .ensures) (at-twice2 .twice2 .ensures) in
+    let eight = copied-double 4 (start .args .shape .l) (start .args .table .now) _ _ flips4 (start .pre .0 .table) four (at-twice3 .twice3 .ensures) in
+    copied-less _ 16 (start .args .shape .l) (start .args .table .now) _ (omega arith) (copied-double 8 (start .args .shape .l) (start .args .table .now) _ _ flips8 (start .pre .0 .table) eight (at-twice4 .twice4 .ensures))
 
 pub copies-spec : {M : Type 1} → statement M
 copies-spec =
@@ -76,13 +81,13 @@ copies-spec =
     slice-relend-prefix-copy
     slice-aggregate-copy
     copy-requires
-    twice1-requires
-    twice2-requires
+    twice-requires
+    twice-requires-2
     same-length
     returns
-    twice4-requires
+    twice-requires-3
     same-length-2
     returns-2
-    twice8-requires
+    twice-requires-4
     same-length-3
     returns-3)
