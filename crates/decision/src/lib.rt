@@ -5,15 +5,11 @@ mod bytes;
 mod words;
 
 use crate::answers::Decision;
-ghost use mathlib.Core.Path.{_≡_};
-ghost use Prim.Native.Nat.{_≤_};
-ghost use lib.ListN.{length};
-ghost use Rattle.trellis.specs.Check.{decide as decideOf};
+ghost use Rattle.decision.specs.Answers.{Decides};
 
 // Of costs of one byte, as a frame and a check have them.
 pub fn decide_u8(costs: &[u8]) -> Decision
-    ensures { λ r. ⌜ ((r .symbol ≡ decideOf (now (costs .entry)) .symbol) × (r .margin ≡ decideOf (now (costs .entry)) .margin))
-        × (r .symbol ≤ length (now (costs .entry))) ⌝ }
+    ensures { λ r. ⌜ Decides (now (costs .entry)) r ⌝ }
 {
     let mut x = 0;
     loop {
@@ -35,8 +31,7 @@ pub fn decide_u8(costs: &[u8]) -> Decision
 
 // Of costs of two bytes, as the machine has them.
 pub fn decide_u16(costs: &[u16]) -> Decision
-    ensures { λ r. ⌜ ((r .symbol ≡ decideOf (now (costs .entry)) .symbol) × (r .margin ≡ decideOf (now (costs .entry)) .margin))
-        × (r .symbol ≤ length (now (costs .entry))) ⌝ }
+    ensures { λ r. ⌜ Decides (now (costs .entry)) r ⌝ }
 {
     let mut x = 0;
     loop {

@@ -1,17 +1,14 @@
--- The search's place plus the first zero of the rest is the first zero of all; there the loop over the others gives the margin.
-use mathlib.Core.Path.{_≡_, _∙_, sym}
-use Prim.Native.Nat.{_+_, _≤_, _<_, _-_}
-use native.Mathlib.Numerals.{add-one}
+-- The laws of the search, where no cost is above 255.
+use Prim.Native.Nat.{_-_}
 use native.Mathlib.Omega.{arith}
 use borrow.Author.Needs.{needs}
-use lib.ListN.{length, drop}
-use Rattle.trellis.specs.Check.{firstZero}
-use Rattle.trellis.proofs.Margins.{zero-here, zero-later, zero-none, margin-found, margin-none}
+use lib.ListN.{length}
+use Rattle.decision.proofs.Searching.{Searched, search-none, search-more, search-found}
 use Rattle.decision.proofs.decide_u8.Statement.{statement}
 use Rattle.decision.proofs.decide_u8.Tie as tie
 
 abbrev Inv-loop : tie.InvT-loop
-Inv-loop costs x₀ x = (x ≤ length costs) × (firstZero costs ≡ x + firstZero (drop x costs))
+Inv-loop costs x₀ x = Searched costs x
 
 abbrev μ-loop : tie.MeasureT-loop
 μ-loop costs x₀ x = length costs - x
@@ -34,24 +31,15 @@ loop-less c = search needs
 loop-again : tie.Need-loop-again Inv-loop μ-loop
 loop-again c =
     let l = c .before .before .before in
-    let s = l .before .before .args .costs .now in
-    let h : l .loop .x < length s = omega arith in
-    (omega arith, rw (add-one (l .loop .x)) (omega (arith, zero-later s (l .loop .x) h (c .if2 .left))))
+    search-more (l .before .before .args .costs .now) (l .loop .x) (l .loop .inv) (c .before .before .if1 .left) (c .if2 .left)
 
 returns : tie.Need-returns Inv-loop μ-loop
-returns c =
-    let s = c .before .before .before .args .costs .now in
-    let z : firstZero (drop (c .before .loop .x) s) ≡ 0 = rw (c .if1 .taken) (zero-none s) in
-    let e : firstZero s ≡ length s = omega arith in
-    ((omega arith, sym (margin-none s e)), omega arith)
+returns c = search-none (c .before .before .before .args .costs .now) (c .before .loop .x) (c .before .loop .inv) (c .if1 .taken)
 
 returns-2 : tie.Need-returns-2 Inv-loop μ-loop
 returns-2 c =
     let l = c .before .before .before .before in
-    let s = l .before .before .args .costs .now in
-    let h : l .loop .x < length s = omega arith in
-    let e : l .loop .x ≡ firstZero s = omega (arith, zero-here s (l .loop .x) h (c .before .if2 .taken)) in
-    ((e, c .margin-at .ensures ∙ margin-found 255 s (λ i. omega (arith, l .before .shared-slice-known .given i)) (l .loop .x) e h), omega arith)
+    search-found (l .before .before .args .costs .now) (l .loop .x) (l .loop .inv) 255 (λ i. omega (arith, l .before .shared-slice-known .given i)) (c .before .before .before .if1 .left) (c .before .if2 .taken) (c .margin-at .ensures)
 
 pub decide-u8-spec : {M : Type 1} → statement M
 decide-u8-spec =

@@ -1,16 +1,17 @@
 -- The least of the costs so far, turn by turn.
-use mathlib.Core.Path.{_≡_, refl}
-use Prim.Native.Nat.{_≤_, _-_}
+use mathlib.Core.Path.{refl}
+use Prim.Native.Nat.{_-_}
 use native.Mathlib.Numerals.{add-one}
 use native.Mathlib.Omega.{arith}
 use borrow.Author.Needs.{needs}
 use lib.ListN.{length}
 use Rattle.trellis.specs.inner.Margins.{leastBut}
+use Rattle.decision.proofs.Searching.{Least, least-all}
 use Rattle.decision.proofs.words.least_but.Statement.{statement}
 use Rattle.decision.proofs.words.least_but.Tie as tie
 
 abbrev Inv-loop : tie.InvT-loop
-Inv-loop costs z least₀ x₀ least x = (x ≤ length costs) × (least ≡ leastBut 65535 costs z x)
+Inv-loop costs z least₀ x₀ least x = Least 65535 costs z least x
 
 abbrev μ-loop : tie.MeasureT-loop
 μ-loop costs z least₀ x₀ least x = length costs - x
@@ -44,9 +45,7 @@ loop-again c = (omega arith, rw add-one cc)
 returns : tie.Need-returns Inv-loop μ-loop
 returns c =
     let l = c .before in
-    let a = l .before .before .args in
-    let e : l .loop .x ≡ length (a .costs .now) = omega arith in
-    rw (← e) (l .loop .inv .1)
+    least-all 65535 (l .before .before .args .costs .now) (l .before .before .args .z) (l .loop .least) (l .loop .x) (l .loop .inv) (omega arith)
 
 pub least-but-spec : {M : Type 1} → statement M
 least-but-spec =

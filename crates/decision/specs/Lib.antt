@@ -1,0 +1,2 @@
+-- What a reader must believe: Answers, the reply of the calls.
+pub mod Answers
