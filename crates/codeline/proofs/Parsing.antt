@@ -15,15 +15,12 @@ use Rattle.trellis.specs.Rules.{sizeOf, firstOk}
 use Rattle.machine.specs.CodeLine.{Read, good, bad, then, Edge, edge, wordAt, readEdge, Code, checks, headTests, parse, Numbers, numbersOf}
 use Rattle.machine.specs.inner.Tables.{flat, edgesInto, checkInto, Tables, tables, checksInto, tablesOf}
 use Rattle.machine.proofs.Tables.{pick-then, checks-into}
-use Rattle.codeline.specs.inner.Reading.{ByteAt, WordAt, Filled, isOutside, numbersAt, headOf}
+use Rattle.codeline.specs.inner.Reading.{FieldAt, Filled, isOutside, numbersAt, headOf}
 use Rattle.codeline.specs.declared.reader.Field.{Field}
 
 -- a field read from where the one before it ended
-pub byte-there : (f : Field) (s : List ℕ) (x y : ℕ) → ByteAt f s x → x ≡ y → ByteAt f s y
-byte-there f s x y b e = subst (λ k. ByteAt f s k) e b
-
-pub word-there : (f : Field) (s : List ℕ) (x y : ℕ) → WordAt f s x → x ≡ y → WordAt f s y
-word-there f s x y b e = subst (λ k. WordAt f s k) e b
+pub field-there : (wide : Bool) (f : Field) (s : List ℕ) (x y : ℕ) → FieldAt wide f s x → x ≡ y → FieldAt wide f s y
+field-there wide f s x y b e = subst (λ k. FieldAt wide f s k) e b
 
 -- a turn of each loop, i below its end
 module _ (s : List ℕ) (n q count i : ℕ) (h : i < count) where

@@ -40,14 +40,14 @@ fn edge_at(code: &[u8], at: usize, n: usize, q: usize, low: usize) -> Edge
     ensures { λ r. ⌜ edgeRead r ≡ readEdge (now (code .entry)) at n q low ⌝ }
     ensures { λ r. ⌜ EdgeEnds r at ⌝ }
 {
-    let c = reader::word_at(code, at);
+    let c = reader::field_at(code, at, reader::WORD);
     if n <= c.value {
         return Edge::Refused(10);
     }
     if c.value < low {
         return Edge::Refused(10);
     }
-    let w = reader::byte_at(code, c.next);
+    let w = reader::field_at(code, c.next, reader::BYTE);
     if w.value == 0 {
         return Edge::Refused(11);
     }
@@ -111,7 +111,7 @@ fn check_at(
     if reader::left_at(code, at) == 0 {
         return Check::Refused(5);
     }
-    let f = reader::byte_at(code, at);
+    let f = reader::field_at(code, at, reader::BYTE);
     let d = f.value;
     if d < 2 {
         return Check::Refused(9);

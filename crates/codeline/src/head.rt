@@ -39,24 +39,24 @@ pub fn head(code: &[u8]) -> Front
     if reader::left_at(code, 0) < 6 {
         return refused(5);
     }
-    let f = reader::byte_at(code, 0);
+    let f = reader::field_at(code, 0, reader::BYTE);
     let first = f.value as u8;
     if !rules::accepted(first) {
         return refused(6);
     }
-    let n = reader::word_at(code, f.next);
+    let n = reader::field_at(code, f.next, reader::WORD);
     if outside(n.value, 1, sizes::MOST_SYMBOLS) {
         return refused(7);
     }
-    let m = reader::byte_at(code, n.next);
+    let m = reader::field_at(code, n.next, reader::BYTE);
     if outside(m.value, 1, sizes::MOST_CHECKS) {
         return refused(7);
     }
-    let g = reader::byte_at(code, m.next);
+    let g = reader::field_at(code, m.next, reader::BYTE);
     if outside(g.value, 1, 16) {
         return refused(8);
     }
-    let i = reader::byte_at(code, g.next);
+    let i = reader::field_at(code, g.next, reader::BYTE);
     if i.value < 1 {
         return refused(8);
     }

@@ -1,6 +1,6 @@
 -- What the readers of the code line answer, in the terms of the definitions.
 use mathlib.Core.Path.{_≡_}
-use mathlib.Core.Bool.{Bool, _||_}
+use mathlib.Core.Bool.{Bool, true, false, _||_}
 use mathlib.Core.List.{List, _++_}
 use Prim.Native.Nat.{ℕ, _+_, _*_, _≤_, _<_}
 use lib.Dec.{ltb}
@@ -28,6 +28,15 @@ ByteAt f s at = (f .value ≡ getD s at 0) × ((f .value < 256) × (f .next ≡ 
 
 abbrev pub WordAt : Field → List ℕ → ℕ → Type 0
 WordAt f s at = (f .value ≡ wordAt s at) × ((f .value < 65536) × (f .next ≡ at + 2))
+
+-- the latter where it is wide, else the former; and how many bytes stand behind its first
+abbrev pub FieldAt : Bool → Field → List ℕ → ℕ → Type 0
+FieldAt false f s at = ByteAt f s at
+FieldAt true f s at = WordAt f s at
+
+abbrev pub behind : Bool → ℕ
+behind false = 0
+behind true = 1
 
 abbrev pub edgeRead : Edge → Read Pair
 edgeRead (Is c w next) = good (edge c w)

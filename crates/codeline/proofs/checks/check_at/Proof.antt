@@ -21,8 +21,8 @@ returns c =
 left-at-requires : tie.Need-left-at-requires
 left-at-requires c κs = search needs
 
-byte-at-requires : tie.Need-byte-at-requires
-byte-at-requires c κs = omega arith
+field-at-requires : tie.Need-field-at-requires
+field-at-requires c κs = omega arith
 
 left-at-requires-2 : tie.Need-left-at-requires-2
 left-at-requires-2 c κs = search needs
@@ -89,8 +89,8 @@ returns-6 c =
     let g = c .before .before .before .before .before .before .before in
     let w = g .before .before .before .before .before .before .before .before in
     let a = w .before .before .before .before .before .before .args in
-    let n : a .at + 1 ≡ w .byte-at .result .next = sym (w .byte-at .ensures .1 .1) in
-    let e = check-past (a .code .now) (a .at) (a .n) (a .q) (a .total) (w .byte-at .result .value) (take (a .total) (a .columns .now)) (take (a .total) (a .weights .now)) (omega arith) (w .byte-at .ensures .0) (omega arith) (omega arith) (omega arith) (omega arith) in
+    let n : a .at + 1 ≡ w .field-at .result .next = sym (w .field-at .ensures .1 .1) in
+    let e = check-past (a .code .now) (a .at) (a .n) (a .q) (a .total) (w .field-at .result .value) (take (a .total) (a .columns .now)) (take (a .total) (a .weights .now)) (omega arith) (w .field-at .ensures .0) (omega arith) (omega arith) (omega arith) (omega arith) in
     (rw e (rw n (rw (c .before .k .given .1) at (g .edges-at .ensures .0))), tt)
 
 same-length-3 : tie.Need-same-length-3
@@ -104,10 +104,10 @@ returns-7 c =
     let g = c .before .before .before .before .before .before .before in
     let w = g .before .before .before .before .before .before .before .before in
     let a = w .before .before .before .before .before .before .args in
-    let n : a .at + 1 ≡ w .byte-at .result .next = sym (w .byte-at .ensures .1 .1) in
-    let e = check-past (a .code .now) (a .at) (a .n) (a .q) (a .total) (w .byte-at .result .value) (take (a .total) (a .columns .now)) (take (a .total) (a .weights .now)) (omega arith) (w .byte-at .ensures .0) (omega arith) (omega arith) (omega arith) (omega arith) in
+    let n : a .at + 1 ≡ w .field-at .result .next = sym (w .field-at .ensures .1 .1) in
+    let e = check-past (a .code .now) (a .at) (a .n) (a .q) (a .total) (w .field-at .result .value) (take (a .total) (a .columns .now)) (take (a .total) (a .weights .now)) (omega arith) (w .field-at .ensures .0) (omega arith) (omega arith) (omega arith) (omega arith) in
     let f = rw (c .before .next .given .1) at (g .edges-at .ensures .1) in
-    (rw e (rw n (rw (c .before .next .given .1) at (g .edges-at .ensures .0))), (w .byte-at .ensures .0, (omega arith, (omega arith, (omega arith, omega (arith, f))))))
+    (rw e (rw n (rw (c .before .next .given .1) at (g .edges-at .ensures .0))), (w .field-at .ensures .0, (omega arith, (omega arith, (omega arith, omega (arith, f))))))
 
 pub check-at-spec : {M : Type 1} → statement M
 check-at-spec =
@@ -115,7 +115,7 @@ check-at-spec =
     (tie.spec
     left-at-requires
     returns
-    byte-at-requires
+    field-at-requires
     returns-2
     returns-3
     sub-if4

@@ -1,4 +1,5 @@
 -- Each return is the case of `readEdge` whose tests are those passed on the way.
+use mathlib.Core.Bool.{false}
 use mathlib.Core.Path.{_∙_}
 use Prim.Native.Nat.{_+_}
 use native.Mathlib.Omega.{arith}
@@ -6,19 +7,19 @@ use borrow.Author.Tests.{eq-eqb, ne-eqb, lt-ltb, le-ltb, le-leb, lt-leb}
 use lib.ListN.{getD}
 use Rattle.machine.specs.CodeLine.{readEdge, wordAt}
 use Rattle.codeline.specs.inner.Reading.{ByteAt}
-use Rattle.codeline.proofs.Parsing.{byte-there}
+use Rattle.codeline.proofs.Parsing.{field-there}
 use Rattle.codeline.proofs.checks.edge_at.Statement.{statement}
 use Rattle.codeline.proofs.checks.edge_at.Tie as tie
 
 -- the weight stands behind the column
-weighed : (b : tie.After-byte-at) → ByteAt (b .byte-at .result) (b .before .before .before .before .before .before .before .args .code .now) (b .before .before .before .before .before .before .before .args .at + 2)
+weighed : (b : tie.After-field-at2) → ByteAt (b .field-at2 .result) (b .before .before .before .before .before .before .before .args .code .now) (b .before .before .before .before .before .before .before .args .at + 2)
 weighed b =
     let word = b .before .before .before .before .before in
     let a = word .before .before .args in
-    byte-there (b .byte-at .result) (a .code .now) (word .word-at .result .next) (a .at + 2) (b .byte-at .ensures) (word .word-at .ensures .1 .1)
+    field-there false (b .field-at2 .result) (a .code .now) (word .field-at .result .next) (a .at + 2) (b .field-at2 .ensures) (word .field-at .ensures .1 .1)
 
-word-at-requires : tie.Need-word-at-requires
-word-at-requires c κs = omega arith
+field-at-requires : tie.Need-field-at-requires
+field-at-requires c κs = omega arith
 
 returns : tie.Need-returns
 unfolding readEdge
@@ -36,8 +37,8 @@ returns-2 c =
     let w = wordAt (a .code .now) (a .at) in
     (simp (lt-leb (a .n) w (omega arith), lt-ltb w (a .low) (omega arith)), tt)
 
-byte-at-requires : tie.Need-byte-at-requires
-byte-at-requires c κs = omega arith
+field-at-requires-2 : tie.Need-field-at-requires-2
+field-at-requires-2 c κs = omega arith
 
 returns-3 : tie.Need-returns-3
 unfolding readEdge
@@ -79,10 +80,10 @@ pub edge-at-spec : {M : Type 1} → statement M
 edge-at-spec =
     tie.close
     (tie.spec
-    word-at-requires
+    field-at-requires
     returns
     returns-2
-    byte-at-requires
+    field-at-requires-2
     returns-3
     returns-4
     cast-t9

@@ -9,7 +9,7 @@ use borrow.Author.Tests.{lt-ltb, le-ltb}
 use lib.ListN.{length, getD}
 use Rattle.machine.specs.CodeLine.{wordAt}
 use Rattle.codeline.specs.inner.Reading.{ByteAt, WordAt, headOf}
-use Rattle.codeline.proofs.Parsing.{byte-there, word-there, tested, first-tested, inside, headFrom, head-read}
+use Rattle.codeline.proofs.Parsing.{field-there, tested, first-tested, inside, headFrom, head-read}
 use Rattle.codeline.proofs.head.head.Statement.{statement}
 use Rattle.codeline.proofs.head.head.Tie as tie
 
@@ -21,8 +21,8 @@ past1 : (c : tie.Else1) → headOf (line1 c) ≡ headFrom 1 (line1 c)
 unfolding headOf
 past1 c = simp (le-ltb (length (line1 c)) 6 (omega arith))
 
-first : (c : tie.After-byte-at) → ByteAt (c .byte-at .result) (line1 (c .before)) 0
-first c = c .byte-at .ensures
+first : (c : tie.After-field-at) → ByteAt (c .field-at .result) (line1 (c .before)) 0
+first c = c .field-at .ensures
 
 abbrev line2 : tie.Else2 → List ℕ
 line2 c = line1 (c .before .before .before .before)
@@ -32,10 +32,10 @@ past2 c =
     let w = c .before .before .before in
     past1 (w .before) ∙ first-tested _ (getD (line2 c) 0 0) _ false _ _ (c .before .accepted .ensures) (first w .0) (c .if2 .left)
 
-columns : (c : tie.After-word-at) → WordAt (c .word-at .result) (line2 (c .before)) 1
+columns : (c : tie.After-field-at2) → WordAt (c .field-at2 .result) (line2 (c .before)) 1
 columns c =
     let p = c .before .before .before .before in
-    word-there (c .word-at .result) (line2 (c .before)) (p .byte-at .result .next) 1 (c .word-at .ensures) (first p .1 .1)
+    field-there true (c .field-at2 .result) (line2 (c .before)) (p .field-at .result .next) 1 (c .field-at2 .ensures) (first p .1 .1)
 
 abbrev line3 : tie.Else3 → List ℕ
 line3 c = line2 (c .before .before .before)
@@ -45,10 +45,10 @@ past3 c =
     let w = c .before .before in
     past2 (w .before) ∙ tested _ (wordAt (line3 c) 1) 1 256 _ false _ _ (c .before .outside .ensures) (columns w .0) (c .if3 .left)
 
-checks : (c : tie.After-byte-at2) → ByteAt (c .byte-at2 .result) (line3 (c .before)) 3
+checks : (c : tie.After-field-at3) → ByteAt (c .field-at3 .result) (line3 (c .before)) 3
 checks c =
     let p = c .before .before .before in
-    byte-there (c .byte-at2 .result) (line3 (c .before)) (p .word-at .result .next) 3 (c .byte-at2 .ensures) (columns p .1 .1)
+    field-there false (c .field-at3 .result) (line3 (c .before)) (p .field-at2 .result .next) 3 (c .field-at3 .ensures) (columns p .1 .1)
 
 abbrev line4 : tie.Else4 → List ℕ
 line4 c = line3 (c .before .before .before)
@@ -58,10 +58,10 @@ past4 c =
     let w = c .before .before in
     past3 (w .before) ∙ tested _ (getD (line4 c) 3 0) 1 128 _ false _ _ (c .before .outside2 .ensures) (checks w .0) (c .if4 .left)
 
-scale : (c : tie.After-byte-at3) → ByteAt (c .byte-at3 .result) (line4 (c .before)) 4
+scale : (c : tie.After-field-at4) → ByteAt (c .field-at4 .result) (line4 (c .before)) 4
 scale c =
     let p = c .before .before .before in
-    byte-there (c .byte-at3 .result) (line4 (c .before)) (p .byte-at2 .result .next) 4 (c .byte-at3 .ensures) (checks p .1 .1)
+    field-there false (c .field-at4 .result) (line4 (c .before)) (p .field-at3 .result .next) 4 (c .field-at4 .ensures) (checks p .1 .1)
 
 abbrev line5 : tie.Else5 → List ℕ
 line5 c = line4 (c .before .before .before)
@@ -71,10 +71,10 @@ past5 c =
     let w = c .before .before in
     past4 (w .before) ∙ tested _ (getD (line5 c) 4 0) 1 16 _ false _ _ (c .before .outside3 .ensures) (scale w .0) (c .if5 .left)
 
-limit : (c : tie.After-byte-at4) → ByteAt (c .byte-at4 .result) (line5 (c .before)) 5
+limit : (c : tie.After-field-at5) → ByteAt (c .field-at5 .result) (line5 (c .before)) 5
 limit c =
     let p = c .before .before .before in
-    byte-there (c .byte-at4 .result) (line5 (c .before)) (p .byte-at3 .result .next) 5 (c .byte-at4 .ensures) (scale p .1 .1)
+    field-there false (c .field-at5 .result) (line5 (c .before)) (p .field-at4 .result .next) 5 (c .field-at5 .ensures) (scale p .1 .1)
 
 left-at-requires : tie.Need-left-at-requires
 left-at-requires c κs = search needs
@@ -86,8 +86,8 @@ returns : tie.Need-returns
 unfolding headOf
 returns c = rw (c .refused .ensures) (simp (lt-ltb (length (c .before .before .before .before .args .code .now)) 6 (omega arith)), tt)
 
-byte-at-requires : tie.Need-byte-at-requires
-byte-at-requires c κs = omega arith
+field-at-requires : tie.Need-field-at-requires
+field-at-requires c κs = omega arith
 
 cast-first : tie.Need-cast-first
 cast-first c = omega (arith, first (c .before))
@@ -105,8 +105,8 @@ returns-2 c =
     let e = w .before in
     rw (c .refused2 .ensures) (sym (past1 e ∙ first-tested _ (getD (line1 e) 0 0) _ true _ _ (t .before .accepted .ensures) (first w .0) (t .if2 .taken)), tt)
 
-word-at-requires : tie.Need-word-at-requires
-word-at-requires c κs = omega (arith, first (c .before .before .before))
+field-at-requires-2 : tie.Need-field-at-requires-2
+field-at-requires-2 c κs = omega (arith, first (c .before .before .before))
 
 outside-requires : tie.Need-outside-requires
 outside-requires c κs = search needs
@@ -121,8 +121,8 @@ returns-3 c =
     let e = w .before in
     rw (c .refused3 .ensures) (sym (past2 e ∙ tested _ (wordAt (line2 e) 1) 1 256 _ true _ _ (t .before .outside .ensures) (columns w .0) (t .if3 .taken)), tt)
 
-byte-at-requires-2 : tie.Need-byte-at-requires-2
-byte-at-requires-2 c κs = omega (arith, columns (c .before .before))
+field-at-requires-3 : tie.Need-field-at-requires-3
+field-at-requires-3 c κs = omega (arith, columns (c .before .before))
 
 outside-requires-2 : tie.Need-outside-requires-2
 outside-requires-2 c κs = search needs
@@ -137,8 +137,8 @@ returns-4 c =
     let e = w .before in
     rw (c .refused4 .ensures) (sym (past3 e ∙ tested _ (getD (line3 e) 3 0) 1 128 _ true _ _ (t .before .outside2 .ensures) (checks w .0) (t .if4 .taken)), tt)
 
-byte-at-requires-3 : tie.Need-byte-at-requires-3
-byte-at-requires-3 c κs = omega (arith, checks (c .before .before))
+field-at-requires-4 : tie.Need-field-at-requires-4
+field-at-requires-4 c κs = omega (arith, checks (c .before .before))
 
 outside-requires-3 : tie.Need-outside-requires-3
 outside-requires-3 c κs = search needs
@@ -153,8 +153,8 @@ returns-5 c =
     let e = w .before in
     rw (c .refused5 .ensures) (sym (past4 e ∙ tested _ (getD (line4 e) 4 0) 1 16 _ true _ _ (t .before .outside3 .ensures) (scale w .0) (t .if5 .taken)), tt)
 
-byte-at-requires-4 : tie.Need-byte-at-requires-4
-byte-at-requires-4 c κs = omega (arith, scale (c .before .before))
+field-at-requires-5 : tie.Need-field-at-requires-5
+field-at-requires-5 c κs = omega (arith, scale (c .before .before))
 
 refused-requires-6 : tie.Need-refused-requires-6
 refused-requires-6 c κs = search needs
@@ -199,24 +199,24 @@ head-spec =
     left-at-requires
     refused-requires
     returns
-    byte-at-requires
+    field-at-requires
     cast-first
     accepted-requires
     refused-requires-2
     returns-2
-    word-at-requires
+    field-at-requires-2
     outside-requires
     refused-requires-3
     returns-3
-    byte-at-requires-2
+    field-at-requires-3
     outside-requires-2
     refused-requires-4
     returns-4
-    byte-at-requires-3
+    field-at-requires-4
     outside-requires-3
     refused-requires-5
     returns-5
-    byte-at-requires-4
+    field-at-requires-5
     refused-requires-6
     returns-6
     cast-t14
