@@ -134,7 +134,10 @@ line-head o l p q r a b h i j k = rw (k, i, j) (go o h)
         let n : suc (suc (suc (suc (length s)))) - 4 ≡ length s = omega arith in
         rw (n, take-length s, drop-length s, append-nil (asLine l ++ drop (length (asLine l)) s))
 
--- what is printed for an answer
+-- the reply of an answer: its value, and what is printed
+pub value-of : (a : Answer) (r : Reply) → answerReply a ≡ r → answerReply a .value ≤ 255 → r .value ≤ 255
+value-of a r e h = rw (← e) h
+
 pub line-of : (a : Answer) (r : Reply) (y out o : List ℕ) → answerReply a ≡ r → out ≡ over (asLine (r .number ∷ r .value ∷ pick (r .refused) [] y)) o → out ≡ over (printed (said (answerReply a) y)) o
 unfolding asLine printed
 line-of a r y out o e h = h ∙ ap (λ x. over (printed (said x y)) o) (sym e)

@@ -1,10 +1,11 @@
 -- Each case of the answer is its reply, and what is printed depends on the reply alone.
 use mathlib.Core.Path.{ap, _∙_}
+use native.Mathlib.Omega.{arith}
 use borrow.Author.Needs.{needs}
 use Rattle.trellis.specs.Reply.{refusal, foundIn, notFoundIn}
 use Rattle.layered.specs.Answers.{answerReply}
 use Rattle.layered.specs.declared.answers.Answer.the-variants.{Decoded}
-use Rattle.text.proofs.Printing.{line-of, length-of}
+use Rattle.text.proofs.Printing.{value-of, line-of, length-of}
 use Rattle.text.proofs.print.answer.Statement.{statement}
 use Rattle.text.proofs.print.answer.Tie as tie
 
@@ -23,11 +24,25 @@ enum-known-a-2 c = search needs
 enum-known-o : tie.Need-enum-known-o
 enum-known-o c = search needs
 
+cast-put-line : tie.Need-cast-put-line
+cast-put-line c =
+    let o = c .before in
+    let a = o .before .before .before in
+    let s = a .before .before .before .before in
+    omega (arith, value-of (s .args .a) (foundIn _) (ap answerReply (a .a2 .given .1) ∙ ap (λ x. answerReply (Decoded x)) (o .o .given .1)) (s .pre .1))
+
 put-line-requires-2 : tie.Need-put-line-requires-2
 put-line-requires-2 c κs = search needs
 
 enum-known-o-2 : tie.Need-enum-known-o-2
 enum-known-o-2 c = search needs
+
+cast-put-line-2 : tie.Need-cast-put-line-2
+cast-put-line-2 c =
+    let o = c .before in
+    let a = o .before .before .before in
+    let s = a .before .before .before .before in
+    omega (arith, value-of (s .args .a) (notFoundIn _) (ap answerReply (a .a2 .given .1) ∙ ap (λ x. answerReply (Decoded x)) (o .o2 .given .1)) (s .pre .1))
 
 put-line-requires-3 : tie.Need-put-line-requires-3
 put-line-requires-3 c κs = search needs
@@ -73,8 +88,10 @@ answer-spec =
     put-line-requires
     enum-known-a-2
     enum-known-o
+    cast-put-line
     put-line-requires-2
     enum-known-o-2
+    cast-put-line-2
     put-line-requires-3
     same-length
     returns

@@ -4,6 +4,7 @@ use native.Mathlib.Omega.{arith}
 use borrow.Author.Needs.{needs}
 use lib.ListN.{length, length-take}
 use Rattle.machine.specs.Decoding.{lending}
+use Rattle.machine.proofs.Early.{few-iterations}
 use Rattle.text.specs.inner.Lines.{over}
 use Rattle.text.proofs.Printing.{tells}
 use Rattle.text.proofs.print.frame_in.Statement.{statement}
@@ -19,7 +20,12 @@ slice-aggregate-answer : tie.Need-slice-aggregate-answer
 slice-aggregate-answer c = simp length-take (omega arith)
 
 answer-requires : tie.Need-answer-requires
-answer-requires c κs = simp length-take (omega arith)
+answer-requires c κs =
+    let d = c .before .before .before .before .before .before .before .before .before .before in
+    let k = d .before .before .before .before .before .before .before .before .before .before .before in
+    let s = k .before in
+    let b = lending (s .args .symbols .now) (s .args .costs .now) (s .args .store .now) (s .args .margins .now) in
+    (simp length-take (omega arith), few-iterations (s .args .code .now) (s .args .frame .now) b (λ i. omega (arith, k .shared-slice-known .given i)) _ _ (d .decode-counted .ensures .0))
 
 same-length : tie.Need-same-length
 same-length c = search needs
