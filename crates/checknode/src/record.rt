@@ -4,7 +4,7 @@ use crate::lines;
 use crate::send;
 use scalar::sizes;
 ghost use mathlib.Core.Path.{_≡_};
-ghost use Prim.Native.Nat.{_-_, _*_, _≤_, max};
+ghost use Prim.Native.Nat.{_*_, _≤_, max};
 ghost use lib.ListN.{length};
 ghost use Rattle.trellis.specs.Lists.{tab, blocks};
 ghost use Rattle.trellis.specs.Check.{allSent};

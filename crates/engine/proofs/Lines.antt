@@ -1,26 +1,18 @@
--- A column's costs, placed by its products with the weight, are its line; the places past the field's rows stay 0.
-use mathlib.Core.Path.{_≡_, refl, sym, ap, _∙_}
-use mathlib.Core.Logic.{_≢_}
+-- A column's costs, placed by its products with the weight, are its line.
+use mathlib.Core.Path.{_≡_, sym, ap, _∙_}
 use mathlib.Core.List.{List}
-use Prim.Native.Nat.{ℕ, zero, suc, _-_, _≤_, _<_}
+use Prim.Native.Nat.{ℕ, _-_, _≤_, _<_}
 use native.Mathlib.Omega.{arith}
 use lib.ListN.{length, getD}
-use lib.Seq.{getD-set-other}
 use Rattle.trellis.specs.Lists.{tab}
 use Rattle.trellis.specs.Field.{xor}
-use Rattle.trellis.specs.Check.{Rule, Column, weigh, decision, column, costAt}
+use Rattle.trellis.specs.Check.{Rule, Column, weigh, decision, column}
 use Rattle.trellis.specs.Rows.{difference, symbolAt}
 use Rattle.engine.specs.inner.Lines.{placed}
 use Rattle.engine.specs.inner.Rests.{lineAt}
 use Rattle.trellis.proofs.Sent.{Proper}
 use Rattle.trellis.proofs.Kept.{difference-small, symbol-at, symbol-own}
-use Rattle.trellis.proofs.Loops.{length-tab, getD-tab, stores, stores-at}
-
--- no store goes to another place
-stores-past : (at v : ℕ → ℕ) (l : List ℕ) (n a : ℕ) → ((x : ℕ) → x < n → at x ≢ a) → getD (stores at v l n) a 0 ≡ getD l a 0
-stores-past at v l zero a h = refl
-stores-past at v l (suc n) a h =
-    getD-set-other (stores at v l n) (at n) a (v n) 0 (λ e. h n (omega arith) (sym e)) ∙ stores-past at v l n a (λ x i. h x (omega arith))
+use Rattle.trellis.proofs.Loops.{length-tab, stores, stores-at}
 
 module _ (R : Rule) (cs : List Column) (P : Proper R cs) (n : ℕ) (k : n < length cs) (row : List ℕ) (products : (x : ℕ) → x < R .size → getD row x 0 ≡ weigh R (column cs n) x)
     (l : ℕ) (wide : R .size ≤ l) where
@@ -46,9 +38,3 @@ module _ (R : Rule) (cs : List Column) (P : Proper R cs) (n : ℕ) (k : n < leng
       stores-at to (λ x. 255 - getD (c .costs) x 0) (tab (λ a. 0) l) (R .size) (λ i j. rw (at i j) (omega (arith, difference-small R cs P n k i j, length-tab (λ a. 0) l)))
       (λ i j p q r. sym (symbol-own R cs P n k i p) ∙ ap (symbolAt R c) (sym (at i p) ∙ r ∙ at j q) ∙ symbol-own R cs P n k j q) x (y .1) in
       rw o at w
-
-  pub placed-past : (a : ℕ) → R .size ≤ a → a < l → getD (placed (c .costs) row s (R .size) (tab (λ a. 0) l)) a 0 ≡ 0
-  unfolding placed
-  placed-past a h i =
-      stores-past to (λ x. 255 - getD (c .costs) x 0) (tab (λ a. 0) l) (R .size) a (λ x j e. omega (arith, difference-small R cs P n k x j, sym (at x j) ∙ e))
-      ∙ getD-tab (λ a. 0) l a i

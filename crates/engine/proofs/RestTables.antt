@@ -1,18 +1,17 @@
 -- The tables before and after each column of an accepted check; joined they give the costs sent.
-use mathlib.Core.Path.{_≡_, refl, sym, ap, ap₂, _∙_}
-use mathlib.Core.Logic.{_⊎_, inl, inr, ⊎-elim}
+use mathlib.Core.Path.{_≡_, refl, sym, ap, _∙_}
+use mathlib.Core.Logic.{inr}
 use mathlib.Core.List.{List, [], _∷_, _++_}
-use Prim.Native.Nat.{ℕ, zero, suc, _+_, _-_, _^_, _≤_, _<_, max}
+use Prim.Native.Nat.{ℕ, zero, suc, _+_, _-_, _≤_, _<_}
 use native.Mathlib.Omega.{arith}
-use lib.ListN.{length, getD, take, drop, length-take, length-drop}
+use lib.ListN.{length, take, drop, length-take, length-drop}
 use lib.Seq.{getD-take, getD-drop, drop-cons, take-suc}
 use Rattle.trellis.specs.Lists.{others}
-use Rattle.trellis.specs.Field.{xor}
-use Rattle.trellis.specs.Check.{column, blank, Rule, Column, Allowed, IsLeast, decided, shift, sentAt, costOf}
+use Rattle.trellis.specs.Check.{column, blank, Rule, Column, shift, sentAt}
 use Rattle.trellis.proofs.Sent.{Sound, Proper, sent-is}
-use Rattle.engine.specs.inner.Rests.{atMost, rest, lineAt, joinedAt, grown, between}
-use Rattle.engine.proofs.BestRests.{BestRest, best-one, Meets}
-use Rattle.engine.proofs.Rests.{Costs, All, rest-best, rest-one, rest-more, rest-first, rest-between, rest-turn}
+use Rattle.engine.specs.inner.Rests.{rest, lineAt, grown, between}
+use Rattle.engine.proofs.BestRests.{best-one, Meets}
+use Rattle.engine.proofs.Rests.{All, rest-best, rest-one, rest-more, rest-first, rest-between, rest-turn}
 
 others-split : {A : Type 0} (n : ℕ) (cs : List A) → take n cs ++ drop (suc n) cs ≡ others n cs
 others-split zero [] = refl

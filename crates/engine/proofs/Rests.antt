@@ -1,29 +1,27 @@
 -- Tables of rests: one column's is its line, one column more is one step, and two parts of the columns join. For any k and any join of costs
 -- that rests meet by.
 use mathlib.Core.Path.{_≡_, refl, sym, ap, ap₂, _∙_}
-use mathlib.Core.Bool.{Bool, true, false, cond}
-use mathlib.Core.Logic.{_≢_, _⊎_, inl, inr, ⊎-elim}
-use mathlib.Core.List.{List, [], _∷_, _++_, map, foldr, List·Memᴰ}
-use Prim.Native.Nat.{ℕ, zero, suc, _+_, _-_, _^_, _≤_, _<_, min, max}
-use native.Mathlib.Nat.{add-zero, zero-add, not-suc-le-zero, le-refl}
-use native.Mathlib.Decide.{decLe, decLt, ℕ-discrete}
+use mathlib.Core.Logic.{_⊎_, inl, inr, ⊎-elim}
+use mathlib.Core.List.{List, [], _∷_, _++_}
+use Prim.Native.Nat.{ℕ, zero, suc, _+_, _-_, _^_, _≤_, _<_, max}
+use native.Mathlib.Nat.{le-refl}
+use native.Mathlib.Decide.{ℕ-discrete}
 use native.Mathlib.Omega.{arith}
-use lib.Dec.{T, eqb, eqb→eq, eqb-refl}
-use lib.ListN.{length, getD, take, drop, length-take, length-drop}
-use lib.Seq.{getD-take, getD-drop, drop-cons, take-suc}
+use lib.Dec.{eqb, eqb→eq, eqb-refl}
+use lib.ListN.{length}
 use lib.Pow.{pow-pos}
-use Rattle.trellis.specs.Lists.{keep, upTo, others}
+use Rattle.trellis.specs.Lists.{keep, upTo}
 use Rattle.trellis.specs.Field.{xor}
-use Rattle.trellis.specs.Check.{column, blank, Rule, Column, Fits, none, more, Allowed, IsLeast, costOf, costAt, weigh, deviates, decision, decisions, decided, deviations, weightedSum, total, choices, allowed?, shift, sentAt}
+use Rattle.trellis.specs.Check.{column, Rule, Column, Fits, none, more, Allowed, costOf, costAt, weigh, deviates, decision, decisions, decided, deviations, weightedSum, choices, allowed?}
 use Rattle.trellis.specs.Rows.{difference, symbolAt}
 use Rattle.trellis.proofs.Lists.{in-upTo, of-upTo}
 use Rattle.trellis.proofs.Least.{in-candidates, of-candidates}
 use Rattle.trellis.proofs.Xor.{xor-zero, xor-comm, xor-right, xor-assoc, xor-self, xor-lt, xor-cancel, xor-turn}
-use Rattle.trellis.proofs.Total.{Gathers, fits-append, fits-split, total-append}
-use Rattle.trellis.proofs.Sent.{Joins, Sound, Proper, xors, sums, same-symbol, deviates-cases, deviates-small, sent-is}
+use Rattle.trellis.proofs.Total.{fits-append, fits-split, total-append}
+use Rattle.trellis.proofs.Sent.{Joins, Sound, xors, sums, same-symbol, deviates-cases, deviates-small}
 use Rattle.trellis.proofs.Ranks.{first-passes}
-use Rattle.engine.specs.inner.Rests.{atMost, rest, lineAt, mostTo, joinedAt, grown, between}
-use Rattle.engine.proofs.BestRests.{BestRest, best-one, best-iff, best-of, best-max, best-to, best-fold, best-meet, best-small, Meets}
+use Rattle.engine.specs.inner.Rests.{atMost, rest, lineAt, joinedAt, between}
+use Rattle.engine.proofs.BestRests.{BestRest, best-one, best-iff, best-of, best-max, best-to, best-fold, best-meet, Meets}
 
 -- m is the cost of a choice with at most j deviations and weighted difference a
 abbrev pub Costs : Rule → List Column → ℕ → ℕ → ℕ → Type 0
@@ -36,9 +34,6 @@ rest-best R cs j a =
     (λ m s. (s .0, of-candidates (atMost R j) cs (xor a (decided R cs)) (s .0) (s .1), s .2))
     (λ m s. (s .0, in-candidates (atMost R j) cs (xor a (decided R cs)) (s .0) (s .1), s .2))
     (best-fold (costOf R cs) (keep (allowed? (atMost R j) cs (xor a (decided R cs))) (choices (R .size) cs)))
-
-pub rest-small : (R : Rule) (cs : List Column) (j a : ℕ) → rest R cs j a ≤ 255
-rest-small R cs j a = best-small (rest-best R cs j a)
 
 -- exclusive or of four
 swap-middle : (p q r s : ℕ) → xor (xor p q) (xor r s) ≡ xor (xor p r) (xor q s)

@@ -1,21 +1,18 @@
 -- Blocks of sixteen rows: exclusive or with multiples of sixteen, lists filled block by block.
 use mathlib.Core.Path.{_≡_, refl, sym, ap, ap₂, _∙_}
-use mathlib.Core.Bool.{Bool}
 use mathlib.Core.List.{List, [], _∷_, _++_, append-assoc, append-nil}
 use Prim.Native.Nat.{ℕ, zero, suc, _+_, _-_, _*_, _/_, _%_, _^_, _≤_, _<_, max}
 use native.Mathlib.Nat.{add-zero}
 use native.Mathlib.Omega.{arith}
 use lib.ListN.{length, drop, take, getD, length-take, length-drop}
 use lib.Seq.{ext-getD, getD-take, getD-drop, take-at, drop-at, drop-drop, take-all}
-use lib.Dec.{ltb}
-use lib.Bits as Bits
 use lib.Bits.{bitXor, xor-shr, xor-mod, xor-zero-l}
-use Rattle.trellis.specs.Lists.{tab, pick}
+use Rattle.trellis.specs.Lists.{tab}
 use Rattle.trellis.specs.Field.{xor}
 use Rattle.trellis.proofs.Xor.{xor-assoc, xor-comm, xor-lt, xor-self, xor-right}
 use Rattle.trellis.proofs.Loops.{tab-length, length-tab, getD-tab, tab-ext}
 use Rattle.tables.specs.declared.rests.Four.{Four}
-use Rattle.tables.specs.inner.Lanes.{laneAt, lanes, Wide, fourAt, lowAt}
+use Rattle.tables.specs.inner.Lanes.{laneAt, lanes, Wide, fourAt}
 
 -- what two numbers share modulo sixteen
 xor-sixteen : (x y : ℕ) → (xor x y / 16 ≡ xor (x / 16) (y / 16)) × (xor x y % 16 ≡ xor (x % 16) (y % 16))
@@ -162,20 +159,6 @@ module _ (w d out : List ℕ) (v b : ℕ) (next : b ≡ v + 16) (room : v + 16 �
       let t : take v out ++ (r ++ drop (b - v) (drop v out)) ≡ tab (λ k. max (getD d k 0) (getD w k 0)) b ++ drop b d =
       ap (λ y. take v out ++ (r ++ drop (y - v) (drop v out))) next ∙ block-turn (λ k. max (getD d k 0) (getD w k 0)) h d out v e o at ∙ ap (λ y. tab (λ k. max (getD d k 0) (getD w k 0)) y ++ drop y d) (sym next) in
       (ap length t ∙ tab-length (λ k. max (getD d k 0) (getD w k 0)) d b (omega arith), t)
-
-module _ (s e x d out : List ℕ) (v b : ℕ) (next : b ≡ v + 16) (room : v + 16 ≤ length d) where
-  pub choose-turn : {r : List ℕ} → out ≡ tab (lowAt s e x d) v ++ drop v d
-      → r ≡ lanes (lowAt (take (b - v) (drop v s)) (take (b - v) (drop v e)) (take (b - v) (drop v x)) (take (b - v) (drop v out)))
-      → let w : List ℕ = take v out ++ (r ++ drop (b - v) (drop v out)) in (length w ≡ length d) × (w ≡ tab (lowAt s e x d) b ++ drop b d)
-  choose-turn {r} f o =
-      let h : ℕ → ℕ = lowAt (take (b - v) (drop v s)) (take (b - v) (drop v e)) (take (b - v) (drop v x)) (take (b - v) (drop v out)) in
-      let at : (i : ℕ) → i < 16 → h i ≡ lowAt s e x d (v + i) =
-      λ i k.
-      let y : getD (take (b - v) (drop v out)) i 0 ≡ getD d (v + i) 0 = ap (λ y. getD (take (y - v) (drop v out)) i 0) next ∙ block-seam (lowAt s e x d) d out v i f k in
-      ap₂ (λ (p : Bool) (q : ℕ). pick p q (getD (take (b - v) (drop v out)) i 0)) (ap₂ ltb (part-at s v b i next k) (part-at e v b i next k)) (part-at x v b i next k) ∙ ap (λ (q : ℕ). pick (ltb (getD s (v + i) 0) (getD e (v + i) 0)) (getD x (v + i) 0) q) y in
-      let t : take v out ++ (r ++ drop (b - v) (drop v out)) ≡ tab (lowAt s e x d) b ++ drop b d =
-      ap (λ y. take v out ++ (r ++ drop (y - v) (drop v out))) next ∙ block-turn (lowAt s e x d) h d out v f o at ∙ ap (λ y. tab (lowAt s e x d) y ++ drop y d) (sym next) in
-      (ap length t ∙ tab-length (lowAt s e x d) d b (omega arith), t)
 
 -- one block alone
 pub raised-one : (w e : List ℕ) {r : List ℕ} → length e ≡ 16 → r ≡ lanes (λ i. max (getD e i 0) (getD w i 0)) → r ≡ tab (λ a. max (getD e a 0) (getD w a 0)) (length e)

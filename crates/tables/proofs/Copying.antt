@@ -1,7 +1,7 @@
 -- Copies made by doubling.
 use mathlib.Core.Path.{_≡_, refl, sym, ap, ap₂, _∙_}
 use mathlib.Core.Bool.{Bool, true, false}
-use mathlib.Core.Logic.{_⊎_, ⊎-elim}
+use mathlib.Core.Logic.{⊎-elim}
 use mathlib.Core.List.{List, _++_}
 use Prim.Native.Nat.{ℕ, zero, suc, _+_, _-_, _*_, _/_, _%_, _^_, _≤_, _<_, min, max}
 use native.Mathlib.Nat.{suc-mul, mul-le-mul-right}
@@ -9,7 +9,6 @@ use native.Mathlib.Decide.{decLt}
 use native.Mathlib.Omega.{arith}
 use lib.ListN.{length, drop, take, getD, length-take, List·getD-append}
 use lib.Seq.{getD-take, getD-drop, drop-at}
-use lib.Bits as Bits
 use Rattle.trellis.specs.Lists.{tab}
 use Rattle.trellis.specs.Field.{xor}
 use Rattle.trellis.proofs.Xor.{xor-assoc, xor-lt, xor-right}

@@ -10,7 +10,7 @@ use lib.ListN.{length, drop, take, getD, List·getD-append, length-take}
 use lib.Seq.{getD-drop}
 use Rattle.trellis.specs.Lists.{blocks}
 use Rattle.trellis.specs.Check.{Rule, Column, column, sentAt}
-use Rattle.trellis.proofs.Sent.{Proper, symbol}
+use Rattle.trellis.proofs.Sent.{Proper}
 use Rattle.trellis.specs.Rules.{joinOf}
 use Rattle.engine.specs.inner.Rests.{lineAt}
 use Rattle.engine.proofs.BestRests.{by-meets}

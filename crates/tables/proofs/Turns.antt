@@ -1,5 +1,5 @@
 -- Turns of loops that fill a list from the front.
-use mathlib.Core.Path.{_≡_, refl, ap, ap₂, _∙_}
+use mathlib.Core.Path.{_≡_, ap, ap₂, _∙_}
 use mathlib.Core.Bool.{Bool, true, false}
 use mathlib.Core.List.{List, _++_}
 use Prim.Native.Nat.{ℕ, _+_, _-_, _*_, _<_, min, max}
@@ -16,9 +16,6 @@ cut-lower v x e o = rw e o
 
 pub cut-left : {g : Bool} (v x : ℕ) {r : ℕ} → g ≡ false → r ≡ v - x → r ≡ cut g v x
 cut-left v x e o = rw e o
-
-pub taken-same : {g : Bool} (u : ℕ) → g ≡ true → u ≡ taken g u
-taken-same u e = rw e refl
 
 pub taken-cost : {g : Bool} (u : ℕ) {r : ℕ} → g ≡ false → r ≡ 255 - u → r ≡ taken g u
 taken-cost u e o = rw e o

@@ -2,7 +2,7 @@
 -- so there is no number for it.
 use mathlib.Core.Bool.{Bool, _&&_}
 use mathlib.Core.List.{List, _++_}
-use Prim.Native.Nat.{ℕ, _+_, _-_, _*_, _^_, max}
+use Prim.Native.Nat.{ℕ, _*_, _^_, max}
 use lib.Dec.{leb}
 use lib.ListN.{length, take, drop}
 use Rattle.trellis.specs.Lists.{pick}

@@ -11,7 +11,7 @@ use crate::rests::Shape;
 use rules::Rule;
 use scalar::sizes;
 ghost use mathlib.Core.Path.{_≡_};
-ghost use Prim.Native.Nat.{_^_, _≤_};
+ghost use Prim.Native.Nat.{_≤_};
 ghost use Rattle.tables.specs.inner.Tables.{Shaped};
 ghost use Rattle.tables.specs.Calls.{inRange, shapeFor, sentLeaves};
 

@@ -1,13 +1,12 @@
 -- The numbers of the tables. A choice starts with 255, and each deviation takes its cost off, stopping at 0: what is left is its rest.
 -- Rests are never added, only taken from one another, and a least cost that is sent is at most 255, so 255 less the best rest is that
 -- cost. A table has, for each weighted difference from the decisions, the best rest over a part of the columns.
-use mathlib.Core.Bool.{Bool, true, false}
-use mathlib.Core.List.{List, [], _∷_, map, foldr}
-use Prim.Native.Nat.{ℕ, zero, suc, _-_, min, max, _+_}
-use lib.ListN.{length, take, drop}
+use mathlib.Core.Bool.{Bool}
+use mathlib.Core.List.{List, [], map, foldr}
+use Prim.Native.Nat.{ℕ, zero, suc, _-_, min, max}
 use Rattle.trellis.specs.Lists.{keep, pick}
 use Rattle.trellis.specs.Field.{xor}
-use Rattle.trellis.specs.Check.{Rule, Column, column, costAt, costOf, choices, allowed?, decided}
+use Rattle.trellis.specs.Check.{Rule, Column, costAt, costOf, choices, allowed?, decided}
 use Rattle.trellis.specs.Rows.{symbolAt}
 
 -- the rule with at most j deviations

@@ -1,5 +1,4 @@
 -- Five hundred and twelve bytes are enough up to sixteen rows.
-use Prim.Native.Nat.{_-_}
 use native.Mathlib.Omega.{arith}
 use lib.ListN.{length}
 use Rattle.trellis.specs.Rules.{powerOf}

@@ -1,6 +1,6 @@
 -- The record, then the sent costs from what it left.
 use mathlib.Core.Path.{_≡_, ap, _∙_}
-use Prim.Native.Nat.{_-_, max}
+use Prim.Native.Nat.{max}
 use native.Mathlib.Omega.{arith}
 use lib.ListN.{length-take}
 use Rattle.trellis.specs.Rules.{sizeOf}

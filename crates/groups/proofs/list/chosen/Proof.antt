@@ -3,7 +3,7 @@ use Rattle.tables.specs.inner.Lanes.{lowAt}
 use Rattle.trellis.specs.Lists.{tab}
 use mathlib.Core.Path.{_≡_}
 use mathlib.Core.List.{_++_}
-use Prim.Native.Nat.{_+_, _-_, _/_, _≤_}
+use Prim.Native.Nat.{_-_, _≤_}
 use native.Mathlib.Omega.{arith}
 use borrow.Author.Needs.{needs}
 use lib.ListN.{length, drop, length-set}
