@@ -28,17 +28,8 @@ module _ (p k d : ℕ) (greatest : Bool) (times : ℕ → ℕ → ℕ) (cs : Lis
   abbrev R : Rule
   R = ruleWith p times greatest k
 
-  abbrev q : ℕ
-  q = 2 ^ p
-
-  abbrev l : ℕ
-  l = side p
-
-  within : q ≤ l
-  within = omega arith
-
   -- a cost sent is a byte: one deviation is enough
-  sent-byte : ((n y : ℕ) → n < length cs → getD (column cs n .costs) y 0 ≤ 255) → (a : ℕ) → a < q → (n : ℕ) → n < length cs → sentAt R cs n a ≤ 255
+  sent-byte : ((n y : ℕ) → n < length cs → getD (column cs n .costs) y 0 ≤ 255) → (a : ℕ) → a < 2 ^ p → (n : ℕ) → n < length cs → sentAt R cs n a ≤ 255
   sent-byte B a small n i =
       elim (ℕ-discrete n 0) [
         | yes e ↦ by 1 (omega (arith, P .two)) (omega arith)
@@ -48,28 +39,25 @@ module _ (p k d : ℕ) (greatest : Bool) (times : ℕ → ℕ → ℕ) (cs : Lis
       by : (m : ℕ) → m < length cs → n ≢ m → sentAt R cs n a ≤ 255
       by m j ne = omega (arith, sent-one R cs P a small n m i j ne, B m (symbol R cs P a small m j) j)
 
-  groups-law : ((n y : ℕ) → n < length cs → getD (column cs n .costs) y 0 ≤ 255) → (sent out : List ℕ) → d * l ≤ length sent → groupsLength p k ≤ length out
-      → ((n a : ℕ) → n < d → a < q → getD sent (n * l + a) 0 ≡ 255 - sentAt R cs n a)
-      → groupsLeave p k d sent out ≡ each (group R cs) (countFrom 1 (q - 1)) ++ drop (groupsLength p k) out
+  groups-law : ((n y : ℕ) → n < length cs → getD (column cs n .costs) y 0 ≤ 255) → (sent out : List ℕ) → d * side p ≤ length sent → groupsLength p k ≤ length out
+      → ((n a : ℕ) → n < d → a < 2 ^ p → getD sent (n * side p + a) 0 ≡ 255 - sentAt R cs n a)
+      → groupsLeave p k d sent out ≡ each (group R cs) (countFrom 1 (2 ^ p - 1)) ++ drop (groupsLength p k) out
   unfolding groupsLeave groupsFit groupRows
   groups-law B sent out h m S =
-      rw (range, le-leb (d * l) (length sent) h, le-leb (groupsLength p k) (length out) m)
+      rw (range, le-leb (d * side p) (length sent) h, le-leb (groupsLength p k) (length out) m)
       (ap {B = List ℕ} (λ y. y ++ drop (groupsLength p k) out)
-      (blocks-ext (groupOf l k (take (d * l) sent) d) (λ j. group R cs (1 + j)) (q - 1) (λ b i. one b i) ∙ sym (each-blocks (group R cs) 1 (q - 1))))
+      (blocks-ext (groupOf (side p) k (take (d * side p) sent) d) (λ j. group R cs (1 + j)) (2 ^ p - 1) (λ b i. one b i) ∙ sym (each-blocks (group R cs) 1 (2 ^ p - 1))))
     where
-      at : (b n : ℕ) → b < q - 1 → n < length cs → restAt l (take (d * l) sent) (suc b) n ≡ 255 - sentAt R cs n (suc b)
+      at : (b n : ℕ) → b < 2 ^ p - 1 → n < length cs → restAt (side p) (take (d * side p) sent) (suc b) n ≡ 255 - sentAt R cs n (suc b)
       at b n i j =
-          let o = part-room n d l (omega arith) in
-          ap (λ y. y) (getD-take' (n * l + suc b) (omega (arith, within, o))) ∙ S n (suc b) (omega arith) (omega arith)
-        where
-          getD-take' : (x : ℕ) → x < d * l → getD (take (d * l) sent) x 0 ≡ getD sent x 0
-          getD-take' x h = getD-take (d * l) sent x 0 h
+          let o = part-room n d (side p) (omega arith) in
+          getD-take (d * side p) sent (n * side p + suc b) 0 (omega (arith, o)) ∙ S n (suc b) (omega arith) (omega arith)
 
-      one : (b : ℕ) → b < q - 1 → groupOf l k (take (d * l) sent) d b ≡ group R cs (1 + b)
+      one : (b : ℕ) → b < 2 ^ p - 1 → groupOf (side p) k (take (d * side p) sent) d b ≡ group R cs (1 + b)
       one b i =
           let e : 1 + b ≡ suc b = omega arith in
-          rw e (ap (λ y. listedGroup k y (restAt l (take (d * l) sent) (suc b))) size
-          ∙ sym (group-is R cs P (suc b) (omega arith) (λ n j. sent-byte B (suc b) (omega arith) n j) (restAt l (take (d * l) sent) (suc b)) (λ n j. at b n i j)))
+          rw e (ap (λ y. listedGroup k y (restAt (side p) (take (d * side p) sent) (suc b))) size
+          ∙ sym (group-is R cs P (suc b) (omega arith) (λ n j. sent-byte B (suc b) (omega arith) n j) (restAt (side p) (take (d * side p) sent) (suc b)) (λ n j. at b n i j)))
 
 -- `groups`: where row a of row n is the rest of the cost sent to column n at a, and costs are bytes, the bytes are the record's behind its shifts
 pub groups-mean : (p k d : ℕ) (greatest : Bool) (R : Rule) (cs : List Column) → CallRoom p k d greatest R cs
