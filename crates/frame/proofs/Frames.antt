@@ -1,43 +1,54 @@
 -- The laws behind a frame's tests: a turn of the loops over columns and costs, and the tests in their order.
 use mathlib.Core.Path.{_≡_, refl, sym, ap, _∙_}
-use mathlib.Core.Bool.{Bool, true, false}
+use mathlib.Core.Bool.{Bool, true, false, not}
 use mathlib.Core.List.{List}
 use Prim.Native.Nat.{ℕ, _+_, _-_, _*_, _≤_, _<_, min}
 use native.Mathlib.Nat.{add-sub-cancel-left}
 use native.Mathlib.Numerals.{add-one}
 use native.Mathlib.Omega.{arith}
-use lib.Dec.{eqb}
+use lib.Dec.{eqb, ltb}
 use borrow.Author.Tests.{eqb-true, eq-eqb, ne-eqb, lt-ltb, le-ltb}
 use lib.ListN.{length}
 use Rattle.trellis.specs.Lists.{part, allTo, pick}
 use Rattle.trellis.specs.Check.{firstZero}
 use Rattle.trellis.specs.Refusals.{faultBy}
 use Rattle.trellis.specs.Rules.{sizeOf}
-use Rattle.trellis.proofs.Margins.{first-most}
 use Rattle.trellis.proofs.Refusals.{in-order, by-number, Numbered}
 use Rattle.machine.specs.CodeLine.{columnOf, zeroIn, frameTests}
 use Rattle.machine.specs.Decoding.{roomTests, decodeTests}
 use Rattle.machine.specs.inner.Tables.{bytesBefore}
 use Rattle.machine.proofs.Faults.{frame-numbered}
 use Rattle.machine.proofs.Lists.{all-not}
-use Rattle.machine.proofs.Places.{length-part}
 use Rattle.codeline.specs.declared.answers.Numbers.{Numbers}
 use Rattle.frame.specs.Answers.{frameFaultOf, roomFaultOf, faultOf}
 
--- a turn of the loop over the frame's columns
-module _ (q n c z : ℕ) (f : List ℕ) (room : c * q + q ≤ length f) (e : z ≡ firstZero (part f (c * q) (c * q + q - c * q))) where
-  whole : part f (c * q) (c * q + q - c * q) ≡ columnOf q f c
-  whole = ap (λ k. part f (c * q) k) (add-sub-cancel-left (c * q) q)
+not-false : (b : Bool) → not b ≡ false → b ≡ true
+not-false true h = refl
+not-false false h = sym h
 
-  pub zeros-more : (z ≡ q → ⊥) → allTo (zeroIn q f) c ≡ true → allTo (zeroIn q f) (c + 1) ≡ true
-  zeros-more h o =
-      let i : z ≡ firstZero (columnOf q f c) = e ∙ ap firstZero whole in
-      let k : length (columnOf q f c) ≡ q = length-part f (c * q) q room in
-      let j : firstZero (columnOf q f c) < q = omega (arith, first-most (columnOf q f c)) in
-      rw (add-one c, o) (lt-ltb (firstZero (columnOf q f c)) q j)
+not-true : (b : Bool) → not b ≡ true → b ≡ false
+not-true true h = sym h
+not-true false h = refl
 
-  pub zeros-not : z ≡ q → c < n → allTo (zeroIn q f) n ≡ false
-  zeros-not h l = all-not (zeroIn q f) c n l (rw (← whole, ← e) (le-ltb z q (omega arith)))
+-- a column's test, by the place of its first zero
+pub zero-told : (q c z : ℕ) (f : List ℕ) → z ≡ firstZero (part f (c * q) (c * q + q - c * q)) → ltb z q ≡ zeroIn q f c
+zero-told q c z f e = rw (e, add-sub-cancel-left (c * q) q)
+
+-- a loop that ends at the first test that fails: of n tests those before i passed
+pub record Passed (p : ℕ → Bool) (n i : ℕ) : Type 0 where
+  pub inside : i ≤ n
+  pub passed : allTo p i ≡ true
+
+module _ {p : ℕ → Bool} {n i : ℕ} (o : Passed p n i) where
+  pub passed-all : n ≤ i → true ≡ allTo p n
+  passed-all h = let e : i ≡ n = omega arith in rw (← e) (sym (o .passed))
+
+  module _ {r : Bool} (h : i < n) (e : r ≡ p i) where
+    pub passed-more : not r ≡ false → Passed p n (i + 1)
+    passed-more k = record { inside = omega arith; passed = rw (add-one i, o .passed, ← e) (not-false r k) }
+
+    pub passed-not : not r ≡ true → false ≡ allTo p n
+    passed-not k = sym (all-not p i n h (sym e ∙ not-true r k))
 
 -- the frame's tests
 module _ (first n q : ℕ) (f : List ℕ) (e : q ≡ sizeOf first) where

@@ -1,21 +1,39 @@
 // The tests of columns of costs: a cost of 0 in each, and no cost above 510.
 ghost use mathlib.Core.Path.{_≡_};
-ghost use Prim.Native.Nat.{_*_, _≤_};
+ghost use Prim.Native.Nat.{_+_, _*_, _≤_};
 ghost use lib.ListN.{length};
 ghost use Rattle.trellis.specs.Lists.{allTo};
 ghost use Rattle.machine.specs.CodeLine.{zeroIn};
 ghost use Rattle.frame.specs.Answers.{lowCost};
 
-// Whether each of n columns of q costs has a cost of 0: in a frame.
+// Whether column c of q costs has a cost of 0: in a frame.
+fn zero_u8(frame: &[u8], q: usize, c: usize) -> bool
+    requires { ⌜ c * q + q ≤ length (now frame) ⌝ }
+    ensures { λ r. ⌜ r ≡ zeroIn q (now (frame .entry)) c ⌝ }
+{
+    let a = c * q;
+    let e = a + q;
+    decision::decide_u8(&frame[a..e]).symbol < q
+}
+
+// And in a cost buffer.
+fn zero_u16(costs: &[u16], q: usize, c: usize) -> bool
+    requires { ⌜ c * q + q ≤ length (now costs) ⌝ }
+    ensures { λ r. ⌜ r ≡ zeroIn q (now (costs .entry)) c ⌝ }
+{
+    let a = c * q;
+    let e = a + q;
+    decision::decide_u16(&costs[a..e]).symbol < q
+}
+
+// Whether each of a frame's n columns has.
 pub fn zeros_u8(frame: &[u8], q: usize, n: usize) -> bool
     requires { ⌜ n * q ≤ length (now frame) ⌝ }
     ensures { λ r. ⌜ r ≡ allTo (zeroIn q (now (frame .entry))) n ⌝ }
 {
     let mut c = 0;
     while c < n {
-        let a = c * q;
-        let e = a + q;
-        if decision::decide_u8(&frame[a..e]).symbol == q {
+        if !zero_u8(frame, q, c) {
             return false;
         }
         c += 1;
@@ -23,16 +41,14 @@ pub fn zeros_u8(frame: &[u8], q: usize, n: usize) -> bool
     true
 }
 
-// And in a cost buffer.
+// And each of a cost buffer's.
 pub fn zeros_u16(costs: &[u16], q: usize, n: usize) -> bool
     requires { ⌜ n * q ≤ length (now costs) ⌝ }
     ensures { λ r. ⌜ r ≡ allTo (zeroIn q (now (costs .entry))) n ⌝ }
 {
     let mut c = 0;
     while c < n {
-        let a = c * q;
-        let e = a + q;
-        if decision::decide_u16(&costs[a..e]).symbol == q {
+        if !zero_u16(costs, q, c) {
             return false;
         }
         c += 1;

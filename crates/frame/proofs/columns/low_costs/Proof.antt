@@ -1,17 +1,16 @@
 -- Each cost passed is at most 510; one above ends the loop.
-use mathlib.Core.Path.{_≡_, ap, _∙_, sym}
-use Prim.Native.Nat.{_-_, _≤_}
+use mathlib.Core.Path.{sym}
+use Prim.Native.Nat.{_-_}
 use native.Mathlib.Omega.{arith}
 use borrow.Author.Needs.{needs}
-use mathlib.Core.Bool.{true}
-use Rattle.trellis.specs.Lists.{allTo}
 use Rattle.frame.specs.Answers.{lowCost}
+use Rattle.frame.proofs.Frames.{Passed, passed-all}
 use Rattle.frame.proofs.Resuming.{low-more, low-not}
 use Rattle.frame.proofs.columns.low_costs.Statement.{statement}
 use Rattle.frame.proofs.columns.low_costs.Tie as tie
 
 abbrev Inv-loop : tie.InvT-loop
-Inv-loop costs w i₀ i = (i ≤ w) × (allTo (lowCost costs) i ≡ true)
+Inv-loop costs w i₀ i = Passed (lowCost costs) w i
 
 abbrev μ-loop : tie.MeasureT-loop
 μ-loop costs w i₀ i = w - i
@@ -41,14 +40,10 @@ loop-again : tie.Need-loop-again Inv-loop μ-loop
 loop-again c =
     let l = c .before .before .before in
     let a = l .before .args in
-    (omega arith, low-more (a .costs .now) (l .loop .i) (omega arith) (l .loop .inv .1))
+    record { inside = omega arith; passed = low-more (a .costs .now) (l .loop .i) (omega arith) (l .loop .inv .passed) }
 
 returns-2 : tie.Need-returns-2 Inv-loop μ-loop
-returns-2 c =
-    let l = c .before in
-    let a = l .before .args in
-    let e : l .loop .i ≡ a .w = omega arith in
-    sym (ap (allTo (lowCost (a .costs .now))) (sym e) ∙ l .loop .inv .1)
+returns-2 c = passed-all (c .before .loop .inv) (omega arith)
 
 pub low-costs-spec : {M : Type 1} → statement M
 low-costs-spec =
