@@ -208,6 +208,17 @@ room-large p d h k =
     let c : d * max 16 (2 ^ p) ≤ d * 64 = mul-le-mul (le-refl d) (omega arith) in
     (omega arith, omega arith)
 
+-- the parts of the room that d columns take, with q products and l rests each
+module _ (first q l d : ℕ) (rows rests : List ℕ) (size : q ≡ sizeOf first) (side : l ≡ max 16 q) (of-rows : d * q ≤ length rows) (of-rests : d * max 16 q ≤ length rests) where
+  pub rests-room : d * l ≤ length rests
+  rests-room = rw side of-rests
+
+  pub room-parts : (length (take (d * q) rows) ≡ d * sizeOf first) × (length (take (d * l) rests) ≡ d * max 16 (sizeOf first))
+  room-parts =
+      let a : length (take (d * q) rows) ≡ d * q = simp length-take (omega arith) in
+      let b : length (take (d * l) rests) ≡ d * l = simp length-take (omega (arith, rests-room)) in
+      (a ∙ ap (λ y. d * y) size, b ∙ ap (λ y. d * y) (side ∙ ap (max 16) size))
+
 pub power-small : (p : ℕ) → 2 ^ p ≤ 16 → p ≤ 4
 power-small p h =
     elim (decLe p 4) [

@@ -1,7 +1,7 @@
 -- After n turns the costs of the first n columns stand in their places.
 use mathlib.Core.Path.{_≡_, refl}
 use mathlib.Core.List.{_++_}
-use Prim.Native.Nat.{_*_, _≤_, _-_}
+use Prim.Native.Nat.{_+_, _*_, _≤_, _-_}
 use native.Mathlib.Nat.{zero-mul}
 use native.Mathlib.Omega.{arith}
 use borrow.Author.Needs.{needs}
@@ -24,96 +24,53 @@ loop-holds c =
     let start = c .before .before .before .before in
     (omega arith, (refl, rw (zero-mul (start .args .q)) refl))
 
-mul-a : tie.Need-mul-a Inv-loop μ-loop
-mul-a c =
+-- the parts of column n stand inside their slices
+inside : (c : tie.In-loop Inv-loop μ-loop) → let n = c .before .loop .n in let a = c .before .before .before .before .before .before .args in
+    (n * a .q + a .q ≤ length (a .rows .now)) × (n * a .l + a .l ≤ length (a .rests .now)) × (n * a .q + a .q ≤ length (c .before .loop .out))
+inside c =
     let at-loop = c .before in
     let start = at-loop .before .before .before .before .before in
     let b = send-bounds (start .args .q) (start .args .l) (start .args .rows .now) (start .args .shifts .now) (start .args .rests .now) (start .args .out .now) (start .pre) (at-loop .loop .n) (omega arith) in
-    omega (arith, b .0, b .1, b .2, at-loop .loop .inv .1 .0)
+    (b .0, b .1, omega (arith, b .2, at-loop .loop .inv .1 .0))
+
+mul-a : tie.Need-mul-a Inv-loop μ-loop
+mul-a c = omega (arith, inside c)
 
 add-e : tie.Need-add-e Inv-loop μ-loop
-add-e c =
-    let at-loop = c .before in
-    let start = at-loop .before .before .before .before .before in
-    let b = send-bounds (start .args .q) (start .args .l) (start .args .rows .now) (start .args .shifts .now) (start .args .rests .now) (start .args .out .now) (start .pre) (at-loop .loop .n) (omega arith) in
-    omega (arith, b .0, b .1, b .2, at-loop .loop .inv .1 .0)
+add-e c = omega (arith, inside c)
 
 mul-b : tie.Need-mul-b Inv-loop μ-loop
-mul-b c =
-    let at-loop = c .before in
-    let start = at-loop .before .before .before .before .before in
-    let b = send-bounds (start .args .q) (start .args .l) (start .args .rows .now) (start .args .shifts .now) (start .args .rests .now) (start .args .out .now) (start .pre) (at-loop .loop .n) (omega arith) in
-    omega (arith, b .0, b .1, b .2, at-loop .loop .inv .1 .0)
+mul-b c = omega (arith, inside c)
 
 add-f : tie.Need-add-f Inv-loop μ-loop
-add-f c =
-    let at-loop = c .before in
-    let start = at-loop .before .before .before .before .before in
-    let b = send-bounds (start .args .q) (start .args .l) (start .args .rows .now) (start .args .shifts .now) (start .args .rests .now) (start .args .out .now) (start .pre) (at-loop .loop .n) (omega arith) in
-    omega (arith, b .0, b .1, b .2, at-loop .loop .inv .1 .0)
+add-f c = omega (arith, inside c)
 
 sub-column : tie.Need-sub-column Inv-loop μ-loop
-sub-column c =
-    let at-loop = c .before in
-    let start = at-loop .before .before .before .before .before in
-    let b = send-bounds (start .args .q) (start .args .l) (start .args .rows .now) (start .args .shifts .now) (start .args .rests .now) (start .args .out .now) (start .pre) (at-loop .loop .n) (omega arith) in
-    omega (arith, b .0, b .1, b .2, at-loop .loop .inv .1 .0)
+sub-column c = omega (arith, inside c)
 
 part-column-start : tie.Need-part-column-start Inv-loop μ-loop
-part-column-start c =
-    let at-loop = c .before in
-    let start = at-loop .before .before .before .before .before in
-    let b = send-bounds (start .args .q) (start .args .l) (start .args .rows .now) (start .args .shifts .now) (start .args .rests .now) (start .args .out .now) (start .pre) (at-loop .loop .n) (omega arith) in
-    omega (arith, b .0, b .1, b .2, at-loop .loop .inv .1 .0)
+part-column-start c = omega (arith, inside c)
 
 part-column-end : tie.Need-part-column-end Inv-loop μ-loop
-part-column-end c =
-    let at-loop = c .before in
-    let start = at-loop .before .before .before .before .before in
-    let b = send-bounds (start .args .q) (start .args .l) (start .args .rows .now) (start .args .shifts .now) (start .args .rests .now) (start .args .out .now) (start .pre) (at-loop .loop .n) (omega arith) in
-    omega (arith, b .0, b .1, b .2, at-loop .loop .inv .1 .0)
+part-column-end c = omega (arith, inside c)
 
 sub-column-2 : tie.Need-sub-column-2 Inv-loop μ-loop
-sub-column-2 c =
-    let at-loop = c .before .before .before in
-    let start = at-loop .before .before .before .before .before in
-    let b = send-bounds (start .args .q) (start .args .l) (start .args .rows .now) (start .args .shifts .now) (start .args .rests .now) (start .args .out .now) (start .pre) (at-loop .loop .n) (omega arith) in
-    omega (arith, b .0, b .1, b .2, at-loop .loop .inv .1 .0)
+sub-column-2 c = omega (arith, inside (c .before .before))
 
 part-column-start-2 : tie.Need-part-column-start-2 Inv-loop μ-loop
-part-column-start-2 c =
-    let at-loop = c .before .before .before in
-    let start = at-loop .before .before .before .before .before in
-    let b = send-bounds (start .args .q) (start .args .l) (start .args .rows .now) (start .args .shifts .now) (start .args .rests .now) (start .args .out .now) (start .pre) (at-loop .loop .n) (omega arith) in
-    omega (arith, b .0, b .1, b .2, at-loop .loop .inv .1 .0)
+part-column-start-2 c = omega (arith, inside (c .before .before))
 
 part-column-end-2 : tie.Need-part-column-end-2 Inv-loop μ-loop
-part-column-end-2 c =
-    let at-loop = c .before .before .before in
-    let start = at-loop .before .before .before .before .before in
-    let b = send-bounds (start .args .q) (start .args .l) (start .args .rows .now) (start .args .shifts .now) (start .args .rests .now) (start .args .out .now) (start .pre) (at-loop .loop .n) (omega arith) in
-    omega (arith, b .0, b .1, b .2, at-loop .loop .inv .1 .0)
+part-column-end-2 c = omega (arith, inside (c .before .before))
 
 sub-column-3 : tie.Need-sub-column-3 Inv-loop μ-loop
-sub-column-3 c =
-    let at-loop = c .before .before .before .before in
-    let start = at-loop .before .before .before .before .before in
-    let b = send-bounds (start .args .q) (start .args .l) (start .args .rows .now) (start .args .shifts .now) (start .args .rests .now) (start .args .out .now) (start .pre) (at-loop .loop .n) (omega arith) in
-    omega (arith, b .0, b .1, b .2, at-loop .loop .inv .1 .0)
+sub-column-3 c = omega (arith, inside (c .before .before .before))
 
 part-column-start-3 : tie.Need-part-column-start-3 Inv-loop μ-loop
-part-column-start-3 c =
-    let at-loop = c .before .before .before .before in
-    let start = at-loop .before .before .before .before .before in
-    let b = send-bounds (start .args .q) (start .args .l) (start .args .rows .now) (start .args .shifts .now) (start .args .rests .now) (start .args .out .now) (start .pre) (at-loop .loop .n) (omega arith) in
-    omega (arith, b .0, b .1, b .2, at-loop .loop .inv .1 .0)
+part-column-start-3 c = omega (arith, inside (c .before .before .before))
 
 part-column-end-3 : tie.Need-part-column-end-3 Inv-loop μ-loop
-part-column-end-3 c =
-    let at-loop = c .before .before .before .before in
-    let start = at-loop .before .before .before .before .before in
-    let b = send-bounds (start .args .q) (start .args .l) (start .args .rows .now) (start .args .shifts .now) (start .args .rests .now) (start .args .out .now) (start .pre) (at-loop .loop .n) (omega arith) in
-    omega (arith, b .0, b .1, b .2, at-loop .loop .inv .1 .0)
+part-column-end-3 c = omega (arith, inside (c .before .before .before))
 
 shared-slice-read-column : tie.Need-shared-slice-read-column Inv-loop μ-loop
 shared-slice-read-column c = search needs
