@@ -1,14 +1,14 @@
 -- Shifts, then groups, are the record: the rows joined from both sweeps are the sent costs.
 use mathlib.Core.Path.{_≡_, refl, ap, ap₂, _∙_, sym}
-use mathlib.Core.List.{List}
+use mathlib.Core.List.{List, _++_}
 use Prim.Native.Nat.{ℕ, _+_, _-_, _*_, _<_}
 use native.Mathlib.Omega.{arith}
 use borrow.Author.Needs.{needs}
-use lib.ListN.{length, getD, length-append, length-take, length-drop}
+use lib.ListN.{length, take, getD, length-append, length-take, length-drop}
 use lib.Seq.{take-at}
 use lib.Pow.{pow-pos}
 use native.Mathlib.Nat.{mul-comm}
-use Rattle.trellis.specs.Rules.{powerOf, sizeOf, mostOf}
+use Rattle.trellis.specs.Rules.{powerOf, sizeOf, mostOf, greatestOf}
 use Rattle.rules.specs.declared.Rule.{Rule}
 use Rattle.checknode.specs.inner.Asks.{shiftsOf}
 use Rattle.trellis.proofs.Rules.{most-few}
@@ -53,26 +53,40 @@ slice-aggregate-sent-all c =
     let start = at-shifts .before .before .before .before .before .before .before .before .before .before .before in
     simp (length-take, length-append, length-drop) (omega (arith, (ap length (at-shifts .shifts .ensures) ∙ shifts-length (start .args .first) (start .args .weights .now) (start .args .costs .now) (start .pre .0)), start .pre .1 .1 .1))
 
+-- what the calls up to the shifts say
+module _ (c : tie.After-shifts) where
+  abbrev start : tie.Start
+  start = c .before .before .before .before .before .before .before .before .before .before .before
+
+  abbrev f : ℕ
+  f = start .args .first
+
+  abbrev ws : List ℕ
+  ws = start .args .weights .now
+
+  abbrev cs : List ℕ
+  cs = start .args .costs .now
+
+  bytes : (i : ℕ) → getD cs i 0 < 256
+  bytes i = omega (arith, c .before .before .before .before .before .before .before .before .before .shared-slice-known2 .given i)
+
+  most-is : c .before .before .u8-to-usize .result ≡ mostOf f
+  most-is = c .before .before .u8-to-usize .ensures .0 ∙ ap (λ (r : Rule). r .k) (c .before .before .before .before .rule-of .ensures)
+
+  greatest-is : c .before .before .before .before .rule-of .result .greatest ≡ greatestOf f
+  greatest-is = ap (λ (r : Rule). r .greatest) (c .before .before .before .before .rule-of .ensures)
+
+  shifts-long : length (shiftsOf (powerOf f) ws cs) ≡ length ws
+  shifts-long = shifts-length f ws cs (start .pre .0)
+
+  -- the shifts stand first
+  shifts-first : {s : List ℕ} (r : List ℕ) → s ≡ shiftsOf (powerOf f) ws cs → take (length ws) (s ++ r) ≡ shiftsOf (powerOf f) ws cs
+  shifts-first {s} r e = take-at s r (length ws) (ap length e ∙ shifts-long) ∙ e
+
 sent-all-requires : tie.Need-sent-all-requires
 sent-all-requires c κs =
-    let at-shifts = c .before .before .before .before in
-    let at-u8-to-usize = at-shifts .before .before in
-    let at-size = at-u8-to-usize .before in
-    let at-rule-of = at-size .before in
-    let at-shared-slice-known2 = at-rule-of .before .before .before .before .before in
-    let start = at-shared-slice-known2 .before .before in
-    let ws : List ℕ = start .args .weights .now in
-    let cs : List ℕ = start .args .costs .now in
-    let f : ℕ = start .args .first in
-    let D = start .pre .0 in
-    let bytes : (i : ℕ) → getD cs i 0 < 256 = λ i. omega (arith, at-shared-slice-known2 .shared-slice-known2 .given i) in
-    let eq = at-size .size .ensures .0 in
-    let ek = at-u8-to-usize .u8-to-usize .ensures .0 ∙ ap (λ (r : Rule). r .k) (at-rule-of .rule-of .ensures) in
-    let eg = ap (λ (r : Rule). r .greatest) (at-rule-of .rule-of .ensures) in
-    let S : List ℕ = shiftsOf (powerOf f) ws cs in
-    let sl : length S ≡ length ws = shifts-length f ws cs D in
-    let es = take-at _ _ (length ws) (ap length (at-shifts .shifts .ensures) ∙ sl) ∙ at-shifts .shifts .ensures in
-    rows-joinable f ws cs D bytes (start .args .before .now) (start .args .after .now) (start .pre .1 .0) eg eq ek es (start .args .sent .now) (start .pre .1 .1 .0)
+    let s = c .before .before .before .before in
+    rows-joinable (f s) (ws s) (cs s) (start s .pre .0) (bytes s) (start s .args .before .now) (start s .args .after .now) (start s .pre .1 .0) (greatest-is s) (s .before .before .before .size .ensures .0) (most-is s) (shifts-first s _ (s .shifts .ensures)) (start s .args .sent .now) (start s .pre .1 .1 .0)
 
 sub-groups : tie.Need-sub-groups
 sub-groups c =
@@ -90,29 +104,15 @@ part-groups-end c = search needs
 groups-requires : tie.Need-groups-requires
 groups-requires c κs =
     let at-sent-all = c .before .before .before .before in
-    let at-shifts = at-sent-all .before .before .before .before .before in
-    let at-u8-to-usize = at-shifts .before .before in
-    let at-size = at-u8-to-usize .before in
-    let at-rule-of = at-size .before in
-    let at-shared-slice-known2 = at-rule-of .before .before .before .before .before in
-    let start = at-shared-slice-known2 .before .before in
-    let ws : List ℕ = start .args .weights .now in
-    let cs : List ℕ = start .args .costs .now in
-    let f : ℕ = start .args .first in
-    let D = start .pre .0 in
-    let bytes : (i : ℕ) → getD cs i 0 < 256 = λ i. omega (arith, at-shared-slice-known2 .shared-slice-known2 .given i) in
-    let eq = at-size .size .ensures .0 in
-    let ek = at-u8-to-usize .u8-to-usize .ensures .0 ∙ ap (λ (r : Rule). r .k) (at-rule-of .rule-of .ensures) in
-    let eg = ap (λ (r : Rule). r .greatest) (at-rule-of .rule-of .ensures) in
-    let S : List ℕ = shiftsOf (powerOf f) ws cs in
-    let sl : length S ≡ length ws = shifts-length f ws cs D in
-    let es = take-at _ _ (length ws) (ap length (at-shifts .shifts .ensures) ∙ sl) ∙ at-shifts .shifts .ensures in
-    let R = rows-are f ws cs D bytes (start .args .before .now) (start .args .after .now) (start .pre .1 .0) eg eq ek es (at-sent-all .sent-all .ensures) in
-    let n = rest-length S (start .args .out .now) (length ws) _ ((1 + 2 * mostOf f) * (sizeOf f - 1)) (at-shifts .shifts .ensures) sl refl (start .pre .1 .1 .1) in
-    let m : (1 + 2 * mostOf f) * (sizeOf f - 1) ≡ (at-size .size .result - 1) * (1 + 2 * at-u8-to-usize .u8-to-usize .result) =
-    ap₂ (λ k q. (1 + 2 * k) * (q - 1)) (sym ek) (sym eq) ∙ mul-comm (1 + 2 * at-u8-to-usize .u8-to-usize .result) (at-size .size .result - 1) in (
-      (omega (arith, at-sent-all .sent-all .kept, start .pre .1 .1 .0, ap (λ y. length ws * y) eq), (omega (arith, D .few), (omega (arith, ek, most-few f), omega (arith, eq, pow-pos (powerOf f))))),
-      (sent-fits f ws cs D bytes eq ek _ R, n ∙ m),
+    let s = at-sent-all .before .before .before .before .before in
+    let q = s .before .before .before .size .result in
+    let k = s .before .before .u8-to-usize .result in
+    let eq = s .before .before .before .size .ensures .0 in
+    let ek = most-is s in
+    let n = rest-length (shiftsOf (powerOf (f s)) (ws s) (cs s)) (start s .args .out .now) (length (ws s)) _ ((1 + 2 * mostOf (f s)) * (sizeOf (f s) - 1)) (s .shifts .ensures) (shifts-long s) refl (start s .pre .1 .1 .1) in
+    let m : (1 + 2 * mostOf (f s)) * (sizeOf (f s) - 1) ≡ (q - 1) * (1 + 2 * k) = ap₂ (λ k q. (1 + 2 * k) * (q - 1)) (sym ek) (sym eq) ∙ mul-comm (1 + 2 * k) (q - 1) in (
+      (omega (arith, at-sent-all .sent-all .kept, start s .pre .1 .1 .0, ap (λ y. length (ws s) * y) eq), (omega (arith, start s .pre .0 .few), (omega (arith, ek, most-few (f s)), omega (arith, eq, pow-pos (powerOf (f s)))))),
+      (sent-fits (f s) (ws s) (cs s) (start s .pre .0) (bytes s) eq ek _ (rows-are (f s) (ws s) (cs s) (start s .pre .0) (bytes s) (start s .args .before .now) (start s .args .after .now) (start s .pre .1 .0) (greatest-is s) (s .before .before .before .size .ensures .0) (most-is s) (shifts-first s _ (s .shifts .ensures)) (at-sent-all .sent-all .ensures)), n ∙ m),
     )
 
 same-length : tie.Need-same-length
@@ -125,26 +125,9 @@ returns : tie.Need-returns
 returns c =
     let at-groups = c .before .before in
     let at-sent-all = at-groups .before .before .before .before .before in
-    let at-shifts = at-sent-all .before .before .before .before .before in
-    let at-u8-to-usize = at-shifts .before .before in
-    let at-size = at-u8-to-usize .before in
-    let at-rule-of = at-size .before in
-    let at-shared-slice-known2 = at-rule-of .before .before .before .before .before in
-    let start = at-shared-slice-known2 .before .before in
-    let ws : List ℕ = start .args .weights .now in
-    let cs : List ℕ = start .args .costs .now in
-    let f : ℕ = start .args .first in
-    let D = start .pre .0 in
-    let bytes : (i : ℕ) → getD cs i 0 < 256 = λ i. omega (arith, at-shared-slice-known2 .shared-slice-known2 .given i) in
-    let eq = at-size .size .ensures .0 in
-    let ek = at-u8-to-usize .u8-to-usize .ensures .0 ∙ ap (λ (r : Rule). r .k) (at-rule-of .rule-of .ensures) in
-    let eg = ap (λ (r : Rule). r .greatest) (at-rule-of .rule-of .ensures) in
-    let S : List ℕ = shiftsOf (powerOf f) ws cs in
-    let sl : length S ≡ length ws = shifts-length f ws cs D in
-    let es = take-at _ _ (length ws) (ap length (at-shifts .shifts .ensures) ∙ sl) ∙ at-shifts .shifts .ensures in
-    let R = rows-are f ws cs D bytes (start .args .before .now) (start .args .after .now) (start .pre .1 .0) eg eq ek es (at-sent-all .sent-all .ensures) in
-    two-parts S _ (start .args .out .now) (length ws) _ (at-shifts .shifts .ensures) (at-groups .groups .ensures) sl refl (omega (arith, start .pre .1 .1 .1))
-    ∙ record-is f ws cs D bytes eq ek _ R
+    let s = at-sent-all .before .before .before .before .before in
+    two-parts (shiftsOf (powerOf (f s)) (ws s) (cs s)) _ (start s .args .out .now) (length (ws s)) _ (s .shifts .ensures) (at-groups .groups .ensures) (shifts-long s) refl (omega (arith, start s .pre .1 .1 .1))
+    ∙ record-is (f s) (ws s) (cs s) (start s .pre .0) (bytes s) (s .before .before .before .size .ensures .0) (most-is s) _ (rows-are (f s) (ws s) (cs s) (start s .pre .0) (bytes s) (start s .args .before .now) (start s .args .after .now) (start s .pre .1 .0) (greatest-is s) (s .before .before .before .size .ensures .0) (most-is s) (shifts-first s _ (s .shifts .ensures)) (at-sent-all .sent-all .ensures))
 
 pub record-from-spec : {M : Type 1} → statement M
 record-from-spec =
