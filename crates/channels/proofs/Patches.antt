@@ -23,8 +23,8 @@ patched : (l s : List ℕ) (c d w n : ℕ) → n * w ≤ length l → c < n → 
 patched l s c d w n h i j k e =
     let r : c * w + w ≤ length l = omega (arith, column-room c n w i) in
     elim (decLt d c) [
-      | yes g ↦ part-before l s (c * w) w r e (d * w) (column-room d c w g)
-      | no g ↦ part-after l s (c * w) w r e (d * w) (column-room c d w (omega arith))
+      | yes g ↦ part-before l s (c * w) w r e (d * w) w (column-room d c w g)
+      | no g ↦ part-after l s (c * w) w r e (d * w) w (column-room c d w (omega arith))
     ]
 
 -- what follows a patch is as it was
