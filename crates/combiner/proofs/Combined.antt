@@ -18,7 +18,7 @@ use Rattle.machine.specs.Combining.{bothCosts, combinedColumn, combinedTo, comb
 use Rattle.machine.proofs.Faults.{combine-by}
 use Rattle.machine.proofs.Lists.{map-after}
 use Rattle.machine.proofs.Lines.{parse-good}
-use Rattle.machine.proofs.Ranges.{column-room, frame-fits}
+use Rattle.machine.proofs.Ranges.{frame-fits}
 use Rattle.machine.proofs.Combining.{length-combined, fault-none}
 use Rattle.codeline.specs.declared.answers.Header.{Header}
 use Rattle.codeline.specs.declared.answers.Numbers.{Numbers}
@@ -50,8 +50,18 @@ column-done a b d out least i some s k e m o =
     let l : smallest (map (bothCosts a b) (upTo n)) ≡ least = sym (m ∙ least-is a b n some s) in
     o ∙ rw e (tab-whole v d) ∙ ap (tab v) k ∙ sym t ∙ ap (λ y. map (λ v. min 255 v) (map (λ v. v - y) (map (bothCosts a b) (upTo n)))) (sym l)
 
+-- a column's part of a list
+pub column-placed : (f g out x : List ℕ) (q c : ℕ) → c * q + q ≤ length f
+    → x ≡ combinedColumn (length (part f (c * q) (c * q + q - c * q))) (part f (c * q) (c * q + q - c * q)) (part g (c * q) (c * q + q - c * q))
+    → patch out (c * q) (c * q + q - c * q) x ≡ patch out (c * q) q (combinedColumn q (columnOf q f c) (columnOf q g c))
+column-placed f g out x q c room i =
+    let b : c * q + q - c * q ≡ q = add-sub-cancel-left (c * q) q in
+    let l : length (part f (c * q) q) ≡ q = length-part f (c * q) q room in
+    let y : x ≡ combinedColumn q (columnOf q f c) (columnOf q g c) = i ∙ rw (b, l) in
+    rw (b, y)
+
 -- the loop over the columns
-module _ (f g d : List ℕ) (q n : ℕ) (lf : length f ≡ n * q) (ld : length d ≡ n * q) (some : 0 < q) where
+module _ (f g d : List ℕ) (q n : ℕ) (ld : length d ≡ n * q) (some : 0 < q) where
   abbrev at : ℕ → List ℕ
   at c = combinedColumn q (columnOf q f c) (columnOf q g c)
 
@@ -62,15 +72,9 @@ module _ (f g d : List ℕ) (q n : ℕ) (lf : length f ≡ n * q) (ld : length d
   unfolding combinedTo
   all-start = let e : 0 * q ≡ 0 = omega arith in rw e
 
-  pub all-turn : (now x : List ℕ) (c : ℕ) → c < n → now ≡ combinedTo q f g c ++ drop (c * q) d
-      → x ≡ combinedColumn (length (part f (c * q) (c * q + q - c * q))) (part f (c * q) (c * q + q - c * q)) (part g (c * q) (c * q + q - c * q))
-      → patch now (c * q) (c * q + q - c * q) x ≡ combinedTo q f g (c + 1) ++ drop ((c + 1) * q) d
+  pub all-turn : (now : List ℕ) (c : ℕ) → now ≡ combinedTo q f g c ++ drop (c * q) d → patch now (c * q) q (at c) ≡ combinedTo q f g (c + 1) ++ drop ((c + 1) * q) d
   unfolding combinedTo
-  all-turn now x c h o i =
-      let b : c * q + q - c * q ≡ q = add-sub-cancel-left (c * q) q in
-      let l : length (part f (c * q) q) ≡ q = length-part f (c * q) q (omega (arith, column-room c n q h)) in
-      let y : x ≡ at c = i ∙ rw (b, l) in
-      block-more at q full d now c o y
+  all-turn now c o = ap (λ w. patch now (c * q) w (at c)) (sym (add-sub-cancel-left (c * q) q)) ∙ block-more at q full d now c o refl
 
   pub all-length : (c : ℕ) → c ≤ n → length (combinedTo q f g c ++ drop (c * q) d) ≡ length d
   unfolding combinedTo

@@ -2,6 +2,8 @@
 ghost use mathlib.Core.Path.{_≡_};
 ghost use Prim.Native.Nat.{_+_, _*_, _≤_, _<_};
 ghost use lib.ListN.{length};
+ghost use Rattle.trellis.specs.Lists.{patch};
+ghost use Rattle.machine.specs.CodeLine.{columnOf};
 ghost use Rattle.machine.specs.Combining.{combinedColumn, combinedTo};
 ghost use Rattle.combiner.specs.inner.Columns.{leastBoth};
 
@@ -40,6 +42,17 @@ fn combine_column(first: &[u8], second: &[u8], out: &mut [u8])
     }
 }
 
+// Column c of two frames, in its place.
+fn combine_at(first: &[u8], second: &[u8], q: usize, c: usize, out: &mut [u8])
+    requires { ⌜ (c * q + q ≤ length (now first)) × ((c * q + q ≤ length (now second)) × ((c * q + q ≤ length (now out)) × (0 < q))) ⌝ }
+    ensures { λ _. ⌜ now (out .exit)
+        ≡ patch (now (out .entry)) (c * q) q (combinedColumn q (columnOf q (now (first .entry)) c) (columnOf q (now (second .entry)) c)) ⌝ }
+{
+    let a = c * q;
+    let e = a + q;
+    combine_column(&first[a..e], &second[a..e], &mut out[a..e]);
+}
+
 // Every column of two frames of n times q costs.
 pub fn combine_all(first: &[u8], second: &[u8], q: usize, n: usize, out: &mut [u8])
     requires { ⌜ (length (now first) ≡ n * q) × ((length (now second) ≡ n * q) × ((length (now out) ≡ n * q) × (0 < q))) ⌝ }
@@ -47,9 +60,7 @@ pub fn combine_all(first: &[u8], second: &[u8], q: usize, n: usize, out: &mut [u
 {
     let mut c = 0;
     while c < n {
-        let a = c * q;
-        let e = a + q;
-        combine_column(&first[a..e], &second[a..e], &mut out[a..e]);
+        combine_at(first, second, q, c, out);
         c += 1;
     }
 }
