@@ -11,7 +11,7 @@ ghost use Rattle.trellis.specs.Check.{allSent};
 ghost use Rattle.trellis.specs.Record.{recordOf, recordLength};
 ghost use Rattle.trellis.specs.Rules.{ruleFor, powerOf, sizeOf, columnsOf};
 ghost use Rattle.trellis.specs.Ready.{Ready};
-ghost use Rattle.trellis.specs.Sizes.{mostDegree};
+ghost use Rattle.trellis.specs.Sizes.{mostDegree, mostSize};
 ghost use Rattle.field.specs.Answers.{rowOf};
 ghost use Rattle.checknode.specs.inner.Asks.{shiftsOf};
 ghost use Rattle.checknode.specs.inner.Lines.{RestsRoom, Rests};
@@ -74,7 +74,7 @@ fn rests_in(
     ensures { λ _. ⌜ now (shifts .exit) ≡ shiftsOf (powerOf first) (now (weights .entry)) (now (costs .entry)) ⌝ }
 {
     if rules::power(first) <= 4 {
-        let mut lines = [0u8; 512];
+        let mut lines = [0u8; sizes::SMALL_EXPANSION];
         rests_with(first, weights, costs, rows, &mut lines, rests, shifts);
         return;
     }
@@ -133,13 +133,13 @@ fn record_room(
 // The record, with the room that it takes: a fourth of it is enough up to 16 rows.
 pub fn record_in(first: u8, q: usize, weights: &[u8], costs: &[u8], out: &mut [u8])
     requires { ⌜ Ready first (now weights) (now costs) ⌝ }
-    requires { ⌜ q ≤ 64 ⌝ }
+    requires { ⌜ q ≤ mostSize ⌝ }
     requires { ⌜ (q ≡ sizeOf first) × (length (now out) ≡ recordLength (ruleFor first) (length (now weights))) ⌝ }
     ensures { λ _. ⌜ now (out .exit) ≡ recordOf (ruleFor first) (columnsOf (sizeOf first) (now (weights .entry)) (now (costs .entry))) ⌝ }
 {
     if q <= 16 {
-        let mut rows = [0u8; 512];
-        let mut rests = [0u8; 512];
+        let mut rows = [0u8; sizes::SMALL_EXPANSION];
+        let mut rests = [0u8; sizes::SMALL_EXPANSION];
         record_room(first, q, weights, costs, &mut rows, &mut rests, out);
         return;
     }
@@ -216,7 +216,7 @@ pub fn messages_in(
     sent: &mut [u8],
 )
     requires { ⌜ Ready first (now weights) (now costs) ⌝ }
-    requires { ⌜ q ≤ 64 ⌝ }
+    requires { ⌜ q ≤ mostSize ⌝ }
     requires { ⌜
         (q ≡ sizeOf first)
         × ((length (now out) ≡ recordLength (ruleFor first) (length (now weights)))
@@ -225,8 +225,8 @@ pub fn messages_in(
     ensures { λ _. ⌜ now (sent .exit) ≡ allSent (ruleFor first) (columnsOf (sizeOf first) (now (weights .entry)) (now (costs .entry))) ⌝ }
 {
     if q <= 16 {
-        let mut rows = [0u8; 512];
-        let mut rests = [0u8; 512];
+        let mut rows = [0u8; sizes::SMALL_EXPANSION];
+        let mut rests = [0u8; sizes::SMALL_EXPANSION];
         messages_room(first, q, weights, costs, &mut rows, &mut rests, out, sent);
         return;
     }

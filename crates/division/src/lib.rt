@@ -5,6 +5,7 @@ ghost use mathlib.Core.Path.{_≡_};
 ghost use Prim.Native.Nat.{_^_, _≤_, _<_};
 ghost use lib.Dec.{T};
 ghost use Rattle.trellis.specs.Field.{product};
+ghost use Rattle.trellis.specs.Sizes.{mostSize};
 ghost use Rattle.field.specs.Answers.{productReply};
 ghost use Rattle.division.specs.inner.Table.{allInverted};
 ghost use Rattle.division.specs.Numbers.{divisorOk, quotientOr, DivisorRoom};
@@ -163,7 +164,7 @@ fn index(x: u8) -> usize
 // q = 2^p
 fn size(p: u8) -> usize
     requires { ⌜ p ≤ 6 ⌝ }
-    ensures { λ r. ⌜ (r ≡ 2 ^ p) × (r ≤ 64) ⌝ }
+    ensures { λ r. ⌜ (r ≡ 2 ^ p) × (r ≤ mostSize) ⌝ }
 {
     1usize << p
 }

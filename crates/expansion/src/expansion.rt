@@ -9,9 +9,13 @@ ghost use lib.ListN.{length, take, getD};
 ghost use Rattle.trellis.specs.Lists.{tab, blocks};
 ghost use Rattle.trellis.specs.Record.{expansion};
 ghost use Rattle.trellis.specs.Rules.{ruleFor, powerOf, sizeOf, mostOf};
+ghost use Rattle.trellis.specs.Sizes.{mostSize};
 ghost use Rattle.expansion.specs.inner.Asks.{ExpandRoom};
 ghost use Rattle.expansion.specs.inner.Transposed.{zeroRow, everyAt, unpacked, besideIn, valueIn, bySymbol, turned};
 ghost use Rattle.expansion.specs.inner.Transposed.{UnpackRoom, ListsRoom, ShiftRoom, TurnRoom};
+
+// Lists over the rows of the largest field: E, and column and S of each pair.
+const MOST_LISTS: usize = (1 + 2 * sizes::MOST_DEVIATIONS) * sizes::MOST_SIZE;
 
 // What list i has in row 0: "the byte is 0 if a is 0", and no column is FF.
 fn zero_row(i: usize) -> u8
@@ -81,7 +85,7 @@ fn pair(c: &[u8], s: &[u8], n: u8, v: &mut [u8])
 
 // "the S beside n if a's pairs list n, else E(a)", for the rows from row at on. The first pair that lists n has the last word.
 fn rows_from(t: &[u8], q: usize, k: usize, n: u8, at: usize, v: &mut [u8])
-    requires { ⌜ (k ≤ 3) × ((q ≤ 64) × (2 * k * q + (at + length (now v)) ≤ length (now t))) ⌝ }
+    requires { ⌜ (k ≤ 3) × ((q ≤ mostSize) × (2 * k * q + (at + length (now v)) ≤ length (now t))) ⌝ }
     ensures { λ _. ⌜ now (v .exit) ≡ tab (λ a. valueIn k (now (t .entry)) q n (at + a)) (length (now (v .entry))) ⌝ }
 {
     copy(&t[at..], v);
@@ -97,7 +101,7 @@ fn rows_from(t: &[u8], q: usize, k: usize, n: u8, at: usize, v: &mut [u8])
 // The values of one column, row by row, sixteen rows at a time: with fewer than sixteen the rest is read and not used.
 fn values(t: &[u8], q: usize, k: usize, n: u8, v: &mut [u8])
     requires { ⌜ ListsRoom k q (now t) ⌝ }
-    requires { ⌜ length (now v) ≡ 64 ⌝ }
+    requires { ⌜ length (now v) ≡ mostSize ⌝ }
     ensures { λ _. ⌜ take q (now (v .exit)) ≡ tab (valueIn k (now (t .entry)) q n) q ⌝ }
 {
     let mut a = 0;
@@ -125,7 +129,7 @@ fn by_symbol(v: &[u8], s: u8, out: &mut [u8])
 fn column_in(t: &[u8], q: usize, k: usize, n: u8, s: u8, v: &mut [u8], out: &mut [u8])
     requires { ⌜ ListsRoom k q (now t) ⌝ }
     requires { ⌜ ShiftRoom (now out) s ⌝ }
-    requires { ⌜ (length (now v) ≡ 64) × (length (now out) ≡ q) ⌝ }
+    requires { ⌜ (length (now v) ≡ mostSize) × (length (now out) ≡ q) ⌝ }
     ensures { λ _. ⌜ now (out .exit) ≡ tab (bySymbol (tab (valueIn k (now (t .entry)) q n) q) (now (out .entry)) s) q ⌝ }
 {
     values(t, q, k, n, v);
@@ -160,8 +164,8 @@ fn columns(d: usize, q: usize, k: usize, r: &[u8], t: &[u8], out: &mut [u8])
 
 // The lists, in the part of the room that they take, and the columns from them.
 fn in_room(d: usize, q: usize, k: usize, r: &[u8], t: &mut [u8], out: &mut [u8])
-    requires { ⌜ (k ≤ 3) × (((1 ≤ q) × (q ≤ 64)) × (length (now r) ≡ d + (1 + 2 * k) * (q - 1))) ⌝ }
-    requires { ⌜ (1 + 2 * k) * 64 ≤ length (now t) ⌝ }
+    requires { ⌜ (k ≤ 3) × (((1 ≤ q) × (q ≤ mostSize)) × (length (now r) ≡ d + (1 + 2 * k) * (q - 1))) ⌝ }
+    requires { ⌜ (1 + 2 * k) * mostSize ≤ length (now t) ⌝ }
     requires { ⌜ TurnRoom d q (now r) (now out) ⌝ }
     ensures { λ _. ⌜ take ((1 + 2 * k) * q) (now (t .exit)) ≡ unpacked k d q (now (r .entry)) ⌝ }
     ensures { λ _. ⌜ now (out .exit) ≡ blocks (turned k (now (t .exit)) q (now (r .entry)) (now (out .entry))) d ⌝ }
@@ -175,12 +179,12 @@ fn in_room(d: usize, q: usize, k: usize, r: &[u8], t: &mut [u8], out: &mut [u8])
 // turned in place.
 pub fn expand_in(first: u8, q: usize, weights: &[u8], r: &[u8], out: &mut [u8])
     requires { ⌜ ExpandRoom (powerOf first) (mostOf first) (now weights) (now r) ⌝ }
-    requires { ⌜ (q ≤ 64) × ((q ≡ sizeOf first) × (length (now out) ≡ length (now weights) * sizeOf first)) ⌝ }
+    requires { ⌜ (q ≤ mostSize) × ((q ≡ sizeOf first) × (length (now out) ≡ length (now weights) * sizeOf first)) ⌝ }
     ensures { λ _. ⌜ now (out .exit) ≡ expansion (ruleFor first) (now (weights .entry)) (now (r .entry)) ⌝ }
 {
     let rule = rules::rule_of(first);
     let k = scalar::u8_to_usize(rule.k);
-    let mut t = [0u8; 448];
+    let mut t = [0u8; MOST_LISTS];
     field::rows(rule.p, weights, out);
     in_room(weights.len(), q, k, r, &mut t, out);
 }

@@ -3,11 +3,12 @@ ghost use mathlib.Core.Path.{_≡_};
 ghost use mathlib.Core.Bool.{cond};
 ghost use Prim.Native.Nat.{_≤_, _<_, _^_};
 ghost use Rattle.trellis.specs.Field.{xor, polynomial, doubled, product};
+ghost use Rattle.trellis.specs.Sizes.{mostSize};
 
 // q = 2 ^ p.
 pub fn size(p: u8) -> u8
     requires { ⌜ (2 ≤ p) × (p ≤ 6) ⌝ }
-    ensures { λ r. ⌜ (r ≡ 2 ^ p) × ((4 ≤ r) × (r ≤ 64)) ⌝ }
+    ensures { λ r. ⌜ (r ≡ 2 ^ p) × ((4 ≤ r) × (r ≤ mostSize)) ⌝ }
 {
     1u8 << p
 }

@@ -11,6 +11,7 @@ ghost use mathlib.Core.Bool.{true};
 ghost use Prim.Native.Nat.{_+_, _*_, _≤_, _<_};
 ghost use lib.ListN.{length, set};
 ghost use Rattle.trellis.specs.Check.{decide as decideOf};
+ghost use Rattle.trellis.specs.Sizes.{mostSize};
 ghost use Rattle.machine.specs.CodeLine.{columnOf};
 ghost use Rattle.machine.specs.Machine.{symbols as symbolsOf};
 ghost use Rattle.machine.specs.Lent.{lent};
@@ -22,7 +23,7 @@ ghost use Rattle.layered.specs.inner.Early.{decidedAgain, AgainRoom, Ret
 
 // Decides column c again; 1 where its symbol is another one now, else 0.
 fn decide_at(costs: &[u16], q: usize, c: usize, symbols: &mut [u8]) -> usize
-    requires { ⌜ (c * q + q ≤ length (now costs)) × ((c < length (now symbols)) × (q ≤ 64)) ⌝ }
+    requires { ⌜ (c * q + q ≤ length (now costs)) × ((c < length (now symbols)) × (q ≤ mostSize)) ⌝ }
     ensures { λ _. ⌜ now (symbols .exit) ≡ set (now (symbols .entry)) c (decideOf (columnOf q (now (costs .entry)) c) .symbol) ⌝ }
     ensures { λ r. ⌜ (r ≤ 1) × (r ≡ 0 → now (symbols .exit) ≡ now (symbols .entry)) ⌝ }
 {

@@ -9,6 +9,7 @@ ghost use Rattle.trellis.specs.Lists.{tab};
 ghost use Rattle.trellis.specs.Check.{decide as decideOf};
 ghost use Rattle.trellis.specs.Field.{product};
 ghost use Rattle.trellis.specs.Rules.{powerOf};
+ghost use Rattle.trellis.specs.Sizes.{mostSize};
 ghost use Rattle.machine.specs.inner.Tables.{term};
 ghost use Rattle.machine.specs.CodeLine.{columnOf};
 ghost use Rattle.machine.specs.Machine.{settled as settledOf, symbols as symbolsOf};
@@ -29,7 +30,7 @@ pub fn decided(costs: &[u16], q: usize, c: usize) -> Decision
 
 // The symbol of each column.
 fn decisions(costs: &[u16], q: usize, symbols: &mut [u8])
-    requires { ⌜ (length (now symbols) * q ≤ length (now costs)) × (q ≤ 64) ⌝ }
+    requires { ⌜ (length (now symbols) * q ≤ length (now costs)) × (q ≤ mostSize) ⌝ }
     ensures { λ _. ⌜ now (symbols .exit)
         ≡ tab (λ c. decideOf (columnOf q (now (costs .entry)) c) .symbol) (length (now (symbols .entry))) ⌝ }
 {

@@ -13,6 +13,14 @@ pub const MOST_SIZE: usize = 64;
 // d times q: the costs of a check, and what is sent to its columns.
 pub const MOST_EXPANSION: usize = MOST_DEGREE * MOST_SIZE;
 
+// k: deviations from the hard decisions.
+pub const MOST_DEVIATIONS: usize = 3;
+
+// Rows of a small table, which serves fields of up to sixteen symbols, and the costs of a check over such a field.
+pub const SMALL_SIZE: usize = 16;
+
+pub const SMALL_EXPANSION: usize = MOST_DEGREE * SMALL_SIZE;
+
 // N.
 pub const MOST_SYMBOLS: usize = 256;
 

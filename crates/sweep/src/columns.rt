@@ -11,6 +11,7 @@ ghost use Rattle.trellis.specs.Field.{product};
 ghost use Rattle.trellis.specs.Check.{firstZero};
 ghost use Rattle.trellis.specs.Rules.{powerOf, sizeOf};
 ghost use Rattle.trellis.specs.Ready.{Ready};
+ghost use Rattle.trellis.specs.Sizes.{mostSize};
 ghost use Rattle.checknode.specs.inner.Asks.{Times};
 ghost use Rattle.sweep.specs.Kept.{cellCount};
 ghost use Rattle.sweep.specs.inner.Cells.{moveCost, Sized, stepFor, stepColumn, orderOf, tableOf};
@@ -29,7 +30,7 @@ pub fn times(p: u8, a: u8, b: u8) -> u8
 // The products of one weight with every symbol.
 fn products(p: u8, h: u8, row: &mut [u8])
     requires { ⌜ Times p h ⌝ }
-    requires { ⌜ (length (now row) ≡ 2 ^ p) × (length (now row) ≤ 64) ⌝ }
+    requires { ⌜ (length (now row) ≡ 2 ^ p) × (length (now row) ≤ mostSize) ⌝ }
     ensures { λ _. ⌜ now (row .exit) ≡ tab (product p h) (2 ^ p) ⌝ }
 {
     let mut x = 0;
@@ -94,7 +95,7 @@ fn turn_in(
     out: &mut [u16],
 )
     requires { ⌜ Ready first (now weights) (now costs) ⌝ }
-    requires { ⌜ (n < length (now weights)) × ((64 ≤ length (now row)) × (64 ≤ length (now moves))) ⌝ }
+    requires { ⌜ (n < length (now weights)) × ((mostSize ≤ length (now row)) × (mostSize ≤ length (now moves))) ⌝ }
     requires { ⌜ (length (now cells) ≡ cellCount first) × (length (now out) ≡ cellCount first) ⌝ }
     ensures { λ _. ⌜ now (out .exit) ≡ stepColumn first (now (weights .entry)) (now (costs .entry)) n (now (cells .entry)) ⌝ }
 {

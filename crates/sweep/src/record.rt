@@ -18,6 +18,11 @@ ghost use Rattle.checknode.specs.inner.Asks.{shiftsOf};
 ghost use Rattle.sweep.specs.Kept.{cellCount, KeptCells};
 ghost use Rattle.sweep.specs.inner.Cells.{termsOf, Swept};
 
+// Costs of one column, for each count of deviations and each partial sum, and of a sweep over all columns.
+const MOST_CELLS: usize = (sizes::MOST_DEVIATIONS + 1) * sizes::MOST_SIZE;
+
+const MOST_SWEEP: usize = sizes::MOST_DEGREE * MOST_CELLS;
+
 // h times z of column n.
 fn term(first: u8, weights: &[u8], costs: &[u8], n: usize) -> u8
     requires { ⌜ Ready first (now weights) (now costs) ⌝ }
@@ -170,15 +175,15 @@ fn record_room(
     );
 }
 
-// The record, with the room that it takes: for each sweep 32 times 4 times 64 costs.
+// The record, with the room that it takes.
 pub fn record_in(first: u8, weights: &[u8], costs: &[u8], out: &mut [u8])
     requires { ⌜ Ready first (now weights) (now costs) ⌝ }
     requires { ⌜ length (now out) ≡ recordLength (ruleFor first) (length (now weights)) ⌝ }
     ensures { λ _. ⌜ now (out .exit) ≡ recordOf (ruleFor first) (columnsOf (sizeOf first) (now (weights .entry)) (now (costs .entry))) ⌝ }
 {
-    let mut cells = [0u16; 256];
-    let mut before = [0u16; 8192];
-    let mut after = [0u16; 8192];
+    let mut cells = [0u16; MOST_CELLS];
+    let mut before = [0u16; MOST_SWEEP];
+    let mut after = [0u16; MOST_SWEEP];
     let mut sent = [0u8; sizes::MOST_EXPANSION];
     record_room(
         first,

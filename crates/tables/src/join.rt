@@ -8,13 +8,14 @@ ghost use Prim.Native.Nat.{_+_, _*_, _/_, _%_, _≤_, _<_, min};
 ghost use lib.ListN.{length};
 ghost use Rattle.trellis.specs.Field.{xor};
 ghost use Rattle.trellis.specs.Lists.{tab};
+ghost use Rattle.trellis.specs.Sizes.{mostSize};
 ghost use Rattle.tables.specs.inner.Lanes.{Wide, fourAt, fourOf, joinTo};
 ghost use Rattle.tables.specs.inner.Tables.{Shaped};
 
 // Where the copy of the block from v on starts.
 fn place(at: usize, turn: usize, l: usize, v: usize) -> usize
     requires { ⌜ Wide l turn ⌝ }
-    requires { ⌜ ((v % 16 ≡ 0) × (v < l)) × ((l ≤ 64) × (at ≤ 65536)) ⌝ }
+    requires { ⌜ ((v % 16 ≡ 0) × (v < l)) × ((l ≤ mostSize) × (at ≤ 65536)) ⌝ }
     ensures { λ r. ⌜ (r ≡ at + xor v turn) × ((r + 3 * l + 16 ≤ at + 4 * l) × (v + 16 ≤ l)) ⌝ }
 {
     at + (v ^ turn)
@@ -23,7 +24,7 @@ fn place(at: usize, turn: usize, l: usize, v: usize) -> usize
 // e: the best of e and four rows, block by block. The copies for the first of them start at `at`.
 fn four(f: Four, s: &[u8], at: usize, turn: usize, l: usize, e: &mut [u8])
     requires { ⌜ Wide l turn ⌝ }
-    requires { ⌜ (length (now e) ≡ l) × ((l ≤ 64) × ((at ≤ 65536) × (at + 4 * l ≤ length (now s)))) ⌝ }
+    requires { ⌜ (length (now e) ≡ l) × ((l ≤ mostSize) × ((at ≤ 65536) × (at + 4 * l ≤ length (now s)))) ⌝ }
     ensures { λ _. ⌜ now (e .exit) ≡ tab (fourAt f (now (s .entry)) at turn l (now (e .entry))) l ⌝ }
 {
     let n = s.len();
@@ -38,7 +39,7 @@ fn four(f: Four, s: &[u8], at: usize, turn: usize, l: usize, e: &mut [u8])
 
 // Where the copies for the rows from b on start.
 fn copy_at(q: usize, l: usize, b: usize) -> usize
-    requires { ⌜ ((b < q) × (b % 4 ≡ 0)) × ((q % 4 ≡ 0) × (l ≤ 64)) ⌝ }
+    requires { ⌜ ((b < q) × (b % 4 ≡ 0)) × ((q % 4 ≡ 0) × (l ≤ mostSize)) ⌝ }
     ensures { λ r. ⌜ (r ≡ b % 16 * l) × ((r + 4 * l ≤ min 16 q * l) × (r ≤ 65536)) ⌝ }
 {
     b % 16 * l

@@ -4,11 +4,12 @@ use crate::rests::Four;
 ghost use mathlib.Core.Path.{_≡_};
 ghost use Prim.Native.Nat.{_+_, _*_, _≤_};
 ghost use lib.ListN.{length};
+ghost use Rattle.trellis.specs.Sizes.{mostSize};
 ghost use Rattle.tables.specs.inner.Lanes.{laneAt, lanes};
 
 // t: the best of e and four rows. What the rows are taken from stands in s, l apart.
 fn lane(f: Four, s: &[u8], l: usize, e: &[u8], t: &mut [u8])
-    requires { ⌜ ((length (now e) ≡ 16) × (length (now t) ≡ 16)) × ((l ≤ 64) × (3 * l + 16 ≤ length (now s))) ⌝ }
+    requires { ⌜ ((length (now e) ≡ 16) × (length (now t) ≡ 16)) × ((l ≤ mostSize) × (3 * l + 16 ≤ length (now s))) ⌝ }
     ensures { λ _. ⌜ now (t .exit) ≡ lanes (laneAt f (now (s .entry)) l (now (e .entry))) ⌝ }
 {
     let mut i = 0;
@@ -34,7 +35,7 @@ pub fn copy(t: &[u8], e: &mut [u8])
 // e: the best of e and four rows. The rows pass through a local array: s and e might overlap for all that the compiler knows, so it would
 // not read sixteen before it has written one.
 pub fn step(f: Four, s: &[u8], l: usize, e: &mut [u8])
-    requires { ⌜ (length (now e) ≡ 16) × ((l ≤ 64) × (3 * l + 16 ≤ length (now s))) ⌝ }
+    requires { ⌜ (length (now e) ≡ 16) × ((l ≤ mostSize) × (3 * l + 16 ≤ length (now s))) ⌝ }
     ensures { λ _. ⌜ now (e .exit) ≡ lanes (laneAt f (now (s .entry)) l (now (e .entry))) ⌝ }
 {
     let mut t = [0u8; 16];

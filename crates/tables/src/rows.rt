@@ -5,12 +5,18 @@ use crate::grow;
 use crate::join;
 use crate::rests;
 use crate::rests::Shape;
+use scalar::sizes;
 ghost use mathlib.Core.Path.{_≡_};
 ghost use Prim.Native.Nat.{_+_, _-_, _*_, _≤_, _<_};
 ghost use lib.ListN.{length};
 ghost use Rattle.trellis.specs.Lists.{blocks, part, patch};
 ghost use Rattle.trellis.specs.Sizes.{mostDegree};
 ghost use Rattle.tables.specs.inner.Tables.{Shaped, on, risenIn, metIn, grownList, afterTo, beforeTo, lastTable, sentTo, sentRows};
+
+// Tables over the columns after each column, and copies of a table that a join takes.
+const AFTER: usize = (sizes::MOST_DEGREE - 1) * sizes::MOST_DEVIATIONS;
+
+const COPIES: usize = 16;
 
 // Both last tables: all deviations before the column, or all after it.
 fn apart(shape: Shape, before: &[u8], after: &[u8], out: &mut [u8])
@@ -218,9 +224,9 @@ fn small(shape: Shape, d: usize, lines: &[u8], out: &mut [u8])
     requires { ⌜ shape .l ≡ 16 ⌝ }
     ensures { λ _. ⌜ now (out .exit) ≡ on shape sentRows (now (lines .entry)) d ⌝ }
 {
-    let mut after = [0u8; 1488];
-    let mut table = [0u8; 48];
-    let mut c = [0u8; 256];
+    let mut after = [0u8; AFTER * sizes::SMALL_SIZE];
+    let mut table = [0u8; sizes::MOST_DEVIATIONS * sizes::SMALL_SIZE];
+    let mut c = [0u8; COPIES * sizes::SMALL_SIZE];
     with_room(shape, d, lines, &mut after, &mut table, &mut c, out);
 }
 
@@ -230,9 +236,9 @@ fn large(shape: Shape, d: usize, lines: &[u8], out: &mut [u8])
     requires { ⌜ ((2 ≤ d) × (d ≤ mostDegree)) × ((length (now lines) ≡ d * shape .l) × (length (now out) ≡ d * shape .l)) ⌝ }
     ensures { λ _. ⌜ now (out .exit) ≡ on shape sentRows (now (lines .entry)) d ⌝ }
 {
-    let mut after = [0u8; 5952];
-    let mut table = [0u8; 192];
-    let mut c = [0u8; 1024];
+    let mut after = [0u8; AFTER * sizes::MOST_SIZE];
+    let mut table = [0u8; sizes::MOST_DEVIATIONS * sizes::MOST_SIZE];
+    let mut c = [0u8; COPIES * sizes::MOST_SIZE];
     with_room(shape, d, lines, &mut after, &mut table, &mut c, out);
 }
 

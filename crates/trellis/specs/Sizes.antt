@@ -11,6 +11,10 @@ mostEdges = 1024
 abbrev pub mostDegree : ℕ
 mostDegree = 32
 
+-- symbols of the largest field
+abbrev pub mostSize : ℕ
+mostSize = 64
+
 -- columns of a code, and so symbols of a word
 abbrev pub mostSymbols : ℕ
 mostSymbols = 256
@@ -25,6 +29,10 @@ mostCosts = 16384
 
 abbrev pub mostStore : ℕ
 mostStore = 57472
+
+-- channels of one call
+abbrev pub mostChannels : ℕ
+mostChannels = 8
 
 -- digits of a line, the bytes that they make, and room enough to refuse the line
 abbrev pub mostLine : ℕ

@@ -6,7 +6,7 @@ use lib.Dec.{eqb}
 use lib.ListN.{length}
 use Rattle.trellis.specs.Refusals.{faultBy}
 use Rattle.trellis.specs.Rules.{sizeOf}
-use Rattle.trellis.specs.Sizes.{mostSymbols, mostExpansion, mostCosts}
+use Rattle.trellis.specs.Sizes.{mostSymbols, mostExpansion, mostCosts, mostChannels}
 use Rattle.machine.specs.CodeLine.{Code}
 use Rattle.machine.specs.Machine.{used}
 use Rattle.machine.specs.Decoding.{Buffers}
@@ -36,7 +36,7 @@ faultFor n z f y c s v = faultBy (wholeTests n (z .columns) (z .costs) (z .store
 
 -- lengths whose multiples fit
 pub record FaultRoom (n : ℕ) (z : Layout) : Type 0 where
-  pub few : n ≤ 8
+  pub few : n ≤ mostChannels
   pub columns : z .columns ≤ mostSymbols
   pub costs : z .costs ≤ mostCosts
   pub store : z .store ≤ 65535
@@ -107,4 +107,4 @@ pub record OneRoom (c : ℕ) (z : Layout) (ds cs ws : List ℕ) (l : Standing) (
 pub record UnderRoom (n : ℕ) (z : Layout) (ds cs ws : List ℕ) : Type 0 where
   pub fitted : Fitted z ds cs ws
   pub low : 1 ≤ n
-  pub high : n ≤ 8
+  pub high : n ≤ mostChannels

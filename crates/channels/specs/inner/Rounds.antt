@@ -8,6 +8,7 @@ use lib.Dec.{eqb}
 use lib.ListN.{length, getD, set, drop}
 use Rattle.trellis.specs.Lists.{upTo, pick, upto, patch}
 use Rattle.trellis.specs.Reply.{Reply}
+use Rattle.trellis.specs.Sizes.{mostChannels}
 use Rattle.machine.specs.CodeLine.{Code, size, frameFault}
 use Rattle.machine.specs.Machine.{settled, used}
 use Rattle.machine.specs.Lent.{Lent}
@@ -128,7 +129,7 @@ pub record Serves (C : Code) (G : GoodCode C) (n : ℕ) (l : Standing) : Type 0 
 pub record Asked (C : Code) (n : ℕ) (fs : List ℕ) (b : Buffers) : Type 0 where
   pub good : GoodCode C
   pub count-low : 1 ≤ n
-  pub count-high : n ≤ 8
+  pub count-high : n ≤ mostChannels
   pub long : length fs ≡ n * (C .columns * size C)
   pub room : RoomFor C n b
   pub bytes : (i : ℕ) → getD fs i 0 ≤ 255

@@ -7,7 +7,7 @@ use Rattle.trellis.specs.Lists.{tab, part}
 use Rattle.trellis.specs.Field.{xor, product}
 use Rattle.trellis.specs.Check.{firstZero, sentAt}
 use Rattle.trellis.specs.Rules.{powerOf, sizeOf, ruleFor, columnsOf, costsAt}
-use Rattle.trellis.specs.Sizes.{mostDegree}
+use Rattle.trellis.specs.Sizes.{mostDegree, mostSize}
 use Rattle.engine.specs.inner.Lines.{placed}
 
 -- each symbol's row is below 2 ^ p, and the line has these rows
@@ -42,7 +42,7 @@ restsOf p ws cs l n = restsFrom p (getD ws n 0) (costsAt (2 ^ p) cs n) l
 -- room for the lines of d columns, cleared, and for their terms
 pub record LinesRoom (p l d : ℕ) (lines out : List ℕ) : Type 0 where
   pub wide : 2 ^ p ≤ l
-  pub narrow : l ≤ 64
+  pub narrow : l ≤ mostSize
   pub of-lines : length lines ≡ d * l
   pub cleared : lines ≡ tab (λ a. 0) (length lines)
   pub of-out : length out ≡ d
@@ -62,8 +62,8 @@ sentColumn q l rows shifts rests n = tab (sentIn (part rows (n * q) q) (getD shi
 
 pub record SendsRoom (q l : ℕ) (rows shifts rests out : List ℕ) : Type 0 where
   pub few : length shifts ≤ mostDegree
-  pub narrow : q ≤ 64
-  pub short : l ≤ 64
+  pub narrow : q ≤ mostSize
+  pub short : l ≤ mostSize
   pub of-rows : length rows ≡ length shifts * q
   pub of-rests : length rests ≡ length shifts * l
   pub of-out : length out ≡ length shifts * q

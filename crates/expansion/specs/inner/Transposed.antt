@@ -8,7 +8,7 @@ use lib.Dec.{eqb}
 use lib.ListN.{length, getD}
 use Rattle.trellis.specs.Lists.{tab, blocks, part}
 use Rattle.trellis.specs.Field.{xor}
-use Rattle.trellis.specs.Sizes.{mostDegree}
+use Rattle.trellis.specs.Sizes.{mostDegree, mostSize}
 
 -- list i in row 0, which has no group: E 0, columns FF, S 0
 unfoldable pub zeroRow : ℕ → ℕ
@@ -56,16 +56,16 @@ turned k t q r out n = tab (bySymbol (tab (valueIn k t q n) q) (part out (n * q)
 pub record UnpackRoom (k d q : ℕ) (r out : List ℕ) : Type 0 where
   pub pairs : k ≤ 3
   pub some : 1 ≤ q
-  pub most : q ≤ 64
+  pub most : q ≤ mostSize
   pub few : d ≤ mostDegree
   pub long : length r ≡ d + (1 + 2 * k) * (q - 1)
   pub room : length out ≡ (1 + 2 * k) * q
 
--- lists of q rows for k pairs, with room to read 64 rows of each
+-- lists of q rows for k pairs, with room to read as many rows of each as the largest field has
 pub record ListsRoom (k q : ℕ) (t : List ℕ) : Type 0 where
   pub pairs : k ≤ 3
-  pub most : q ≤ 64
-  pub long : 2 * k * q + 64 ≤ length t
+  pub most : q ≤ mostSize
+  pub long : 2 * k * q + mostSize ≤ length t
 
 -- a column's products and its shift are below their number, a power of two
 pub record ShiftRoom (row : List ℕ) (s : ℕ) : Type 0 where
@@ -77,7 +77,7 @@ pub record ShiftRoom (row : List ℕ) (s : ℕ) : Type 0 where
 -- the products of d columns, q each, beside their shifts
 pub record TurnRoom (d q : ℕ) (r out : List ℕ) : Type 0 where
   pub few : d ≤ mostDegree
-  pub most : q ≤ 64
+  pub most : q ≤ mostSize
   pub shifts : d ≤ length r
   pub room : length out ≡ d * q
   pub shifted : (n : ℕ) → n < d → ShiftRoom (part out (n * q) q) (getD r n 0)

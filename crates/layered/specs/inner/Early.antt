@@ -9,7 +9,7 @@ use lib.ListN.{length, getD, set}
 use Rattle.trellis.specs.Lists.{upto}
 use Rattle.trellis.specs.Check.{decide}
 use Rattle.trellis.specs.Rules.{sizeOf}
-use Rattle.trellis.specs.Sizes.{mostExpansion}
+use Rattle.trellis.specs.Sizes.{mostExpansion, mostSize}
 use Rattle.machine.specs.CodeLine.{Code, columnOf}
 use Rattle.machine.specs.Machine.{symbols, settled}
 use Rattle.machine.specs.Lent.{Lent, lent}
@@ -28,7 +28,7 @@ unfoldable pub decidedAgain : ℕ → List ℕ → List ℕ → ℕ → List ℕ
 decidedAgain q P cs k z = upto (λ j (z : List ℕ). set z (getD cs j 0) (decide (columnOf q P (getD cs j 0)) .symbol)) k z
 
 pub record AgainRoom (q : ℕ) (P cs z : List ℕ) : Type 0 where
-  pub small : q ≤ 64
+  pub small : q ≤ mostSize
   pub in-costs : (k : ℕ) → k < length cs → getD cs k 0 * q + q ≤ length P
   pub in-symbols : (k : ℕ) → k < length cs → getD cs k 0 < length z
 

@@ -11,6 +11,7 @@ use Rattle.trellis.specs.Field.{xor, product}
 use Rattle.trellis.specs.Check.{Rule, Column, firstZero}
 use Rattle.trellis.specs.Rules.{joinOf, ruleFor, powerOf, sizeOf, mostOf, greatestOf, columnsOf, costsAt}
 use Rattle.trellis.specs.Sweep.{mark, swept, leastTo}
+use Rattle.trellis.specs.Sizes.{mostSize}
 use Rattle.engine.specs.inner.Terms.{termOf}
 
 -- all cells of a function of count and sum
@@ -63,7 +64,7 @@ pub record Sized (q : ℕ) (costs row moves : List ℕ) : Type 0 where
   pub of-row : length row ≡ q
   pub of-moves : length moves ≡ q
   pub zero-in : firstZero costs < q
-  pub limit : q ≤ 64
+  pub limit : q ≤ mostSize
 
 -- one column more: weight h, and its costs
 unfoldable pub stepBy : ℕ → Bool → ℕ → ℕ → List ℕ → List ℕ → List ℕ

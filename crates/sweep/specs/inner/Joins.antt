@@ -8,7 +8,7 @@ use Rattle.trellis.specs.Lists.{tab, blocks, part}
 use Rattle.trellis.specs.Field.{xor}
 use Rattle.trellis.specs.Rules.{joinOf}
 use Rattle.trellis.specs.Sweep.{leastTo}
-use Rattle.trellis.specs.Sizes.{mostDegree}
+use Rattle.trellis.specs.Sizes.{mostDegree, mostSize}
 use Rattle.sweep.specs.inner.Cells.{Sums}
 
 -- two sweeps joined at one count each
@@ -47,7 +47,7 @@ columnsSent g q k before after shifts = blocks (columnSent g q k before after sh
 -- both tables have a part for each column, and what they send is bytes
 pub record JoinRoom (g : Bool) (q k : ℕ) (before after shifts out : List ℕ) : Type 0 where
   pub sums : Sums q
-  pub limit : q ≤ 64
+  pub limit : q ≤ mostSize
   pub counts : k ≤ 3
   pub few : length shifts ≤ mostDegree
   pub of-before : length before ≡ length shifts * ((k + 1) * q)

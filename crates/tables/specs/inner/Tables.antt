@@ -7,6 +7,7 @@ use Prim.Native.Nat.{ℕ, zero, suc, _-_, _*_, _%_, _^_, _≤_, max}
 use lib.Dec.{eqb}
 use lib.ListN.{getD}
 use Rattle.trellis.specs.Lists.{pick, tab, blocks, part, patch}
+use Rattle.trellis.specs.Sizes.{mostSize}
 use Rattle.engine.specs.inner.Rests.{meetOf, joinedAt}
 use Rattle.tables.specs.declared.rests.Shape.{Shape}
 
@@ -17,7 +18,7 @@ pub record Table (l : ℕ) : Type 0 where
   pub least : 4 ≤ bits
   pub most : bits ≤ 6
   pub even : l % 16 ≡ 0
-  pub limit : l ≤ 64
+  pub limit : l ≤ mostSize
 
 -- and q of them are asked for, a multiple of four; k is 2 or 3
 pub record Shaped (q l k : ℕ) : Type 0 where
