@@ -15,10 +15,10 @@ use Rattle.trellis.proofs.Xor.{xor-assoc, xor-lt, xor-right}
 use Rattle.trellis.proofs.Loops.{length-tab, getD-tab, tab-ext}
 use Rattle.engine.specs.inner.Rests.{meetOf, joinedAt}
 use Rattle.engine.proofs.RestGroups.{most-ext}
-use Rattle.tables.specs.inner.Lanes.{Flips, Doubled, Copied, cut, taken, rowAt, joinTo}
+use Rattle.tables.specs.inner.Lanes.{Flips, flippedTo, Doubled, Copied, cut, taken, rowAt, joinTo}
 use Rattle.tables.specs.inner.Tables.{Table, risenAt}
 use Rattle.tables.proofs.Blocks.{align}
-use Rattle.tables.proofs.Flipping.{flips-small, flips1, flips2, flip-lane}
+use Rattle.tables.proofs.Flipping.{flips-small, flips1, flips2, flip-lane, double-none, double-turn, double-length, next-block}
 
 pub mul-even : (j l : ℕ) → Table l → j * l % 16 ≡ 0
 mul-even j l W = go (W .bits) (W .power) (W .least) (W .most)
@@ -174,6 +174,39 @@ twice-room f l F W =
     let k : f + f ≤ 16 = ⊎-elim (λ (e : f ≡ 1). omega arith) (λ r. ⊎-elim (λ (e : f ≡ 2). omega arith) (λ s. ⊎-elim (λ (e : f ≡ 4). omega arith) (λ (e : f ≡ 8). omega arith) s) r) (F .one) in
     let m = mul-le-mul-right l k in
     (mul-even f l W, (omega (arith, m, mul-plus f f l), omega (arith, W .limit)))
+
+-- the loop over the blocks of a doubling: i rows are done
+abbrev pub Doubling : ℕ → ℕ → List ℕ → List ℕ → ℕ → Type 0
+Doubling f n s₀ s i = ((i ≤ n) × (i % 16 ≡ 0)) × ((length s ≡ length s₀) × (s ≡ take n s₀ ++ (tab (λ (j : ℕ). getD s₀ (xor j f) 0) i ++ drop (n + i) s₀)))
+
+module _ (f l : ℕ) (s₀ : List ℕ) (F : Flips f) (T : Table l) (long : length s₀ ≡ 16 * l) where
+  abbrev rows : ℕ
+  rows = f * l
+
+  pub doubling-start : Doubling f rows s₀ s₀ 0
+  doubling-start = ((omega arith, omega arith), (refl, double-none rows s₀))
+
+  module _ (s : List ℕ) (i : ℕ) (D : Doubling f rows s₀ s i) where
+    pub doubling-room : i < rows → (i + 16 ≤ rows + i) × ((rows + i + 16 ≤ length s) × (length s ≤ 65536))
+    doubling-room h =
+        let r = twice-room f l F T in
+        let m = next-block i rows (D .0 .1) (r .0) h in
+        (omega (arith, m), (omega (arith, m, D, r, long), omega (arith, D, r, long)))
+
+    -- k is the bit that the code has as a constant
+    pub doubling-turn : (k : ℕ) → f ≡ k → i < rows → (r : List ℕ) → r ≡ flippedTo k s i (rows + i) → Doubling f rows s₀ r (i + 16)
+    doubling-turn k e h r o =
+        let R = twice-room f l F T in
+        let m = next-block i rows (D .0 .1) (R .0) h in
+        let t = double-turn f rows s₀ s i F (D .0 .1) h (R .0) (omega (arith, R, long)) (D .1 .1) (o ∙ ap (λ y. flippedTo y s i (rows + i)) (sym e)) in
+        ((omega (arith, m), omega (arith, D .0 .1)), (double-length f rows s₀ (i + 16) (omega (arith, m)) (omega (arith, R, long)) t, t))
+
+    pub doubling-done : rows ≤ i → Doubled f l s₀ s
+    doubling-done h =
+        let R = twice-room f l F T in
+        let k : i ≡ rows = omega (arith, D .0 .0, h) in
+        doubled f l rows s₀ s F T refl (omega (arith, R, long))
+        (D .1 .1 ∙ ap (λ y. take rows s₀ ++ (tab (λ (j : ℕ). getD s₀ (xor j f) 0) y ++ drop (rows + y) s₀)) k)
 
 pub copied-less : (m n l : ℕ) (w s : List ℕ) → m ≤ n → Copied n l w s → Copied m l w s
 copied-less m n l w s h C = record { at = λ j x k i. C .at j x (omega arith) i }

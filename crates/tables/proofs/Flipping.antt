@@ -4,17 +4,17 @@ use mathlib.Core.Logic.{_≢_, inl, inr, ⊎-elim}
 use mathlib.Core.List.{List, [], _∷_, _++_, append-assoc}
 use Prim.Native.Nat.{ℕ, zero, suc, _+_, _-_, _%_, _≤_, _<_}
 use native.Mathlib.Omega.{arith}
-use lib.ListN.{length, drop, take, getD, set, length-set, length-append, length-take, length-drop, List·getD-append}
-use lib.Seq.{getD-take, getD-drop, take-at, drop-at, drop-drop}
+use lib.ListN.{length, drop, take, getD, set, length-set, length-append, length-take, length-drop, take-append-drop, List·getD-append}
+use lib.Seq.{getD-take, getD-drop, take-at, drop-at, drop-drop, length-take-le}
 use lib.Bits as Bits
 use lib.Bits.{bitXor}
 use Rattle.trellis.specs.Lists.{tab}
 use Rattle.trellis.specs.Field.{xor}
 use Rattle.trellis.proofs.Xor.{xor-assoc, xor-lt}
 use Rattle.trellis.proofs.Loops.{length-tab, tab-ext}
-use Rattle.tables.specs.inner.Lanes.{lanes, Flips}
+use Rattle.tables.specs.inner.Lanes.{lanes, Flips, flippedTo}
 use Rattle.tables.proofs.Blocks.{align, tab-append}
-use Rattle.tables.proofs.Turns.{tab-turn, lanes-end}
+use Rattle.tables.proofs.Turns.{tab-turn}
 
 pub flips-small : (f : ℕ) → Flips f → f < 16
 flips-small f F = ⊎-elim (λ (e : f ≡ 1). omega arith) (λ r. ⊎-elim (λ (e : f ≡ 2). omega arith) (λ s. ⊎-elim (λ (e : f ≡ 4). omega arith) (λ (e : f ≡ 8). omega arith) s) r) (F .one)
@@ -43,7 +43,7 @@ xor-small i f h k = bit-small i f h k
 -- one block more behind the first n places
 pub double-turn : (f n : ℕ) (d s : List ℕ) (i : ℕ) {r : List ℕ} → Flips f → i % 16 ≡ 0 → i < n → n % 16 ≡ 0 → n + n ≤ length d
     → s ≡ take n d ++ (tab (λ j. getD d (xor j f) 0) i ++ drop (n + i) d)
-    → r ≡ take (n + i) s ++ (lanes (λ j. getD s (i + xor j f) 0) ++ drop (n + i + 16) s)
+    → r ≡ flippedTo f s i (n + i)
     → r ≡ take n d ++ (tab (λ j. getD d (xor j f) 0) (i + 16) ++ drop (n + (i + 16)) d)
 unfolding lanes
 double-turn f n d s i {r} F e h m k o u =
@@ -63,29 +63,43 @@ double-turn f n d s i {r} F e h m k o u =
     u ∙ ap₂ {C = List ℕ} (λ x y. x ++ y) t (ap₂ {C = List ℕ} (λ x y. x ++ y) v w) ∙ append-assoc (take n d) _ _
     ∙ ap {B = List ℕ} (λ x. take n d ++ x) (sym (append-assoc (tab (λ j. getD d (xor j f) 0) i) _ _) ∙ ap {B = List ℕ} (λ x. x ++ drop (n + (i + 16)) d) (sym (tab-append (λ j. getD d (xor j f) 0) i 16)))
 
--- what the loop over a block keeps: i rows of o are done
-abbrev pub Flipped : ℕ → List ℕ → List ℕ → List ℕ → ℕ → Type 0
-Flipped f t o₀ o i = (i ≤ 16) × ((length o ≡ length o₀) × (o ≡ tab (λ (j : ℕ). getD t (xor j f) 0) i ++ drop i o₀))
+set-behind : (p x : List ℕ) (i v : ℕ) → set (p ++ x) (length p + i) v ≡ p ++ set x i v
+set-behind [] x i v = ap (λ k. set x k v) (let q : 0 + i ≡ i = omega arith in q)
+set-behind (y ∷ p) x i v =
+    let q : suc (length p) + i ≡ suc (length p + i) = omega arith in
+    ap (λ k. set (y ∷ (p ++ x)) k v) q ∙ ap {B = List ℕ} (λ l. y ∷ l) (set-behind p x i v)
 
-pub flip-turn : (f : ℕ) (t o₀ o : List ℕ) (i : ℕ) → length o₀ ≡ 16 → i < 16 → Flipped f t o₀ o i → Flipped f t o₀ (set o i (getD t (bitXor i f) 0)) (i + 1)
-flip-turn f t o₀ o i e h F =
-    (omega arith, (simp length-set (F .1 .0), tab-turn (λ (j : ℕ). getD t (xor j f) 0) o o₀ i (omega arith) (F .1 .1) (flip-value t i f)))
+-- row j of the block t, flipped
+abbrev rowIn : ℕ → List ℕ → ℕ → ℕ
+rowIn f t j = getD t (xor j f) 0
 
-pub flip-done : (f k : ℕ) (t o₀ o : List ℕ) (i : ℕ) → f ≡ k → length o₀ ≡ 16 → 16 ≤ i → Flipped k t o₀ o i → o ≡ lanes (λ j. getD t (xor j f) 0)
-flip-done f k t o₀ o i e l h F = rw e (lanes-end (λ (j : ℕ). getD t (xor j k) 0) o o₀ i (F .1 .1) (omega arith) l)
+-- the loop over the rows of a block: t has the block, i rows of it stand flipped at `to`
+abbrev pub Flipped : ℕ → ℕ → List ℕ → List ℕ → List ℕ → ℕ → Type 0
+Flipped f to s₀ t s i = (i ≤ 16) × ((length s ≡ length s₀) × (s ≡ take to s₀ ++ (tab (rowIn f t) i ++ drop i (drop to s₀))))
 
-lanes-ext : (f h : ℕ → ℕ) → ((i : ℕ) → i < 16 → f i ≡ h i) → lanes f ≡ lanes h
-unfolding lanes
-lanes-ext f h e = tab-ext f h 16 e
+module _ (f from to : ℕ) (s₀ t : List ℕ) (room : to + 16 ≤ length s₀) where
+  pub flip-start : Flipped f to s₀ t s₀ 0
+  flip-start = (omega arith, (refl, sym (take-append-drop to s₀)))
 
-pub flip-patched : (f from to a b : ℕ) (s : List ℕ) {t r : List ℕ} → Flips f → a ≡ from + 16 → b ≡ to + 16 → t ≡ take (a - from) (drop from s) → r ≡ lanes (λ i. getD t (xor i f) 0)
-    → take to s ++ (r ++ drop (b - to) (drop to s)) ≡ take to s ++ (lanes (λ i. getD s (from + xor i f) 0) ++ drop (to + 16) s)
-flip-patched f from to a b s {t} {r} F ea eb et er =
-    let x : a - from ≡ 16 = omega arith in
-    let y : b - to ≡ 16 = omega arith in
-    let at : (i : ℕ) → i < 16 → getD t (xor i f) 0 ≡ getD s (from + xor i f) 0 =
-    λ i h. ap (λ l. getD l (xor i f) 0) (et ∙ ap (λ n. take n (drop from s)) x) ∙ getD-take 16 (drop from s) (xor i f) 0 (xor-small i f h (flips-small f F)) ∙ getD-drop from s (xor i f) 0 in
-    ap₂ {C = List ℕ} (λ u v. take to s ++ (u ++ v)) (er ∙ lanes-ext _ _ at) (ap (λ n. drop n (drop to s)) y ∙ drop-drop 16 to s)
+  pub flip-turn : (s : List ℕ) (i : ℕ) → i < 16 → Flipped f to s₀ t s i → Flipped f to s₀ t (set s (to + i) (getD t (bitXor i f) 0)) (i + 1)
+  flip-turn s i h F =
+      let v : ℕ = getD t (bitXor i f) 0 in
+      let d : List ℕ = drop to s₀ in
+      let p : length (take to s₀) ≡ to = length-take-le to s₀ (omega arith) in
+      let e : set s (to + i) v ≡ take to s₀ ++ set (tab (rowIn f t) i ++ drop i d) i v =
+      ap₂ (λ l k. set l (k + i) v) (F .1 .1) (sym p) ∙ set-behind (take to s₀) (tab (rowIn f t) i ++ drop i d) i v in
+      let k : i < length d = omega (arith, length-drop to s₀) in
+      (omega arith, (simp length-set (F .1 .0), e ∙ ap {B = List ℕ} (λ x. take to s₀ ++ x) (tab-turn (rowIn f t) _ d i k refl (flip-value t i f))))
+
+  pub flip-done : (s : List ℕ) (i : ℕ) → Flips f → t ≡ take (from + 16 - from) (drop from s₀) → 16 ≤ i → Flipped f to s₀ t s i → s ≡ flippedTo f s₀ from to
+  unfolding lanes
+  flip-done s i G et h F =
+      let e : i ≡ 16 = omega arith in
+      let w : from + 16 - from ≡ 16 = omega arith in
+      let at : (j : ℕ) → j < 16 → rowIn f t j ≡ getD s₀ (from + xor j f) 0 =
+      λ j m. ap (λ l. getD l (xor j f) 0) (et ∙ ap (λ n. take n (drop from s₀)) w) ∙ getD-take 16 (drop from s₀) (xor j f) 0 (xor-small j f m (flips-small f G)) ∙ getD-drop from s₀ (xor j f) 0 in
+      F .1 .1 ∙ ap (λ k. take to s₀ ++ (tab (rowIn f t) k ++ drop k (drop to s₀))) e
+      ∙ ap₂ {C = List ℕ} (λ u v. take to s₀ ++ (u ++ v)) (tab-ext _ _ 16 at) (drop-drop 16 to s₀)
 
 pub double-none : (n : ℕ) (s : List ℕ) → s ≡ take n s ++ ([] ++ drop (n + 0) s)
 double-none n s = sym (ap (λ y. take n s ++ drop y s) (let q : n + 0 ≡ n = omega arith in q) ∙ joined n s)

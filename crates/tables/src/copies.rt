@@ -3,61 +3,67 @@ use crate::block;
 use crate::lane;
 use crate::rests::Shape;
 ghost use mathlib.Core.Path.{_≡_};
-ghost use mathlib.Core.List.{_++_};
 ghost use Prim.Native.Nat.{_+_, _*_, _≤_, min};
-ghost use lib.ListN.{length, getD, take, drop};
-ghost use Rattle.trellis.specs.Field.{xor};
-ghost use Rattle.tables.specs.inner.Lanes.{lanes, Flips, Doubled, Copied};
+ghost use lib.ListN.{length};
+ghost use Rattle.tables.specs.inner.Lanes.{Flips, flippedTo, Doubled, Copied};
 ghost use Rattle.tables.specs.inner.Tables.{Table, Shaped};
 
-// A block with a bit of its rows flipped: a loop for each of the four bits, for the compiler makes a shuffle of a loop only where the bit
-// is a constant.
-fn flip(bit: usize, t: &[u8], o: &mut [u8])
-    requires { ⌜ Flips bit ⌝ }
-    requires { ⌜ (length (now t) ≡ 16) × (length (now o) ≡ 16) ⌝ }
-    ensures { λ _. ⌜ now (o .exit) ≡ lanes (λ i. getD (now (t .entry)) (xor i bit) 0) ⌝ }
+// A block of s with a bit of its rows flipped, into another block: a function for each of the four bits, for the compiler makes a shuffle
+// of the loop only where the bit is a constant. The rows pass through a local array, so that none is written before all are read.
+fn flip1(s: &mut [u8], from: usize, to: usize)
+    requires { ⌜ (from + 16 ≤ to) × ((to + 16 ≤ length (now s)) × (length (now s) ≤ 65536)) ⌝ }
+    ensures { λ _. ⌜ now (s .exit) ≡ flippedTo 1 (now (s .entry)) from to ⌝ }
 {
+    let mut t = [0u8; 16];
+    let a = from + 16;
+    lane::copy(&s[from..a], &mut t);
     let mut i = 0;
-    if bit == 1 {
-        while i < 16 {
-            o[i] = t[i ^ 1];
-            i += 1;
-        }
-        return;
-    }
-    if bit == 2 {
-        while i < 16 {
-            o[i] = t[i ^ 2];
-            i += 1;
-        }
-        return;
-    }
-    if bit == 4 {
-        while i < 16 {
-            o[i] = t[i ^ 4];
-            i += 1;
-        }
-        return;
-    }
     while i < 16 {
-        o[i] = t[i ^ 8];
+        s[to + i] = t[i ^ 1];
         i += 1;
     }
 }
 
-// A block of s flipped, into another block.
-fn flip_at(bit: usize, s: &mut [u8], from: usize, to: usize)
-    requires { ⌜ Flips bit ⌝ }
+fn flip2(s: &mut [u8], from: usize, to: usize)
     requires { ⌜ (from + 16 ≤ to) × ((to + 16 ≤ length (now s)) × (length (now s) ≤ 65536)) ⌝ }
-    ensures { λ _. ⌜
-        now (s .exit)
-        ≡ take to (now (s .entry)) ++ (lanes (λ i. getD (now (s .entry)) (from + xor i bit) 0) ++ drop (to + 16) (now (s .entry))) ⌝ }
+    ensures { λ _. ⌜ now (s .exit) ≡ flippedTo 2 (now (s .entry)) from to ⌝ }
 {
     let mut t = [0u8; 16];
     let a = from + 16;
-    let b = to + 16;
     lane::copy(&s[from..a], &mut t);
-    flip(bit, &t, &mut s[to..b]);
+    let mut i = 0;
+    while i < 16 {
+        s[to + i] = t[i ^ 2];
+        i += 1;
+    }
+}
+
+fn flip4(s: &mut [u8], from: usize, to: usize)
+    requires { ⌜ (from + 16 ≤ to) × ((to + 16 ≤ length (now s)) × (length (now s) ≤ 65536)) ⌝ }
+    ensures { λ _. ⌜ now (s .exit) ≡ flippedTo 4 (now (s .entry)) from to ⌝ }
+{
+    let mut t = [0u8; 16];
+    let a = from + 16;
+    lane::copy(&s[from..a], &mut t);
+    let mut i = 0;
+    while i < 16 {
+        s[to + i] = t[i ^ 4];
+        i += 1;
+    }
+}
+
+fn flip8(s: &mut [u8], from: usize, to: usize)
+    requires { ⌜ (from + 16 ≤ to) × ((to + 16 ≤ length (now s)) × (length (now s) ≤ 65536)) ⌝ }
+    ensures { λ _. ⌜ now (s .exit) ≡ flippedTo 8 (now (s .entry)) from to ⌝ }
+{
+    let mut t = [0u8; 16];
+    let a = from + 16;
+    lane::copy(&s[from..a], &mut t);
+    let mut i = 0;
+    while i < 16 {
+        s[to + i] = t[i ^ 8];
+        i += 1;
+    }
 }
 
 // Of `bit` copies twice as many.
@@ -69,8 +75,29 @@ fn twice(bit: usize, l: usize, s: &mut [u8])
 {
     let n = bit * l;
     let mut i = 0;
+    if bit == 1 {
+        while i < n {
+            flip1(s, i, n + i);
+            i += 16;
+        }
+        return;
+    }
+    if bit == 2 {
+        while i < n {
+            flip2(s, i, n + i);
+            i += 16;
+        }
+        return;
+    }
+    if bit == 4 {
+        while i < n {
+            flip4(s, i, n + i);
+            i += 16;
+        }
+        return;
+    }
     while i < n {
-        flip_at(bit, s, i, n + i);
+        flip8(s, i, n + i);
         i += 16;
     }
 }

@@ -3,10 +3,10 @@
 use mathlib.Core.Path.{_≡_}
 use mathlib.Core.Bool.{Bool}
 use mathlib.Core.Logic.{_⊎_}
-use mathlib.Core.List.{List}
+use mathlib.Core.List.{List, _++_}
 use Prim.Native.Nat.{ℕ, _+_, _-_, _*_, _/_, _%_, _^_, _≤_, _<_, min, max}
 use lib.Dec.{ltb}
-use lib.ListN.{getD}
+use lib.ListN.{getD, take, drop}
 use Rattle.trellis.specs.Lists.{pick, tab}
 use Rattle.trellis.specs.Field.{xor}
 use Rattle.engine.specs.inner.Rests.{mostTo}
@@ -72,6 +72,10 @@ joinTo greatest u s l e b a = max (getD e a 0) (mostTo (rowAt greatest u s l a) 
 -- f is one of the four bits below sixteen
 pub record Flips (f : ℕ) : Type 0 where
   pub one : (f ≡ 1) ⊎ ((f ≡ 2) ⊎ ((f ≡ 4) ⊎ (f ≡ 8)))
+
+-- s with sixteen rows of it put at another place, each row x at x + f
+abbrev pub flippedTo : ℕ → List ℕ → ℕ → ℕ → List ℕ
+flippedTo f s from to = take to s ++ (lanes (λ i. getD s (from + xor i f) 0) ++ drop (to + 16) s)
 
 -- r has the first f parts of s, and behind them the same with each row x at x + f
 pub record Doubled (f l : ℕ) (s r : List ℕ) : Type 0 where
