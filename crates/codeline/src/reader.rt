@@ -28,8 +28,9 @@ fn read_field(s: &[u8], at: usize, wide: bool) -> Field
 {
     let first = scalar::u8_to_usize(s[at]);
     if wide {
+        let second = scalar::u8_to_usize(s[at + 1]);
         return Field {
-            value: first * 256 + scalar::u8_to_usize(s[at + 1]),
+            value: first * 256 + second,
             next: at + 2,
         };
     }
