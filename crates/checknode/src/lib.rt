@@ -20,8 +20,8 @@ pub fn check_fault(first: u8, weights: &[u8], costs: &[u8], room: usize) -> u8
 // The record of a check: from the first code byte, d weights and d times q costs, column by column, d + (1 + 2k)(q - 1) bytes. Refused as
 // `check_fault` says.
 pub fn check(first: u8, weights: &[u8], costs: &[u8], out: &mut [u8]) -> Written
-    ensures { λ r. ⌜ writtenReply r ≡ checkReply first (now (weights .entry)) (now (costs .entry)) (now (out .entry)) ⌝ }
-    ensures { λ _. ⌜ now (out .exit) ≡ checkLeaves first (now (weights .entry)) (now (costs .entry)) (now (out .entry)) ⌝ }
+    ensures reply { λ r. ⌜ writtenReply r ≡ checkReply first (now (weights .entry)) (now (costs .entry)) (now (out .entry)) ⌝ }
+    ensures out_then { λ _. ⌜ now (out .exit) ≡ checkLeaves first (now (weights .entry)) (now (costs .entry)) (now (out .entry)) ⌝ }
 {
     let k = refusals::check_fault(first, weights, costs, out.len());
     if k != 0 {
@@ -36,11 +36,11 @@ pub fn check(first: u8, weights: &[u8], costs: &[u8], out: &mut [u8]) -> Written
 // The record of a check and, in a second buffer, its sent costs: d times q bytes, column by column, each column by x. Refused as a check
 // is; last 2, the second buffer too short. The answer is how many bytes the record has, as of a check.
 pub fn messages(first: u8, weights: &[u8], costs: &[u8], out: &mut [u8], sent: &mut [u8]) -> Written
-    ensures { λ r. ⌜
+    ensures reply { λ r. ⌜
         writtenReply r ≡ messagesReply first (now (weights .entry)) (now (costs .entry)) (now (out .entry)) (now (sent .entry)) ⌝ }
-    ensures { λ _. ⌜
+    ensures out_then { λ _. ⌜
         now (out .exit) ≡ messagesLeaves first (now (weights .entry)) (now (costs .entry)) (now (out .entry)) (now (sent .entry)) ⌝ }
-    ensures { λ _. ⌜
+    ensures sent_then { λ _. ⌜
         now (sent .exit) ≡ messagesSent first (now (weights .entry)) (now (costs .entry)) (now (out .entry)) (now (sent .entry)) ⌝ }
 {
     let k = refusals::check_fault(first, weights, costs, out.len());

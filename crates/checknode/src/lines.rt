@@ -66,8 +66,8 @@ fn place(costs: &[u8], row: &[u8], s: u8, line: &mut [u8])
 // clear each line here, where fresh room is zeros already, would be a call for each column.
 fn column(costs: &[u8], row: &[u8], line: &mut [u8]) -> u8
     requires { ⌜ ColumnRoom (now costs) (now row) (now line) ⌝ }
-    ensures { λ r. ⌜ r ≡ getD (now (row .entry)) (firstZero (now (costs .entry))) 0 ⌝ }
-    ensures { λ _. ⌜ now (line .exit) ≡ lineFrom (now (costs .entry)) (now (row .entry)) (now (line .entry)) ⌝ }
+    ensures term { λ r. ⌜ r ≡ getD (now (row .entry)) (firstZero (now (costs .entry))) 0 ⌝ }
+    ensures line_then { λ _. ⌜ now (line .exit) ≡ lineFrom (now (costs .entry)) (now (row .entry)) (now (line .entry)) ⌝ }
 {
     let z = decision::decide_u8(costs).symbol;
     let s = row[z];
@@ -88,12 +88,12 @@ pub fn lines(
     requires { ⌜ Ready first (now weights) (now costs) ⌝ }
     requires { ⌜ now rows ≡ blocks (rowOf (powerOf first) (now weights)) (length (now weights)) ⌝ }
     requires { ⌜ LinesRoom (powerOf first) l (length (now weights)) (now lines) (now out) ⌝ }
-    ensures { λ r. ⌜
+    ensures sum { λ r. ⌜
         r ≡ sumTo (termOf (powerOf first) (now (weights .entry)) (now (costs .entry))) (length (now (weights .entry))) ⌝ }
-    ensures { λ _. ⌜
+    ensures lines_then { λ _. ⌜
         now (lines .exit)
         ≡ blocks (restsOf (powerOf first) (now (weights .entry)) (now (costs .entry)) l) (length (now (weights .entry))) ⌝ }
-    ensures { λ _. ⌜
+    ensures out_then { λ _. ⌜
         now (out .exit) ≡ tab (termOf (powerOf first) (now (weights .entry)) (now (costs .entry))) (length (now (weights .entry))) ⌝ }
 {
     let q = rules::size(first);

@@ -47,8 +47,8 @@ fn rests_with(
         RestsRoom (powerOf first) (length (now weights)) (now rests) (now shifts)
         × (length (now weights) * max 16 (sizeOf first) ≤ length (now lines)) ⌝ }
     requires { ⌜ now lines ≡ tab (λ a. 0) (length (now lines)) ⌝ }
-    ensures { λ _. ⌜ Rests first (now (weights .entry)) (now (costs .entry)) (now (rests .exit)) ⌝ }
-    ensures { λ _. ⌜ now (shifts .exit) ≡ shiftsOf (powerOf first) (now (weights .entry)) (now (costs .entry)) ⌝ }
+    ensures rests_then { λ _. ⌜ Rests first (now (weights .entry)) (now (costs .entry)) (now (rests .exit)) ⌝ }
+    ensures shifts_then { λ _. ⌜ now (shifts .exit) ≡ shiftsOf (powerOf first) (now (weights .entry)) (now (costs .entry)) ⌝ }
 {
     let d = weights.len();
     let l = side(rules::size(first));
@@ -70,8 +70,8 @@ fn rests_in(
     requires { ⌜ Ready first (now weights) (now costs) ⌝ }
     requires { ⌜ now rows ≡ blocks (rowOf (powerOf first) (now weights)) (length (now weights)) ⌝ }
     requires { ⌜ RestsRoom (powerOf first) (length (now weights)) (now rests) (now shifts) ⌝ }
-    ensures { λ _. ⌜ Rests first (now (weights .entry)) (now (costs .entry)) (now (rests .exit)) ⌝ }
-    ensures { λ _. ⌜ now (shifts .exit) ≡ shiftsOf (powerOf first) (now (weights .entry)) (now (costs .entry)) ⌝ }
+    ensures rests_then { λ _. ⌜ Rests first (now (weights .entry)) (now (costs .entry)) (now (rests .exit)) ⌝ }
+    ensures shifts_then { λ _. ⌜ now (shifts .exit) ≡ shiftsOf (powerOf first) (now (weights .entry)) (now (costs .entry)) ⌝ }
 {
     if rules::power(first) <= 4 {
         let mut lines = [0u8; sizes::SMALL_EXPANSION];
@@ -96,9 +96,10 @@ fn record_with(
         (length (now rows) ≡ length (now weights) * sizeOf first)
         × ((length (now rests) ≡ length (now weights) * max 16 (sizeOf first))
         × (length (now out) ≡ recordLength (ruleFor first) (length (now weights)))) ⌝ }
-    ensures { λ _. ⌜ now (rows .exit) ≡ blocks (rowOf (powerOf first) (now (weights .entry))) (length (now (weights .entry))) ⌝ }
-    ensures { λ _. ⌜ Rests first (now (weights .entry)) (now (costs .entry)) (now (rests .exit)) ⌝ }
-    ensures { λ _. ⌜ now (out .exit) ≡ recordOf (ruleFor first) (columnsOf (sizeOf first) (now (weights .entry)) (now (costs .entry))) ⌝ }
+    ensures rows_then { λ _. ⌜ now (rows .exit) ≡ blocks (rowOf (powerOf first) (now (weights .entry))) (length (now (weights .entry))) ⌝ }
+    ensures rests_then { λ _. ⌜ Rests first (now (weights .entry)) (now (costs .entry)) (now (rests .exit)) ⌝ }
+    ensures out_then { λ _. ⌜ now (out .exit)
+        ≡ recordOf (ruleFor first) (columnsOf (sizeOf first) (now (weights .entry)) (now (costs .entry))) ⌝ }
 {
     let d = weights.len();
     let e = out.len();
@@ -164,8 +165,10 @@ fn messages_with(
         × ((length (now rests) ≡ length (now weights) * max 16 (sizeOf first))
         × ((length (now out) ≡ recordLength (ruleFor first) (length (now weights)))
         × (length (now sent) ≡ length (now weights) * sizeOf first))) ⌝ }
-    ensures { λ _. ⌜ now (out .exit) ≡ recordOf (ruleFor first) (columnsOf (sizeOf first) (now (weights .entry)) (now (costs .entry))) ⌝ }
-    ensures { λ _. ⌜ now (sent .exit) ≡ allSent (ruleFor first) (columnsOf (sizeOf first) (now (weights .entry)) (now (costs .entry))) ⌝ }
+    ensures out_then { λ _. ⌜ now (out .exit)
+        ≡ recordOf (ruleFor first) (columnsOf (sizeOf first) (now (weights .entry)) (now (costs .entry))) ⌝ }
+    ensures sent_then { λ _. ⌜ now (sent .exit)
+        ≡ allSent (ruleFor first) (columnsOf (sizeOf first) (now (weights .entry)) (now (costs .entry))) ⌝ }
 {
     record_with(first, weights, costs, rows, rests, out);
     let d = weights.len();
@@ -190,8 +193,10 @@ fn messages_room(
         × ((length (now weights) * max 16 q ≤ length (now rests))
         × ((length (now out) ≡ recordLength (ruleFor first) (length (now weights)))
         × (length (now sent) ≡ length (now weights) * sizeOf first)))) ⌝ }
-    ensures { λ _. ⌜ now (out .exit) ≡ recordOf (ruleFor first) (columnsOf (sizeOf first) (now (weights .entry)) (now (costs .entry))) ⌝ }
-    ensures { λ _. ⌜ now (sent .exit) ≡ allSent (ruleFor first) (columnsOf (sizeOf first) (now (weights .entry)) (now (costs .entry))) ⌝ }
+    ensures out_then { λ _. ⌜ now (out .exit)
+        ≡ recordOf (ruleFor first) (columnsOf (sizeOf first) (now (weights .entry)) (now (costs .entry))) ⌝ }
+    ensures sent_then { λ _. ⌜ now (sent .exit)
+        ≡ allSent (ruleFor first) (columnsOf (sizeOf first) (now (weights .entry)) (now (costs .entry))) ⌝ }
 {
     let a = weights.len() * q;
     let b = weights.len() * side(q);
@@ -221,8 +226,10 @@ pub fn messages_in(
         (q ≡ sizeOf first)
         × ((length (now out) ≡ recordLength (ruleFor first) (length (now weights)))
         × (length (now sent) ≡ length (now weights) * sizeOf first)) ⌝ }
-    ensures { λ _. ⌜ now (out .exit) ≡ recordOf (ruleFor first) (columnsOf (sizeOf first) (now (weights .entry)) (now (costs .entry))) ⌝ }
-    ensures { λ _. ⌜ now (sent .exit) ≡ allSent (ruleFor first) (columnsOf (sizeOf first) (now (weights .entry)) (now (costs .entry))) ⌝ }
+    ensures out_then { λ _. ⌜ now (out .exit)
+        ≡ recordOf (ruleFor first) (columnsOf (sizeOf first) (now (weights .entry)) (now (costs .entry))) ⌝ }
+    ensures sent_then { λ _. ⌜ now (sent .exit)
+        ≡ allSent (ruleFor first) (columnsOf (sizeOf first) (now (weights .entry)) (now (costs .entry))) ⌝ }
 {
     if q <= 16 {
         let mut rows = [0u8; sizes::SMALL_EXPANSION];

@@ -37,8 +37,8 @@ pub enum Checks {
 // "for each edge the column (two bytes, high first, below N, rising within the check) and weight".
 fn edge_at(code: &[u8], at: usize, n: usize, q: usize, low: usize) -> Edge
     requires { ⌜ at + 3 ≤ length (now code) ⌝ }
-    ensures { λ r. ⌜ edgeRead r ≡ readEdge (now (code .entry)) at n q low ⌝ }
-    ensures { λ r. ⌜ EdgeEnds r at ⌝ }
+    ensures read { λ r. ⌜ edgeRead r ≡ readEdge (now (code .entry)) at n q low ⌝ }
+    ensures ends { λ r. ⌜ EdgeEnds r at ⌝ }
 {
     let c = reader::field_at(code, at, reader::WORD);
     if n <= c.value {
@@ -69,9 +69,9 @@ fn edges_at(
     from: usize,
 ) -> Edges
     requires { ⌜ (at + 3 * count ≤ length (now code)) × ((from + count ≤ length (now columns)) × (from + count ≤ length (now weights))) ⌝ }
-    ensures { λ r. ⌜ edgesRead r (take (from + count) (now (columns .exit))) (take (from + count) (now (weights .exit)))
+    ensures read { λ r. ⌜ edgesRead r (take (from + count) (now (columns .exit))) (take (from + count) (now (weights .exit)))
         ≡ edgesInto count (now (code .entry)) at n q 0 (take from (now (columns .entry))) (take from (now (weights .entry))) ⌝ }
-    ensures { λ r. ⌜ EdgesEnd r at count ⌝ }
+    ensures ends { λ r. ⌜ EdgesEnd r at count ⌝ }
 {
     let mut i = 0;
     let mut low = 0;
@@ -104,9 +104,9 @@ fn check_at(
     total: usize,
 ) -> Check
     requires { ⌜ (mostEdges ≤ length (now columns)) × (mostEdges ≤ length (now weights)) ⌝ }
-    ensures { λ r. ⌜ checkRead r total (now (columns .exit)) (now (weights .exit))
+    ensures read { λ r. ⌜ checkRead r total (now (columns .exit)) (now (weights .exit))
         ≡ checkInto (now (code .entry)) at n q total (take total (now (columns .entry))) (take total (now (weights .entry))) ⌝ }
-    ensures { λ r. ⌜ CheckFits r (now (code .entry)) at total ⌝ }
+    ensures fits { λ r. ⌜ CheckFits r (now (code .entry)) at total ⌝ }
 {
     if reader::left_at(code, at) == 0 {
         return Check::Refused(5);
@@ -144,9 +144,9 @@ pub fn checks_at(
 ) -> Checks
     requires { ⌜ (at ≤ length (now code)) × ((count ≤ length (now degrees))
         × ((mostEdges ≤ length (now columns)) × (mostEdges ≤ length (now weights)))) ⌝ }
-    ensures { λ r. ⌜ checksRead r count (now (degrees .exit)) (now (columns .exit)) (now (weights .exit))
+    ensures read { λ r. ⌜ checksRead r count (now (degrees .exit)) (now (columns .exit)) (now (weights .exit))
         ≡ checksInto count (now (code .entry)) at n q 0 [] [] [] ⌝ }
-    ensures { λ r. ⌜ ChecksFit r ⌝ }
+    ensures fits { λ r. ⌜ ChecksFit r ⌝ }
 {
     let mut i = 0;
     let mut total = 0;

@@ -33,8 +33,8 @@ fn refused(k: u8) -> Front
 // "p", with k in the first byte; "N as two bytes, high first (1 to 256); M (1 to 128); scale g (1 to 16); iteration limit I (1 to 255)";
 // "5 if under six bytes, 6, 7, 8".
 pub fn head(code: &[u8]) -> Front
-    ensures { λ r. ⌜ headerNumbers (r .header) ≡ headOf (now (code .entry)) ⌝ }
-    ensures { λ r. ⌜ HeadFits (r .header) (r .next) (now (code .entry)) ⌝ }
+    ensures numbers { λ r. ⌜ headerNumbers (r .header) ≡ headOf (now (code .entry)) ⌝ }
+    ensures fits { λ r. ⌜ HeadFits (r .header) (r .next) (now (code .entry)) ⌝ }
 {
     if reader::left_at(code, 0) < 6 {
         return refused(5);

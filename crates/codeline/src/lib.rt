@@ -51,10 +51,10 @@ pub fn code_tables(
     columns: &mut [u16; sizes::MOST_EDGES],
     weights: &mut [u8; sizes::MOST_EDGES],
 ) -> Header
-    ensures { λ r. ⌜ headerNumbers r ≡ numbersOf (parse (now (code .entry))) ⌝ }
-    ensures { λ _. ⌜ now (degrees .exit) ≡ leftIn degreeTable (parse (now (code .entry))) (now (degrees .entry)) ⌝ }
-    ensures { λ _. ⌜ now (columns .exit) ≡ leftIn columnTable (parse (now (code .entry))) (now (columns .entry)) ⌝ }
-    ensures { λ _. ⌜ now (weights .exit) ≡ leftIn weightTable (parse (now (code .entry))) (now (weights .entry)) ⌝ }
+    ensures numbers { λ r. ⌜ headerNumbers r ≡ numbersOf (parse (now (code .entry))) ⌝ }
+    ensures degrees_then { λ _. ⌜ now (degrees .exit) ≡ leftIn degreeTable (parse (now (code .entry))) (now (degrees .entry)) ⌝ }
+    ensures columns_then { λ _. ⌜ now (columns .exit) ≡ leftIn columnTable (parse (now (code .entry))) (now (columns .entry)) ⌝ }
+    ensures weights_then { λ _. ⌜ now (weights .exit) ≡ leftIn weightTable (parse (now (code .entry))) (now (weights .entry)) ⌝ }
 {
     let mut ds = [0u8; sizes::MOST_CHECKS];
     let mut cs = [0u16; sizes::MOST_EDGES];

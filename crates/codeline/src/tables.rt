@@ -25,9 +25,9 @@ fn refused(header: Header) -> LineRead
 // The whole line. Where it is refused, the tables may hold anything.
 pub fn read(code: &[u8], degrees: &mut [u8], columns: &mut [u16], weights: &mut [u8]) -> LineRead
     requires { ⌜ (length (now degrees) ≡ mostChecks) × ((length (now columns) ≡ mostEdges) × (length (now weights) ≡ mostEdges)) ⌝ }
-    ensures { λ r. ⌜ headerNumbers (r .header) ≡ numbersOf (parse (now (code .entry))) ⌝ }
-    ensures { λ r. ⌜ CountFits (r .header) (r .edges) ⌝ }
-    ensures { λ r. ⌜ ((C : Code) → parse (now (code .entry)) ≡ good C
+    ensures numbers { λ r. ⌜ headerNumbers (r .header) ≡ numbersOf (parse (now (code .entry))) ⌝ }
+    ensures fits { λ r. ⌜ CountFits (r .header) (r .edges) ⌝ }
+    ensures tables { λ r. ⌜ ((C : Code) → parse (now (code .entry)) ≡ good C
         → Filled C (now (degrees .exit)) (now (columns .exit)) (now (weights .exit)) (r .edges)) ⌝ }
 {
     let f = head::head(code);
@@ -64,9 +64,10 @@ pub fn hand_over(
     requires { ⌜ CountFits (r .header) (r .edges) ⌝ }
     requires { ⌜ (length (now ds) ≡ mostChecks) × ((length (now cs) ≡ mostEdges) × (length (now ws) ≡ mostEdges)) ⌝ }
     requires { ⌜ (length (now degrees) ≡ mostChecks) × ((length (now columns) ≡ mostEdges) × (length (now weights) ≡ mostEdges)) ⌝ }
-    ensures { λ _. ⌜ now (degrees .exit) ≡ handed (r .header) (checksIn (r .header)) (now (ds .entry)) (now (degrees .entry)) ⌝ }
-    ensures { λ _. ⌜ now (columns .exit) ≡ handed (r .header) (r .edges) (now (cs .entry)) (now (columns .entry)) ⌝ }
-    ensures { λ _. ⌜ now (weights .exit) ≡ handed (r .header) (r .edges) (now (ws .entry)) (now (weights .entry)) ⌝ }
+    ensures degrees_then { λ _. ⌜ now (degrees .exit)
+        ≡ handed (r .header) (checksIn (r .header)) (now (ds .entry)) (now (degrees .entry)) ⌝ }
+    ensures columns_then { λ _. ⌜ now (columns .exit) ≡ handed (r .header) (r .edges) (now (cs .entry)) (now (columns .entry)) ⌝ }
+    ensures weights_then { λ _. ⌜ now (weights .exit) ≡ handed (r .header) (r .edges) (now (ws .entry)) (now (weights .entry)) ⌝ }
 {
     let h = r.header;
     match h {

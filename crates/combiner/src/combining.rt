@@ -29,10 +29,10 @@ fn fault(numbers: Numbers, first: &[u8], second: &[u8], room: usize) -> u8
 
 // Nothing is written before the last refusal has been tested.
 pub fn under_code(numbers: Numbers, first: &[u8], second: &[u8], out: &mut [u8]) -> Written
-    ensures { λ r. ⌜ writtenReply r
+    ensures reply { λ r. ⌜ writtenReply r
         ≡ combiningUnder (good (headed (numbers .first) (numbers .columns)))
         (now (first .entry)) (now (second .entry)) (now (out .entry)) .reply ⌝ }
-    ensures { λ _. ⌜ now (out .exit)
+    ensures out_then { λ _. ⌜ now (out .exit)
         ≡ combiningUnder (good (headed (numbers .first) (numbers .columns)))
         (now (first .entry)) (now (second .entry)) (now (out .entry)) .out ⌝ }
 {

@@ -52,10 +52,10 @@ fn under_code(
     symbols: &mut [u8],
 ) -> Written
     requires { ⌜ Coded numbers (now degrees) (now columns) (now weights) ⌝ }
-    ensures { λ r. ⌜ writtenReply r
+    ensures reply { λ r. ⌜ writtenReply r
         ≡ encodingUnder (good (codeOf numbers (now (degrees .entry)) (now (columns .entry)) (now (weights .entry))))
         (now (message .entry)) (now (symbols .entry)) .reply ⌝ }
-    ensures { λ _. ⌜ now (symbols .exit)
+    ensures symbols_then { λ _. ⌜ now (symbols .exit)
         ≡ encodingUnder (good (codeOf numbers (now (degrees .entry)) (now (columns .entry)) (now (weights .entry))))
         (now (message .entry)) (now (symbols .entry)) .out ⌝ }
 {
@@ -79,8 +79,8 @@ pub fn encode_in(
     columns: &mut [u16; sizes::MOST_EDGES],
     weights: &mut [u8; sizes::MOST_EDGES],
 ) -> Written
-    ensures { λ r. ⌜ writtenReply r ≡ encoding (now (code .entry)) (now (message .entry)) (now (symbols .entry)) .reply ⌝ }
-    ensures { λ _. ⌜ now (symbols .exit) ≡ encoding (now (code .entry)) (now (message .entry)) (now (symbols .entry)) .out ⌝ }
+    ensures reply { λ r. ⌜ writtenReply r ≡ encoding (now (code .entry)) (now (message .entry)) (now (symbols .entry)) .reply ⌝ }
+    ensures symbols_then { λ _. ⌜ now (symbols .exit) ≡ encoding (now (code .entry)) (now (message .entry)) (now (symbols .entry)) .out ⌝ }
 {
     match codeline::code_tables(code, degrees, columns, weights) {
         Header::Refused(k) => Written::Refused(k),

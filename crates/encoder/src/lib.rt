@@ -15,8 +15,8 @@ ghost use Rattle.machine.specs.Encoding.{encoding};
 // symbols stays. Refused: the code line's 5 to 11; 17, the line lacks this form; 18, message length, or a symbol not below q; 2, symbol
 // buffer too short.
 pub fn encode(code: &[u8], message: &[u8], symbols: &mut [u8]) -> Written
-    ensures { λ r. ⌜ writtenReply r ≡ encoding (now (code .entry)) (now (message .entry)) (now (symbols .entry)) .reply ⌝ }
-    ensures { λ _. ⌜ now (symbols .exit) ≡ encoding (now (code .entry)) (now (message .entry)) (now (symbols .entry)) .out ⌝ }
+    ensures reply { λ r. ⌜ writtenReply r ≡ encoding (now (code .entry)) (now (message .entry)) (now (symbols .entry)) .reply ⌝ }
+    ensures symbols_then { λ _. ⌜ now (symbols .exit) ≡ encoding (now (code .entry)) (now (message .entry)) (now (symbols .entry)) .out ⌝ }
 {
     let mut degrees = [0u8; sizes::MOST_CHECKS];
     let mut columns = [0u16; sizes::MOST_EDGES];

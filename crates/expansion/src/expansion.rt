@@ -167,8 +167,8 @@ fn in_room(d: usize, q: usize, k: usize, r: &[u8], t: &mut [u8], out: &mut [u8])
     requires { ⌜ (k ≤ 3) × (((1 ≤ q) × (q ≤ mostSize)) × (length (now r) ≡ d + (1 + 2 * k) * (q - 1))) ⌝ }
     requires { ⌜ (1 + 2 * k) * mostSize ≤ length (now t) ⌝ }
     requires { ⌜ TurnRoom d q (now r) (now out) ⌝ }
-    ensures { λ _. ⌜ take ((1 + 2 * k) * q) (now (t .exit)) ≡ unpacked k d q (now (r .entry)) ⌝ }
-    ensures { λ _. ⌜ now (out .exit) ≡ blocks (turned k (now (t .exit)) q (now (r .entry)) (now (out .entry))) d ⌝ }
+    ensures lists { λ _. ⌜ take ((1 + 2 * k) * q) (now (t .exit)) ≡ unpacked k d q (now (r .entry)) ⌝ }
+    ensures out_then { λ _. ⌜ now (out .exit) ≡ blocks (turned k (now (t .exit)) q (now (r .entry)) (now (out .entry))) d ⌝ }
 {
     let m = (1 + 2 * k) * q;
     unpack(r, d, q, k, &mut t[..m]);

@@ -10,8 +10,8 @@ ghost use Rattle.expansion.specs.Answers.{expandReply, expandLeaves};
 // The expansion of a record: from the first code byte, d weights and a record, d times q bytes, column by column, each column by x.
 // Refused: 6, the first byte; 9, degree not 2 to 32; 11, a weight 0 or no element; 16, the record's form; 2, buffer too short.
 pub fn expand(first: u8, weights: &[u8], bytes: &[u8], out: &mut [u8]) -> Written
-    ensures { λ r. ⌜ writtenReply r ≡ expandReply first (now (weights .entry)) (now (bytes .entry)) (now (out .entry)) ⌝ }
-    ensures { λ _. ⌜ now (out .exit) ≡ expandLeaves first (now (weights .entry)) (now (bytes .entry)) (now (out .entry)) ⌝ }
+    ensures reply { λ r. ⌜ writtenReply r ≡ expandReply first (now (weights .entry)) (now (bytes .entry)) (now (out .entry)) ⌝ }
+    ensures out_then { λ _. ⌜ now (out .exit) ≡ expandLeaves first (now (weights .entry)) (now (bytes .entry)) (now (out .entry)) ⌝ }
 {
     let k = field::weights_fault(first, weights);
     if k != 0 {

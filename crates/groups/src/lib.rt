@@ -13,8 +13,8 @@ ghost use Rattle.groups.specs.Calls.{groupShape, groupsLeave};
 // The shape of the rests: at least sixteen rows, for that many are taken at a time.
 fn shape_of(rule: Rule) -> Shape
     requires { ⌜ ((2 ≤ rule .p) × (rule .p ≤ 6)) × ((2 ≤ rule .k) × (rule .k ≤ 3)) ⌝ }
-    ensures { λ r. ⌜ r ≡ groupShape (rule .p) (rule .k) ⌝ }
-    ensures { λ r. ⌜ Shaped (r .q) (r .l) (r .k) × (4 ≤ r .q) ⌝ }
+    ensures shape { λ r. ⌜ r ≡ groupShape (rule .p) (rule .k) ⌝ }
+    ensures fits { λ r. ⌜ Shaped (r .q) (r .l) (r .k) × (4 ≤ r .q) ⌝ }
 {
     let q = 1usize << rule.p;
     let l = scalar::max_usize(16, q);

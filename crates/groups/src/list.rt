@@ -53,10 +53,10 @@ fn shift(s: &[u8], e: &[u8], j: usize, t: &mut [u8])
 fn push(k: usize, s: &[u8], e: &[u8], columns: &mut [u8], rests: &mut [u8])
     requires { ⌜ (length (now s) ≡ 16) × (length (now e) ≡ 16) ⌝ }
     requires { ⌜ (k ≤ 3) × ((16 * k + 16 ≤ length (now columns)) × (16 * k + 16 ≤ length (now rests))) ⌝ }
-    ensures { λ _. ⌜
+    ensures columns_then { λ _. ⌜
         Pushes k (now (s .entry)) (now (e .entry)) (λ i. getD (now (columns .entry)) i 0)
         (now (columns .entry)) (now (columns .exit)) ⌝ }
-    ensures { λ _. ⌜
+    ensures rests_then { λ _. ⌜
         Pushes k (now (s .entry)) (now (e .entry)) (λ i. getD (now (rests .entry)) i 0) (now (rests .entry)) (now (rests .exit)) ⌝ }
 {
     let mut j = k;
@@ -82,8 +82,8 @@ fn fill(x: u8, t: &mut [u8])
 fn column(k: usize, n: u8, s: &[u8], e: &[u8], columns: &mut [u8], rests: &mut [u8])
     requires { ⌜ (length (now s) ≡ 16) × (length (now e) ≡ 16) ⌝ }
     requires { ⌜ (k ≤ 3) × ((length (now columns) ≡ 64) × (length (now rests) ≡ 64)) ⌝ }
-    ensures { λ _. ⌜ Pushes k (now (s .entry)) (now (e .entry)) (λ _. n) (now (columns .entry)) (now (columns .exit)) ⌝ }
-    ensures { λ _. ⌜
+    ensures columns_then { λ _. ⌜ Pushes k (now (s .entry)) (now (e .entry)) (λ _. n) (now (columns .entry)) (now (columns .exit)) ⌝ }
+    ensures rests_then { λ _. ⌜
         Pushes k (now (s .entry)) (now (e .entry)) (λ i. getD (now (s .entry)) i 0) (now (rests .entry)) (now (rests .exit)) ⌝ }
 {
     fill(n, &mut columns[..16]);

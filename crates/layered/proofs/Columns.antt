@@ -53,10 +53,7 @@ pub room-at : (P cols old : List ℕ) (g q : ℕ) (out : List ℕ) → GatherRoo
     → (w * q + q ≤ length P) × ((k * q + q ≤ length old) × (k * q + q ≤ length out))
 room-at P cols old g q out R k h w e = (rw e (R .columns k h), (omega (arith, column-room k (length cols) q h, R .for-old), omega (arith, column-room k (length cols) q h, R .for-out)))
 
--- a part that comes back as long as it was lent
-pub part-kept : (l s : List ℕ) (a n : ℕ) → a + n ≤ length l → length s ≡ length (part l a n) → length (patch l a n s) ≡ length l
-part-kept l s a n h e = length-patch l s a n h (e ∙ length-part l a n h)
-
+-- a front that comes back as long as it was lent
 pub front-kept : (l s : List ℕ) (n : ℕ) → n ≤ length l → length s ≡ length (take n l) → length (s ++ drop n l) ≡ length l
 front-kept l s n h e = length-append s (drop n l) ∙ omega (arith, length-take-le n l h, length-drop n l)
 

@@ -38,10 +38,10 @@ fn run(
 ) -> Outcome
     requires { ⌜ RunRoom numbers (now degrees) (now columns) (now weights) true
         (now costs) (now store) (now symbols) (now arrived) (now sent) ⌝ }
-    ensures { λ r. ⌜ endedIn r (lent (now (costs .exit)) (now (store .exit)))
+    ensures ends { λ r. ⌜ endedIn r (lent (now (costs .exit)) (now (store .exit)))
         ≡ runLent early numbers (codeOf numbers (now (degrees .entry)) (now (columns .entry)) (now (weights .entry)))
         (lent (now (costs .entry)) (now (store .entry))) ⌝ }
-    ensures { λ _. ⌜ now (symbols .exit)
+    ensures symbols_then { λ _. ⌜ now (symbols .exit)
         ≡ symbolsOf (codeOf numbers (now (degrees .entry)) (now (columns .entry)) (now (weights .entry)))
         (now (costs .exit)) ⌝ }
 {
@@ -88,13 +88,13 @@ fn run_to_margins(
     requires { ⌜ RunRoom numbers (now degrees) (now columns) (now weights) true
         (now costs) (now store) (now symbols) (now arrived) (now sent)
         × (length (now margins) ≡ numbers .columns) ⌝ }
-    ensures { λ r. ⌜ endedIn r (lent (now (costs .exit)) (now (store .exit)))
+    ensures ends { λ r. ⌜ endedIn r (lent (now (costs .exit)) (now (store .exit)))
         ≡ runLent early numbers (codeOf numbers (now (degrees .entry)) (now (columns .entry)) (now (weights .entry)))
         (lent (now (costs .entry)) (now (store .entry))) ⌝ }
-    ensures { λ _. ⌜ now (symbols .exit)
+    ensures symbols_then { λ _. ⌜ now (symbols .exit)
         ≡ symbolsOf (codeOf numbers (now (degrees .entry)) (now (columns .entry)) (now (weights .entry)))
         (now (costs .exit)) ⌝ }
-    ensures { λ _. ⌜ now (margins .exit)
+    ensures margins_then { λ _. ⌜ now (margins .exit)
         ≡ marginsOf (codeOf numbers (now (degrees .entry)) (now (columns .entry)) (now (weights .entry)))
         (now (costs .exit)) ⌝ }
 {
@@ -174,11 +174,11 @@ pub fn decode_in(
     arrived: &mut [u8; sizes::MOST_EXPANSION],
     sent: &mut [u8; sizes::MOST_EXPANSION],
 ) -> Counted
-    ensures { λ r. ⌜ Leaves
+    ensures leaves { λ r. ⌜ Leaves
         (called early (now (code .entry)) (now (frame .entry))
         (lending (now (symbols .entry)) (now (costs .entry)) (now (store .entry)) (now (margins .entry)))) (answerReply (r .answer))
         (lending (now (symbols .exit)) (now (costs .exit)) (now (store .exit)) (now (margins .exit))) ⌝ }
-    ensures { λ r. ⌜ (r .columns ≡ columnsRead (numbersOf (parse (now (code .entry))))) × (r .columns ≤ mostSymbols) ⌝ }
+    ensures columns { λ r. ⌜ (r .columns ≡ columnsRead (numbersOf (parse (now (code .entry))))) × (r .columns ≤ mostSymbols) ⌝ }
 {
     match codeline::code_tables(code, degrees, columns, weights) {
         Header::Refused(k) => Counted {

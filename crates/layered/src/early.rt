@@ -24,8 +24,9 @@ ghost use Rattle.layered.specs.inner.Early.{decidedAgain, AgainRoom, Ret
 // Decides column c again; 1 where its symbol is another one now, else 0.
 fn decide_at(costs: &[u16], q: usize, c: usize, symbols: &mut [u8]) -> usize
     requires { ⌜ (c * q + q ≤ length (now costs)) × ((c < length (now symbols)) × (q ≤ mostSize)) ⌝ }
-    ensures { λ _. ⌜ now (symbols .exit) ≡ set (now (symbols .entry)) c (decideOf (columnOf q (now (costs .entry)) c) .symbol) ⌝ }
-    ensures { λ r. ⌜ (r ≤ 1) × (r ≡ 0 → now (symbols .exit) ≡ now (symbols .entry)) ⌝ }
+    ensures symbols_then { λ _. ⌜ now (symbols .exit)
+        ≡ set (now (symbols .entry)) c (decideOf (columnOf q (now (costs .entry)) c) .symbol) ⌝ }
+    ensures changed { λ r. ⌜ (r ≤ 1) × (r ≡ 0 → now (symbols .exit) ≡ now (symbols .entry)) ⌝ }
 {
     let z = parity::decided(costs, q, c).symbol as u8;
     if symbols[c] == z {
@@ -38,9 +39,9 @@ fn decide_at(costs: &[u16], q: usize, c: usize, symbols: &mut [u8]) -> usize
 // Decides a check's columns again; how many symbols are others now.
 fn decide_again(costs: &[u16], q: usize, columns: &[u16], symbols: &mut [u8]) -> usize
     requires { ⌜ AgainRoom q (now costs) (now columns) (now symbols) ⌝ }
-    ensures { λ _. ⌜ now (symbols .exit)
+    ensures symbols_then { λ _. ⌜ now (symbols .exit)
         ≡ decidedAgain q (now (costs .entry)) (now (columns .entry)) (length (now (columns .entry))) (now (symbols .entry)) ⌝ }
-    ensures { λ r. ⌜ (r ≡ 0 → now (symbols .exit) ≡ now (symbols .entry)) ⌝ }
+    ensures changed { λ r. ⌜ (r ≡ 0 → now (symbols .exit) ≡ now (symbols .entry)) ⌝ }
 {
     let mut changed = 0;
     let mut k = 0;
@@ -102,9 +103,9 @@ fn tested_again(
 ) -> CheckAt
     requires { ⌜ RetestRoom numbers (now degrees) (now columns) (now weights) here from
         (now costs) (now symbols) ⌝ }
-    ensures { λ r. ⌜ Retested (codeOf numbers (now (degrees .entry)) (now (columns .entry)) (now (weights .entry)))
+    ensures test { λ r. ⌜ Retested (codeOf numbers (now (degrees .entry)) (now (columns .entry)) (now (weights .entry)))
         (now (degrees .entry)) (now (costs .entry)) r ⌝ }
-    ensures { λ _. ⌜ now (symbols .exit)
+    ensures symbols_then { λ _. ⌜ now (symbols .exit)
         ≡ symbolsOf (codeOf numbers (now (degrees .entry)) (now (columns .entry)) (now (weights .entry)))
         (now (costs .entry)) ⌝ }
 {
@@ -134,10 +135,10 @@ fn go_on(
 ) -> Outcome
     requires { ⌜ GoRoom numbers (now degrees) (now columns) (now weights)
         (now costs) (now store) (now symbols) (now arrived) (now sent) ⌝ }
-    ensures { λ r. ⌜ endedIn r (lent (now (costs .exit)) (now (store .exit)))
+    ensures ends { λ r. ⌜ endedIn r (lent (now (costs .exit)) (now (store .exit)))
         ≡ stopLent (codeOf numbers (now (degrees .entry)) (now (columns .entry)) (now (weights .entry)))
         most 0 (lent (now (costs .entry)) (now (store .entry))) ⌝ }
-    ensures { λ _. ⌜ now (symbols .exit)
+    ensures symbols_then { λ _. ⌜ now (symbols .exit)
         ≡ symbolsOf (codeOf numbers (now (degrees .entry)) (now (columns .entry)) (now (weights .entry)))
         (now (costs .exit)) ⌝ }
 {
@@ -204,10 +205,10 @@ pub fn run(
 ) -> Outcome
     requires { ⌜ RunRoom numbers (now degrees) (now columns) (now weights) true
         (now costs) (now store) (now symbols) (now arrived) (now sent) ⌝ }
-    ensures { λ r. ⌜ endedIn r (lent (now (costs .exit)) (now (store .exit)))
+    ensures ends { λ r. ⌜ endedIn r (lent (now (costs .exit)) (now (store .exit)))
         ≡ stopLent (codeOf numbers (now (degrees .entry)) (now (columns .entry)) (now (weights .entry)))
         (numbers .checks * numbers .limit) 0 (lent (now (costs .entry)) (now (store .entry))) ⌝ }
-    ensures { λ _. ⌜ now (symbols .exit)
+    ensures symbols_then { λ _. ⌜ now (symbols .exit)
         ≡ symbolsOf (codeOf numbers (now (degrees .entry)) (now (columns .entry)) (now (weights .entry)))
         (now (costs .exit)) ⌝ }
 {

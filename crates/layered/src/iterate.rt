@@ -65,10 +65,10 @@ pub fn run(
 ) -> Outcome
     requires { ⌜ RunRoom numbers (now degrees) (now columns) (now weights) true
         (now costs) (now store) (now symbols) (now arrived) (now sent) ⌝ }
-    ensures { λ r. ⌜ endedIn r (lent (now (costs .exit)) (now (store .exit)))
+    ensures ends { λ r. ⌜ endedIn r (lent (now (costs .exit)) (now (store .exit)))
         ≡ goLent (codeOf numbers (now (degrees .entry)) (now (columns .entry)) (now (weights .entry)))
         (numbers .limit) 0 (lent (now (costs .entry)) (now (store .entry))) ⌝ }
-    ensures { λ _. ⌜ now (symbols .exit)
+    ensures symbols_then { λ _. ⌜ now (symbols .exit)
         ≡ symbolsOf (codeOf numbers (now (degrees .entry)) (now (columns .entry)) (now (weights .entry)))
         (now (costs .exit)) ⌝ }
 {

@@ -49,10 +49,10 @@ pub fn decode_counted(
     store: &mut [u8],
     margins: &mut [u16],
 ) -> Counted
-    ensures { λ r. ⌜ Decodes (now (code .entry)) (now (frame .entry))
+    ensures leaves { λ r. ⌜ Decodes (now (code .entry)) (now (frame .entry))
         (lending (now (symbols .entry)) (now (costs .entry)) (now (store .entry)) (now (margins .entry))) (answerReply (r .answer))
         (lending (now (symbols .exit)) (now (costs .exit)) (now (store .exit)) (now (margins .exit))) ⌝ }
-    ensures { λ r. ⌜ (r .columns ≡ columnsRead (numbersOf (parse (now (code .entry))))) × (r .columns ≤ mostSymbols) ⌝ }
+    ensures columns { λ r. ⌜ (r .columns ≡ columnsRead (numbersOf (parse (now (code .entry))))) × (r .columns ≤ mostSymbols) ⌝ }
 {
     let mut degrees = [0u8; sizes::MOST_CHECKS];
     let mut columns = [0u16; sizes::MOST_EDGES];

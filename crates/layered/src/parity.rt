@@ -20,8 +20,8 @@ ghost use Rattle.layered.specs.inner.Parity.{allHold, ParityRoom, FromTo
 // The decision of column c of q costs.
 pub fn decided(costs: &[u16], q: usize, c: usize) -> Decision
     requires { ⌜ c * q + q ≤ length (now costs) ⌝ }
-    ensures { λ r. ⌜ (r .symbol ≡ decideOf (columnOf q (now (costs .entry)) c) .symbol) × (r .symbol ≤ q) ⌝ }
-    ensures { λ r. ⌜ r .margin ≡ decideOf (columnOf q (now (costs .entry)) c) .margin ⌝ }
+    ensures symbol { λ r. ⌜ (r .symbol ≡ decideOf (columnOf q (now (costs .entry)) c) .symbol) × (r .symbol ≤ q) ⌝ }
+    ensures margin { λ r. ⌜ r .margin ≡ decideOf (columnOf q (now (costs .entry)) c) .margin ⌝ }
 {
     let a = c * q;
     let e = a + q;
@@ -141,9 +141,9 @@ pub fn settled(
     symbols: &mut [u8],
 ) -> bool
     requires { ⌜ SettledRoom numbers (now degrees) (now columns) (now weights) (now costs) (now symbols) ⌝ }
-    ensures { λ r. ⌜ r ≡ settledOf (codeOf numbers (now (degrees .entry)) (now (columns .entry)) (now (weights .entry)))
+    ensures test { λ r. ⌜ r ≡ settledOf (codeOf numbers (now (degrees .entry)) (now (columns .entry)) (now (weights .entry)))
         (now (costs .entry)) ⌝ }
-    ensures { λ _. ⌜ now (symbols .exit)
+    ensures symbols_then { λ _. ⌜ now (symbols .exit)
         ≡ symbolsOf (codeOf numbers (now (degrees .entry)) (now (columns .entry)) (now (weights .entry)))
         (now (costs .entry)) ⌝ }
 {

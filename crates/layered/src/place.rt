@@ -31,10 +31,10 @@ pub fn update_at(
 ) -> Place
     requires { ⌜ PlaceRoom numbers (now degrees) (now columns) (now weights) start here
         (now costs) (now store) (now arrived) (now sent) ⌝ }
-    ensures { λ _. ⌜ lent (now (costs .exit)) (now (store .exit))
+    ensures buffers { λ _. ⌜ lent (now (costs .exit)) (now (store .exit))
         ≡ updateLent (codeOf numbers (now (degrees .entry)) (now (columns .entry)) (now (weights .entry)))
         start (here .check) (lent (now (costs .entry)) (now (store .entry))) ⌝ }
-    ensures { λ r. ⌜ Stands (numbers .first) (now (degrees .entry)) (here .check + 1) r ⌝ }
+    ensures next { λ r. ⌜ Stands (numbers .first) (now (degrees .entry)) (here .check + 1) r ⌝ }
 {
     let m = here.check;
     let at = here.edge;

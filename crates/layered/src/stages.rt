@@ -41,12 +41,12 @@ pub fn tested(
 ) -> bool
     requires { ⌜ TestRoom numbers (now degrees) (now columns) (now weights)
         (now costs) (now symbols) (now margins) ⌝ }
-    ensures { λ r. ⌜ r ≡ settled (codeOf numbers (now (degrees .entry)) (now (columns .entry)) (now (weights .entry)))
+    ensures test { λ r. ⌜ r ≡ settled (codeOf numbers (now (degrees .entry)) (now (columns .entry)) (now (weights .entry)))
         (now (costs .entry)) ⌝ }
-    ensures { λ _. ⌜ now (symbols .exit)
+    ensures symbols_then { λ _. ⌜ now (symbols .exit)
         ≡ symbolsOf (codeOf numbers (now (degrees .entry)) (now (columns .entry)) (now (weights .entry)))
         (now (costs .entry)) ⌝ }
-    ensures { λ _. ⌜ now (margins .exit)
+    ensures margins_then { λ _. ⌜ now (margins .exit)
         ≡ marginsOf (codeOf numbers (now (degrees .entry)) (now (columns .entry)) (now (weights .entry)))
         (now (costs .entry)) ⌝ }
 {
@@ -70,15 +70,15 @@ pub fn iterated(
 ) -> bool
     requires { ⌜ StepRoom numbers (now degrees) (now columns) (now weights) start
         (now costs) (now store) (now symbols) (now margins) (now arrived) (now sent) ⌝ }
-    ensures { λ r. ⌜ r ≡ settled (codeOf numbers (now (degrees .entry)) (now (columns .entry)) (now (weights .entry)))
+    ensures test { λ r. ⌜ r ≡ settled (codeOf numbers (now (degrees .entry)) (now (columns .entry)) (now (weights .entry)))
         (now (costs .exit)) ⌝ }
-    ensures { λ _. ⌜ lent (now (costs .exit)) (now (store .exit))
+    ensures buffers { λ _. ⌜ lent (now (costs .exit)) (now (store .exit))
         ≡ iterationLent (codeOf numbers (now (degrees .entry)) (now (columns .entry)) (now (weights .entry)))
         start (lent (now (costs .entry)) (now (store .entry))) ⌝ }
-    ensures { λ _. ⌜ now (symbols .exit)
+    ensures symbols_then { λ _. ⌜ now (symbols .exit)
         ≡ symbolsOf (codeOf numbers (now (degrees .entry)) (now (columns .entry)) (now (weights .entry)))
         (now (costs .exit)) ⌝ }
-    ensures { λ _. ⌜ now (margins .exit)
+    ensures margins_then { λ _. ⌜ now (margins .exit)
         ≡ marginsOf (codeOf numbers (now (degrees .entry)) (now (columns .entry)) (now (weights .entry)))
         (now (costs .exit)) ⌝ }
 {

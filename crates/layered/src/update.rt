@@ -36,8 +36,10 @@ fn recall(first: u8, start: bool, weights: &[u8], bytes: &[u8], out: &mut [u8])
 // The record of the check with these costs, and its sent costs.
 fn send(first: u8, weights: &[u8], costs: &[u8], bytes: &mut [u8], out: &mut [u8])
     requires { ⌜ SendRoom first (now weights) (now costs) (now bytes) (now out) ⌝ }
-    ensures { λ _. ⌜ now (bytes .exit) ≡ recordOf (ruleFor first) (columnsOf (sizeOf first) (now (weights .entry)) (now (costs .entry))) ⌝ }
-    ensures { λ _. ⌜ now (out .exit) ≡ allSent (ruleFor first) (columnsOf (sizeOf first) (now (weights .entry)) (now (costs .entry))) ⌝ }
+    ensures bytes_then { λ _. ⌜ now (bytes .exit)
+        ≡ recordOf (ruleFor first) (columnsOf (sizeOf first) (now (weights .entry)) (now (costs .entry))) ⌝ }
+    ensures out_then { λ _. ⌜ now (out .exit)
+        ≡ allSent (ruleFor first) (columnsOf (sizeOf first) (now (weights .entry)) (now (costs .entry))) ⌝ }
 {
     checknode::messages(first, weights, costs, bytes, out);
 }
@@ -55,10 +57,10 @@ pub fn update(
 )
     requires { ⌜ UpdateRoom (numbers .first) (numbers .scale) start
         (now columns) (now weights) (now costs) (now bytes) (now arrived) (now sent) ⌝ }
-    ensures { λ _. ⌜ now (costs .exit)
+    ensures costs_then { λ _. ⌜ now (costs .exit)
         ≡ costsLent (ruleFor (numbers .first)) (numbers .scale) start
         (edgesOf (now (columns .entry)) (now (weights .entry))) (now (bytes .entry)) (now (costs .entry)) ⌝ }
-    ensures { λ _. ⌜ now (bytes .exit)
+    ensures bytes_then { λ _. ⌜ now (bytes .exit)
         ≡ recordLent (ruleFor (numbers .first)) (numbers .scale) start
         (edgesOf (now (columns .entry)) (now (weights .entry))) (now (bytes .entry)) (now (costs .entry)) ⌝ }
 {

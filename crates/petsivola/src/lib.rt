@@ -74,40 +74,40 @@ pub extern "C" fn petsivola_product(p: u8, a: u8, b: u8) -> u32
 
 #[no_mangle]
 pub extern "C" fn petsivola_check(first: u8, weights: &[u8], costs: &[u8], out: &mut [u8]) -> u32
-    ensures { λ r. ⌜ Packs r (checkReply first (now (weights .entry)) (now (costs .entry)) (now (out .entry))) ⌝ }
-    ensures { λ _. ⌜ now (out .exit) ≡ checkLeaves first (now (weights .entry)) (now (costs .entry)) (now (out .entry)) ⌝ }
+    ensures reply { λ r. ⌜ Packs r (checkReply first (now (weights .entry)) (now (costs .entry)) (now (out .entry))) ⌝ }
+    ensures out_then { λ _. ⌜ now (out .exit) ≡ checkLeaves first (now (weights .entry)) (now (costs .entry)) (now (out .entry)) ⌝ }
 {
     of_written(checknode::check(first, weights, costs, out))
 }
 
 #[no_mangle]
 pub extern "C" fn petsivola_sweep(first: u8, weights: &[u8], costs: &[u8], out: &mut [u8]) -> u32
-    ensures { λ r. ⌜ Packs r (checkReply first (now (weights .entry)) (now (costs .entry)) (now (out .entry))) ⌝ }
-    ensures { λ _. ⌜ now (out .exit) ≡ checkLeaves first (now (weights .entry)) (now (costs .entry)) (now (out .entry)) ⌝ }
+    ensures reply { λ r. ⌜ Packs r (checkReply first (now (weights .entry)) (now (costs .entry)) (now (out .entry))) ⌝ }
+    ensures out_then { λ _. ⌜ now (out .exit) ≡ checkLeaves first (now (weights .entry)) (now (costs .entry)) (now (out .entry)) ⌝ }
 {
     of_written(sweep::sweep(first, weights, costs, out))
 }
 
 #[no_mangle]
 pub extern "C" fn petsivola_expand(first: u8, weights: &[u8], bytes: &[u8], out: &mut [u8]) -> u32
-    ensures { λ r. ⌜ Packs r (expandReply first (now (weights .entry)) (now (bytes .entry)) (now (out .entry))) ⌝ }
-    ensures { λ _. ⌜ now (out .exit) ≡ expandLeaves first (now (weights .entry)) (now (bytes .entry)) (now (out .entry)) ⌝ }
+    ensures reply { λ r. ⌜ Packs r (expandReply first (now (weights .entry)) (now (bytes .entry)) (now (out .entry))) ⌝ }
+    ensures out_then { λ _. ⌜ now (out .exit) ≡ expandLeaves first (now (weights .entry)) (now (bytes .entry)) (now (out .entry)) ⌝ }
 {
     of_written(expansion::expand(first, weights, bytes, out))
 }
 
 #[no_mangle]
 pub extern "C" fn petsivola_display(first: u8, weights: &[u8], bytes: &[u8], out: &mut [u8]) -> u32
-    ensures { λ r. ⌜ Packs r (displayReply first (now (weights .entry)) (now (bytes .entry)) (now (out .entry))) ⌝ }
-    ensures { λ _. ⌜ now (out .exit) ≡ displayLeaves first (now (weights .entry)) (now (bytes .entry)) (now (out .entry)) ⌝ }
+    ensures reply { λ r. ⌜ Packs r (displayReply first (now (weights .entry)) (now (bytes .entry)) (now (out .entry))) ⌝ }
+    ensures out_then { λ _. ⌜ now (out .exit) ≡ displayLeaves first (now (weights .entry)) (now (bytes .entry)) (now (out .entry)) ⌝ }
 {
     of_written(display::display(first, weights, bytes, out))
 }
 
 #[no_mangle]
 pub extern "C" fn petsivola_line(text: &[u8], out: &mut [u8]) -> u32
-    ensures { λ r. ⌜ Packs r (lineReply (now (text .entry)) (now (out .entry))) ⌝ }
-    ensures { λ _. ⌜ now (out .exit) ≡ lineLeaves (now (text .entry)) (now (out .entry)) ⌝ }
+    ensures reply { λ r. ⌜ Packs r (lineReply (now (text .entry)) (now (out .entry))) ⌝ }
+    ensures out_then { λ _. ⌜ now (out .exit) ≡ lineLeaves (now (text .entry)) (now (out .entry)) ⌝ }
 {
     of_written(text::line(text, out))
 }
@@ -128,18 +128,18 @@ pub extern "C" fn petsivola_decode(
     store: &mut [u8],
     margins: &mut [u16],
 ) -> u32
-    ensures { λ r. ⌜ Packs r (decoding (now (code .entry)) (now (frame .entry))
+    ensures reply { λ r. ⌜ Packs r (decoding (now (code .entry)) (now (frame .entry))
         (lending (now (symbols .entry)) (now (costs .entry)) (now (store .entry)) (now (margins .entry))) .reply) ⌝ }
-    ensures { λ _. ⌜ now (symbols .exit)
+    ensures symbols_then { λ _. ⌜ now (symbols .exit)
         ≡ decoding (now (code .entry)) (now (frame .entry))
         (lending (now (symbols .entry)) (now (costs .entry)) (now (store .entry)) (now (margins .entry))) .buffers .symbols ⌝ }
-    ensures { λ _. ⌜ now (costs .exit)
+    ensures costs_then { λ _. ⌜ now (costs .exit)
         ≡ decoding (now (code .entry)) (now (frame .entry))
         (lending (now (symbols .entry)) (now (costs .entry)) (now (store .entry)) (now (margins .entry))) .buffers .costs ⌝ }
-    ensures { λ _. ⌜ now (store .exit)
+    ensures store_then { λ _. ⌜ now (store .exit)
         ≡ decoding (now (code .entry)) (now (frame .entry))
         (lending (now (symbols .entry)) (now (costs .entry)) (now (store .entry)) (now (margins .entry))) .buffers .store ⌝ }
-    ensures { λ _. ⌜ now (margins .exit)
+    ensures margins_then { λ _. ⌜ now (margins .exit)
         ≡ decoding (now (code .entry)) (now (frame .entry))
         (lending (now (symbols .entry)) (now (costs .entry)) (now (store .entry)) (now (margins .entry))) .buffers .margins ⌝ }
 {
@@ -155,18 +155,18 @@ pub extern "C" fn petsivola_decode_early(
     store: &mut [u8],
     margins: &mut [u16],
 ) -> u32
-    ensures { λ r. ⌜ Packs r (decodingEarly (now (code .entry)) (now (frame .entry))
+    ensures reply { λ r. ⌜ Packs r (decodingEarly (now (code .entry)) (now (frame .entry))
         (lending (now (symbols .entry)) (now (costs .entry)) (now (store .entry)) (now (margins .entry))) .reply) ⌝ }
-    ensures { λ _. ⌜ now (symbols .exit)
+    ensures symbols_then { λ _. ⌜ now (symbols .exit)
         ≡ decodingEarly (now (code .entry)) (now (frame .entry))
         (lending (now (symbols .entry)) (now (costs .entry)) (now (store .entry)) (now (margins .entry))) .buffers .symbols ⌝ }
-    ensures { λ _. ⌜ now (costs .exit)
+    ensures costs_then { λ _. ⌜ now (costs .exit)
         ≡ decodingEarly (now (code .entry)) (now (frame .entry))
         (lending (now (symbols .entry)) (now (costs .entry)) (now (store .entry)) (now (margins .entry))) .buffers .costs ⌝ }
-    ensures { λ _. ⌜ now (store .exit)
+    ensures store_then { λ _. ⌜ now (store .exit)
         ≡ decodingEarly (now (code .entry)) (now (frame .entry))
         (lending (now (symbols .entry)) (now (costs .entry)) (now (store .entry)) (now (margins .entry))) .buffers .store ⌝ }
-    ensures { λ _. ⌜ now (margins .exit)
+    ensures margins_then { λ _. ⌜ now (margins .exit)
         ≡ decodingEarly (now (code .entry)) (now (frame .entry))
         (lending (now (symbols .entry)) (now (costs .entry)) (now (store .entry)) (now (margins .entry))) .buffers .margins ⌝ }
 {
@@ -175,8 +175,8 @@ pub extern "C" fn petsivola_decode_early(
 
 #[no_mangle]
 pub extern "C" fn petsivola_encode(code: &[u8], message: &[u8], symbols: &mut [u8]) -> u32
-    ensures { λ r. ⌜ Packs r (encoding (now (code .entry)) (now (message .entry)) (now (symbols .entry)) .reply) ⌝ }
-    ensures { λ _. ⌜ now (symbols .exit) ≡ encoding (now (code .entry)) (now (message .entry)) (now (symbols .entry)) .out ⌝ }
+    ensures reply { λ r. ⌜ Packs r (encoding (now (code .entry)) (now (message .entry)) (now (symbols .entry)) .reply) ⌝ }
+    ensures symbols_then { λ _. ⌜ now (symbols .exit) ≡ encoding (now (code .entry)) (now (message .entry)) (now (symbols .entry)) .out ⌝ }
 {
     of_written(encoder::encode(code, message, symbols))
 }
@@ -257,8 +257,9 @@ pub extern "C" fn petsivola_channels(
 
 #[no_mangle]
 pub extern "C" fn petsivola_combine(code: &[u8], first: &[u8], second: &[u8], out: &mut [u8]) -> u32
-    ensures { λ r. ⌜ Packs r (combining (now (code .entry)) (now (first .entry)) (now (second .entry)) (now (out .entry)) .reply) ⌝ }
-    ensures { λ _. ⌜ now (out .exit) ≡ combining (now (code .entry)) (now (first .entry)) (now (second .entry)) (now (out .entry)) .out ⌝ }
+    ensures reply { λ r. ⌜ Packs r (combining (now (code .entry)) (now (first .entry)) (now (second .entry)) (now (out .entry)) .reply) ⌝ }
+    ensures out_then { λ _. ⌜ now (out .exit)
+        ≡ combining (now (code .entry)) (now (first .entry)) (now (second .entry)) (now (out .entry)) .out ⌝ }
 {
     of_written(combiner::combine(code, first, second, out))
 }

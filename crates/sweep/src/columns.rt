@@ -44,9 +44,9 @@ fn products(p: u8, h: u8, row: &mut [u8])
 fn column(p: u8, h: u8, costs: &[u8], row: &mut [u8], moves: &mut [u16]) -> u8
     requires { ⌜ Times p h ⌝ }
     requires { ⌜ Sized (2 ^ p) (now costs) (now row) (now moves) ⌝ }
-    ensures { λ r. ⌜ r ≡ product p h (firstZero (now (costs .entry))) ⌝ }
-    ensures { λ _. ⌜ now (row .exit) ≡ tab (product p h) (2 ^ p) ⌝ }
-    ensures { λ _. ⌜ now (moves .exit) ≡ tab (moveCost (now (costs .entry)) (firstZero (now (costs .entry)))) (2 ^ p) ⌝ }
+    ensures term { λ r. ⌜ r ≡ product p h (firstZero (now (costs .entry))) ⌝ }
+    ensures row_then { λ _. ⌜ now (row .exit) ≡ tab (product p h) (2 ^ p) ⌝ }
+    ensures moves_then { λ _. ⌜ now (moves .exit) ≡ tab (moveCost (now (costs .entry)) (firstZero (now (costs .entry)))) (2 ^ p) ⌝ }
 {
     products(p, h, row);
     let z = decision::decide_u8(costs).symbol;

@@ -32,8 +32,8 @@ fn put_pair(out: &mut [u8], at: usize, u: u8, v: u8)
 // After c pairs, that of column n, if its cost s is above e. Answers how many pairs there are then.
 fn put_above(out: &mut [u8], c: usize, n: u8, s: u8, e: u8) -> usize
     requires { ⌜ (c ≤ 255) × (pick (ltb e s) (c * 2 + 2) 0 ≤ length (now out)) ⌝ }
-    ensures { λ r. ⌜ r ≡ pick (ltb e s) (c + 1) c ⌝ }
-    ensures { λ _. ⌜ now (out .exit) ≡ pick (ltb e s) (set (set (now (out .entry)) (c * 2) n) (c * 2 + 1) s) (now (out .entry)) ⌝ }
+    ensures count { λ r. ⌜ r ≡ pick (ltb e s) (c + 1) c ⌝ }
+    ensures out_then { λ _. ⌜ now (out .exit) ≡ pick (ltb e s) (set (set (now (out .entry)) (c * 2) n) (c * 2 + 1) s) (now (out .entry)) ⌝ }
 {
     if e < s {
         put_pair(out, c * 2, n, s);
@@ -46,8 +46,8 @@ fn put_above(out: &mut [u8], c: usize, n: u8, s: u8, e: u8) -> usize
 fn pairs(sent: &[u8], q: usize, d: usize, a: usize, e: u8, out: &mut [u8]) -> usize
     requires { ⌜ (length (now sent) ≡ d * q) × ((a < q) × (d ≤ 255)) ⌝ }
     requires { ⌜ length (blocks (pairAbove e (sentOf (now sent) q a)) d) ≤ length (now out) ⌝ }
-    ensures { λ r. ⌜ r ≡ pairCount e (sentOf (now (sent .entry)) q a) d ⌝ }
-    ensures { λ _. ⌜ now (out .exit) ≡ pairsOver e (sentOf (now (sent .entry)) q a) d (now (out .entry)) ⌝ }
+    ensures count { λ r. ⌜ r ≡ pairCount e (sentOf (now (sent .entry)) q a) d ⌝ }
+    ensures out_then { λ _. ⌜ now (out .exit) ≡ pairsOver e (sentOf (now (sent .entry)) q a) d (now (out .entry)) ⌝ }
 {
     let mut c = 0;
     let mut n = 0;

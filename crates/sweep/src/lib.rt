@@ -13,8 +13,8 @@ ghost use Rattle.checknode.specs.Answers.{checkReply, checkLeaves};
 
 // The record of a check, as `check` writes it, by two sweeps; refused as `check` is.
 pub fn sweep(first: u8, weights: &[u8], costs: &[u8], out: &mut [u8]) -> Written
-    ensures { λ r. ⌜ writtenReply r ≡ checkReply first (now (weights .entry)) (now (costs .entry)) (now (out .entry)) ⌝ }
-    ensures { λ _. ⌜ now (out .exit) ≡ checkLeaves first (now (weights .entry)) (now (costs .entry)) (now (out .entry)) ⌝ }
+    ensures reply { λ r. ⌜ writtenReply r ≡ checkReply first (now (weights .entry)) (now (costs .entry)) (now (out .entry)) ⌝ }
+    ensures out_then { λ _. ⌜ now (out .exit) ≡ checkLeaves first (now (weights .entry)) (now (costs .entry)) (now (out .entry)) ⌝ }
 {
     let k = checknode::check_fault(first, weights, costs, out.len());
     if k != 0 {

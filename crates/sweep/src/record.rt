@@ -40,8 +40,8 @@ fn term(first: u8, weights: &[u8], costs: &[u8], n: usize) -> u8
 fn terms(first: u8, weights: &[u8], costs: &[u8], out: &mut [u8]) -> u8
     requires { ⌜ Ready first (now weights) (now costs) ⌝ }
     requires { ⌜ length (now out) ≡ length (now weights) ⌝ }
-    ensures { λ r. ⌜ r ≡ sumTo (termOf (powerOf first) (now (weights .entry)) (now (costs .entry))) (length (now (weights .entry))) ⌝ }
-    ensures { λ _. ⌜ now (out .exit) ≡ termsOf (powerOf first) (now (weights .entry)) (now (costs .entry)) ⌝ }
+    ensures sum { λ r. ⌜ r ≡ sumTo (termOf (powerOf first) (now (weights .entry)) (now (costs .entry))) (length (now (weights .entry))) ⌝ }
+    ensures out_then { λ _. ⌜ now (out .exit) ≡ termsOf (powerOf first) (now (weights .entry)) (now (costs .entry)) ⌝ }
 {
     let mut sum: u8 = 0;
     let mut n = 0;
@@ -87,8 +87,8 @@ fn sweeps(
     requires { ⌜ length (now cells) ≡ cellCount first ⌝ }
     requires { ⌜ length (now before) ≡ length (now weights) * cellCount first ⌝ }
     requires { ⌜ length (now after) ≡ length (now weights) * cellCount first ⌝ }
-    ensures { λ _. ⌜ Swept first (now (weights .entry)) (now (costs .entry)) (now (before .exit)) (now (after .exit)) ⌝ }
-    ensures { λ _. ⌜ KeptCells first (now (weights .entry)) (now (costs .entry)) (now (before .exit)) (now (after .exit)) ⌝ }
+    ensures swept { λ _. ⌜ Swept first (now (weights .entry)) (now (costs .entry)) (now (before .exit)) (now (after .exit)) ⌝ }
+    ensures kept { λ _. ⌜ KeptCells first (now (weights .entry)) (now (costs .entry)) (now (before .exit)) (now (after .exit)) ⌝ }
 {
     columns::fill(first, weights, costs, false, cells, before);
     columns::fill(first, weights, costs, true, cells, after);

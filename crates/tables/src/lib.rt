@@ -40,8 +40,8 @@ pub fn fits(rule: Rule, d: usize) -> bool
 // The shape of the tables: at least sixteen rows, for that many are taken at a time.
 fn shape_of(rule: Rule) -> Shape
     requires { ⌜ ((2 ≤ rule .p) × (rule .p ≤ 6)) × ((2 ≤ rule .k) × (rule .k ≤ 3)) ⌝ }
-    ensures { λ r. ⌜ r ≡ shapeFor (rule .p) (rule .k) (rule .greatest) ⌝ }
-    ensures { λ r. ⌜ Shaped (r .q) (r .l) (r .k) × (4 ≤ r .q) ⌝ }
+    ensures shape { λ r. ⌜ r ≡ shapeFor (rule .p) (rule .k) (rule .greatest) ⌝ }
+    ensures fits { λ r. ⌜ Shaped (r .q) (r .l) (r .k) × (4 ≤ r .q) ⌝ }
 {
     let q = 1usize << rule.p;
     let l = scalar::max_usize(16, q);

@@ -46,8 +46,8 @@ fn rise_both(
     requires { ⌜
         ((1 ≤ j) × (j < shape .k)) × ((length (now before) ≡ shape .k * shape .l) × (length (now after) ≡ shape .k * shape .l)) ⌝ }
     requires { ⌜ (length (now line) ≡ shape .l) × ((length (now c) ≡ 16 * shape .l) × (length (now out) ≡ shape .l)) ⌝ }
-    ensures { λ _. ⌜ now (before .exit) ≡ on shape risenIn (now (line .entry)) (now (before .entry)) j ⌝ }
-    ensures { λ _. ⌜ now (out .exit) ≡ on shape metIn (now (before .entry)) (now (after .entry)) (now (out .entry)) j ⌝ }
+    ensures before_then { λ _. ⌜ now (before .exit) ≡ on shape risenIn (now (line .entry)) (now (before .entry)) j ⌝ }
+    ensures out_then { λ _. ⌜ now (out .exit) ≡ on shape metIn (now (before .entry)) (now (after .entry)) (now (out .entry)) j ⌝ }
 {
     let l = shape.l;
     let m = rests::part_at(j, shape.k, l);
@@ -64,8 +64,8 @@ fn pass(shape: Shape, after: &[u8], line: &[u8], before: &mut [u8], c: &mut [u8]
     requires { ⌜ Shaped (shape .q) (shape .l) (shape .k) ⌝ }
     requires { ⌜ (length (now before) ≡ shape .k * shape .l) × (length (now after) ≡ shape .k * shape .l) ⌝ }
     requires { ⌜ (length (now line) ≡ shape .l) × ((length (now c) ≡ 16 * shape .l) × (length (now out) ≡ shape .l)) ⌝ }
-    ensures { λ _. ⌜ now (before .exit) ≡ on shape grownList (now (line .entry)) (now (before .entry)) ⌝ }
-    ensures { λ _. ⌜ now (out .exit) ≡ on shape sentTo (now (before .entry)) (now (after .entry)) (shape .k - 1) ⌝ }
+    ensures before_then { λ _. ⌜ now (before .exit) ≡ on shape grownList (now (line .entry)) (now (before .entry)) ⌝ }
+    ensures out_then { λ _. ⌜ now (out .exit) ≡ on shape sentTo (now (before .entry)) (now (after .entry)) (shape .k - 1) ⌝ }
 {
     let l = shape.l;
     apart(shape, before, after, out);
@@ -92,9 +92,9 @@ fn pass_at(
     requires { ⌜ ((1 ≤ n) × (n + 1 < d)) × ((d ≤ mostDegree) × (length (now lines) ≡ d * shape .l)) ⌝ }
     requires { ⌜ (length (now before) ≡ shape .k * shape .l) × (length (now after) ≡ (d - 1) * (shape .k * shape .l)) ⌝ }
     requires { ⌜ (length (now c) ≡ 16 * shape .l) × (length (now out) ≡ d * shape .l) ⌝ }
-    ensures { λ _. ⌜
+    ensures before_then { λ _. ⌜
         now (before .exit) ≡ on shape grownList (part (now (lines .entry)) (n * shape .l) (shape .l)) (now (before .entry)) ⌝ }
-    ensures { λ _. ⌜
+    ensures out_then { λ _. ⌜
         now (out .exit)
         ≡ patch (now (out .entry)) (n * shape .l) (shape .l)
         (on shape sentTo (now (before .entry))
@@ -129,8 +129,8 @@ fn first(shape: Shape, d: usize, lines: &[u8], after: &[u8], before: &mut [u8], 
     requires { ⌜ Shaped (shape .q) (shape .l) (shape .k) ⌝ }
     requires { ⌜ ((2 ≤ d) × (d ≤ mostDegree)) × ((length (now lines) ≡ d * shape .l) × (length (now out) ≡ d * shape .l)) ⌝ }
     requires { ⌜ (length (now before) ≡ shape .k * shape .l) × (length (now after) ≡ (d - 1) * (shape .k * shape .l)) ⌝ }
-    ensures { λ _. ⌜ now (before .exit) ≡ on shape beforeTo (now (lines .entry)) 0 ⌝ }
-    ensures { λ _. ⌜
+    ensures before_then { λ _. ⌜ now (before .exit) ≡ on shape beforeTo (now (lines .entry)) 0 ⌝ }
+    ensures out_then { λ _. ⌜
         now (out .exit)
         ≡ patch (now (out .entry)) (0 * shape .l) (shape .l)
         (lastTable (shape .l) (shape .k) (part (now (after .entry)) ((d - 2) * (shape .k * shape .l)) (shape .k * shape .l))) ⌝ }

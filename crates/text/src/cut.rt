@@ -29,8 +29,8 @@ fn newline(bytes: &[u8], at: usize) -> usize
 // A part of a line, as far as there is room: 32,769 bytes are enough to refuse the line by 15.
 fn keep(st: State, part: &[u8], line: &mut [u8]) -> State
     requires { ⌜ length (now line) ≡ 32769 ⌝ }
-    ensures { λ r. ⌜ KeepsPart st (now (line .entry)) (now (part .entry)) r (now (line .exit)) ⌝ }
-    ensures { λ r. ⌜ (r .full ≡ st .full) × (r .ended ≡ st .ended) ⌝ }
+    ensures held { λ r. ⌜ KeepsPart st (now (line .entry)) (now (part .entry)) r (now (line .exit)) ⌝ }
+    ensures full { λ r. ⌜ (r .full ≡ st .full) × (r .ended ≡ st .ended) ⌝ }
 {
     let len = st.len;
     if sizes::LINE_ROOM <= len {
@@ -52,11 +52,11 @@ fn whole(st: State, part: &[u8], line: &mut [u8], code: &mut [u8], out: &mut [u8
     requires { ⌜ (length (now line) ≡ lineRoom) × ((length (now code) ≡ mostLineBytes)
         × ((st .ended ≡ false) × (toNewline (now part) ≡ length (now part)))) ⌝ }
     requires { ⌜ st .full + length (fedOut (keptOf (heldIn st (now line) (now code))) (now part ++ (0x0A ∷ []))) ≤ length (now out) ⌝ }
-    ensures { λ r. ⌜ heldIn r (now (line .exit)) (now (code .exit))
+    ensures held { λ r. ⌜ heldIn r (now (line .exit)) (now (code .exit))
         ≡ fedHeld (heldIn st (now (line .entry)) (now (code .entry))) (now (part .entry) ++ (0x0A ∷ [])) ⌝ }
-    ensures { λ r. ⌜ r .full ≡ st .full + length (fedOut (keptOf (heldIn st (now (line .entry)) (now (code .entry))))
+    ensures full { λ r. ⌜ r .full ≡ st .full + length (fedOut (keptOf (heldIn st (now (line .entry)) (now (code .entry))))
         (now (part .entry) ++ (0x0A ∷ []))) ⌝ }
-    ensures { λ _. ⌜ now (out .exit)
+    ensures out_then { λ _. ⌜ now (out .exit)
         ≡ putAt (now (out .entry)) (st .full) (fedOut (keptOf (heldIn st (now (line .entry)) (now (code .entry))))
         (now (part .entry) ++ (0x0A ∷ []))) ⌝ }
 {
@@ -68,10 +68,10 @@ fn whole(st: State, part: &[u8], line: &mut [u8], code: &mut [u8], out: &mut [u8
 fn feed_over(st: State, bytes: &[u8], line: &mut [u8], code: &mut [u8], out: &mut [u8]) -> State
     requires { ⌜ (length (now line) ≡ lineRoom) × ((length (now code) ≡ mostLineBytes)
         × ((st .full ≡ 0) × (512 + 5 * length (now bytes) ≤ length (now out)))) ⌝ }
-    ensures { λ r. ⌜ heldIn r (now (line .exit)) (now (code .exit))
+    ensures held { λ r. ⌜ heldIn r (now (line .exit)) (now (code .exit))
         ≡ fedHeld (heldIn st (now (line .entry)) (now (code .entry))) (now (bytes .entry)) ⌝ }
-    ensures { λ r. ⌜ r .full ≡ length (fedOut (keptOf (heldIn st (now (line .entry)) (now (code .entry)))) (now (bytes .entry))) ⌝ }
-    ensures { λ _. ⌜ now (out .exit)
+    ensures full { λ r. ⌜ r .full ≡ length (fedOut (keptOf (heldIn st (now (line .entry)) (now (code .entry)))) (now (bytes .entry))) ⌝ }
+    ensures out_then { λ _. ⌜ now (out .exit)
         ≡ putAt (now (out .entry)) 0 (fedOut (keptOf (heldIn st (now (line .entry)) (now (code .entry)))) (now (bytes .entry))) ⌝ }
 {
     let mut s = st;
@@ -100,11 +100,11 @@ pub fn feed_in(
 ) -> State
     requires { ⌜ (length (now line) ≡ lineRoom) × ((length (now code) ≡ mostLineBytes)
         × ((n ≤ length (now block)) × (512 + 5 * n ≤ length (now out)))) ⌝ }
-    ensures { λ r. ⌜ heldIn r (now (line .exit)) (now (code .exit))
+    ensures held { λ r. ⌜ heldIn r (now (line .exit)) (now (code .exit))
         ≡ fedHeld (heldIn st (now (line .entry)) (now (code .entry))) (take n (now (block .entry))) ⌝ }
-    ensures { λ r. ⌜ r .full
+    ensures full { λ r. ⌜ r .full
         ≡ length (fedOut (keptOf (heldIn st (now (line .entry)) (now (code .entry)))) (take n (now (block .entry)))) ⌝ }
-    ensures { λ _. ⌜ now (out .exit)
+    ensures out_then { λ _. ⌜ now (out .exit)
         ≡ putAt (now (out .entry)) 0 (fedOut (keptOf (heldIn st (now (line .entry)) (now (code .entry)))) (take n (now (block .entry)))) ⌝ }
 {
     let s = State {
@@ -132,9 +132,9 @@ fn silent(st: State) -> bool
 // The end of the input: what is printed for what is kept, and how many bytes that are.
 pub fn close_in(st: State, line: &[u8], code: &mut [u8], out: &mut [u8]) -> usize
     requires { ⌜ (length (now line) ≡ lineRoom) × ((length (now code) ≡ mostLineBytes) × (length (now out) ≡ mostPrinted)) ⌝ }
-    ensures { λ r. ⌜ r ≡ length (closeOut (keptOf (heldIn st (now (line .entry)) (now (code .entry))))) ⌝ }
-    ensures { λ _. ⌜ now (code .exit) ≡ closeHeld (heldIn st (now (line .entry)) (now (code .entry))) .bytes ⌝ }
-    ensures { λ _. ⌜ now (out .exit)
+    ensures written { λ r. ⌜ r ≡ length (closeOut (keptOf (heldIn st (now (line .entry)) (now (code .entry))))) ⌝ }
+    ensures code_then { λ _. ⌜ now (code .exit) ≡ closeHeld (heldIn st (now (line .entry)) (now (code .entry))) .bytes ⌝ }
+    ensures out_then { λ _. ⌜ now (out .exit)
         ≡ putAt (now (out .entry)) 0 (closeOut (keptOf (heldIn st (now (line .entry)) (now (code .entry))))) ⌝ }
 {
     if silent(st) {

@@ -70,8 +70,8 @@ pub fn fill(text: &[u8], out: &mut [u8])
 
 // "Line: 15, 14, 2."; nothing is written before the last of these is tested.
 pub fn line(text: &[u8], out: &mut [u8]) -> Written
-    ensures { λ r. ⌜ writtenReply r ≡ lineReply (now (text .entry)) (now (out .entry)) ⌝ }
-    ensures { λ _. ⌜ now (out .exit) ≡ lineLeaves (now (text .entry)) (now (out .entry)) ⌝ }
+    ensures reply { λ r. ⌜ writtenReply r ≡ lineReply (now (text .entry)) (now (out .entry)) ⌝ }
+    ensures out_then { λ _. ⌜ now (out .exit) ≡ lineLeaves (now (text .entry)) (now (out .entry)) ⌝ }
 {
     if sizes::MOST_LINE < text.len() {
         return Written::Refused(15);

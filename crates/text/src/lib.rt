@@ -20,8 +20,8 @@ ghost use Rattle.text.specs.inner.Held.{heldIn, keptOf, putAt, fedHeld, 
 
 // The bytes of a line of text. "Line: 15, 14, 2."; nothing is written before the last of these is tested.
 pub fn line(text: &[u8], out: &mut [u8]) -> Written
-    ensures { λ r. ⌜ writtenReply r ≡ lineReply (now (text .entry)) (now (out .entry)) ⌝ }
-    ensures { λ _. ⌜ now (out .exit) ≡ lineLeaves (now (text .entry)) (now (out .entry)) ⌝ }
+    ensures reply { λ r. ⌜ writtenReply r ≡ lineReply (now (text .entry)) (now (out .entry)) ⌝ }
+    ensures out_then { λ _. ⌜ now (out .exit) ≡ lineLeaves (now (text .entry)) (now (out .entry)) ⌝ }
 {
     hex::line(text, out)
 }
@@ -29,8 +29,8 @@ pub fn line(text: &[u8], out: &mut [u8]) -> Written
 // The line that the program prints for a frame's line of text, with its end, and how many bytes it has. The longest has 517 bytes: 256
 // symbols, and 2 + 2 + 1.
 pub fn frame_line(code: &[u8], text: &[u8], out: &mut [u8; sizes::MOST_PRINTED]) -> usize
-    ensures { λ r. ⌜ r ≡ length (frameLine (now (code .entry)) (now (text .entry))) ⌝ }
-    ensures { λ _. ⌜ now (out .exit)
+    ensures written { λ r. ⌜ r ≡ length (frameLine (now (code .entry)) (now (text .entry))) ⌝ }
+    ensures out_then { λ _. ⌜ now (out .exit)
         ≡ frameLine (now (code .entry)) (now (text .entry))
         ++ drop (length (frameLine (now (code .entry)) (now (text .entry)))) (now (out .entry)) ⌝ }
 {
@@ -47,11 +47,11 @@ pub fn feed(
     code: &mut [u8; sizes::MOST_LINE_BYTES],
     out: &mut [u8; sizes::MOST_BLOCK_PRINTED],
 ) -> State
-    ensures { λ r. ⌜ heldIn r (now (line .exit)) (now (code .exit))
+    ensures held { λ r. ⌜ heldIn r (now (line .exit)) (now (code .exit))
         ≡ fedHeld (heldIn st (now (line .entry)) (now (code .entry))) (take n (now (block .entry))) ⌝ }
-    ensures { λ r. ⌜ r .full
+    ensures full { λ r. ⌜ r .full
         ≡ length (fedOut (keptOf (heldIn st (now (line .entry)) (now (code .entry)))) (take n (now (block .entry)))) ⌝ }
-    ensures { λ _. ⌜ now (out .exit)
+    ensures out_then { λ _. ⌜ now (out .exit)
         ≡ putAt (now (out .entry)) 0 (fedOut (keptOf (heldIn st (now (line .entry)) (now (code .entry)))) (take n (now (block .entry)))) ⌝ }
 {
     let k = scalar::min_usize(n, sizes::MOST_BLOCK);
@@ -66,9 +66,9 @@ pub fn close(
     code: &mut [u8; sizes::MOST_LINE_BYTES],
     out: &mut [u8; sizes::MOST_PRINTED],
 ) -> usize
-    ensures { λ r. ⌜ r ≡ length (closeOut (keptOf (heldIn st (now (line .entry)) (now (code .entry))))) ⌝ }
-    ensures { λ _. ⌜ now (code .exit) ≡ closeHeld (heldIn st (now (line .entry)) (now (code .entry))) .bytes ⌝ }
-    ensures { λ _. ⌜ now (out .exit)
+    ensures written { λ r. ⌜ r ≡ length (closeOut (keptOf (heldIn st (now (line .entry)) (now (code .entry))))) ⌝ }
+    ensures code_then { λ _. ⌜ now (code .exit) ≡ closeHeld (heldIn st (now (line .entry)) (now (code .entry))) .bytes ⌝ }
+    ensures out_then { λ _. ⌜ now (out .exit)
         ≡ putAt (now (out .entry)) 0 (closeOut (keptOf (heldIn st (now (line .entry)) (now (code .entry))))) ⌝ }
 {
     cut::close_in(st, line, code, out)

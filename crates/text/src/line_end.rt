@@ -20,8 +20,8 @@ ghost use Rattle.text.specs.inner.Held.{heldIn, keptOf, putAt, codeBytes
 // Puts the first n bytes of a row into the output.
 fn put(row: &[u8], n: usize, out: &mut [u8], full: usize) -> usize
     requires { ⌜ (n ≤ length (now row)) × (full + n ≤ length (now out)) ⌝ }
-    ensures { λ r. ⌜ r ≡ full + n ⌝ }
-    ensures { λ _. ⌜ now (out .exit) ≡ putAt (now (out .entry)) full (take n (now (row .entry))) ⌝ }
+    ensures written { λ r. ⌜ r ≡ full + n ⌝ }
+    ensures out_then { λ _. ⌜ now (out .exit) ≡ putAt (now (out .entry)) full (take n (now (row .entry))) ⌝ }
 {
     let e = full + n;
     slices::copy_u8(&row[..n], &mut out[full..e]);
@@ -37,8 +37,8 @@ fn print_in(
     full: usize,
 ) -> usize
     requires { ⌜ full + length (frameLine (now code) (now text)) ≤ length (now out) ⌝ }
-    ensures { λ r. ⌜ r ≡ full + length (frameLine (now (code .entry)) (now (text .entry))) ⌝ }
-    ensures { λ _. ⌜ now (out .exit) ≡ putAt (now (out .entry)) full (frameLine (now (code .entry)) (now (text .entry))) ⌝ }
+    ensures written { λ r. ⌜ r ≡ full + length (frameLine (now (code .entry)) (now (text .entry))) ⌝ }
+    ensures out_then { λ _. ⌜ now (out .exit) ≡ putAt (now (out .entry)) full (frameLine (now (code .entry)) (now (text .entry))) ⌝ }
 {
     let n = print::frame_line(code, text, row);
     put(row, n, out, full)
@@ -46,8 +46,8 @@ fn print_in(
 
 fn print(code: &[u8], text: &[u8], out: &mut [u8], full: usize) -> usize
     requires { ⌜ full + length (frameLine (now code) (now text)) ≤ length (now out) ⌝ }
-    ensures { λ r. ⌜ r ≡ full + length (frameLine (now (code .entry)) (now (text .entry))) ⌝ }
-    ensures { λ _. ⌜ now (out .exit) ≡ putAt (now (out .entry)) full (frameLine (now (code .entry)) (now (text .entry))) ⌝ }
+    ensures written { λ r. ⌜ r ≡ full + length (frameLine (now (code .entry)) (now (text .entry))) ⌝ }
+    ensures out_then { λ _. ⌜ now (out .exit) ≡ putAt (now (out .entry)) full (frameLine (now (code .entry)) (now (text .entry))) ⌝ }
 {
     let mut row = [0u8; sizes::MOST_PRINTED];
     print_in(code, text, &mut row, out, full)
@@ -56,8 +56,8 @@ fn print(code: &[u8], text: &[u8], out: &mut [u8], full: usize) -> usize
 // The bytes of the code line; none if the line is refused.
 fn code_bytes(text: &[u8], code: &mut [u8]) -> usize
     requires { ⌜ length (now code) ≡ mostLineBytes ⌝ }
-    ensures { λ r. ⌜ (r ≡ length (codeBytes (now (text .entry)))) × (r ≤ mostLineBytes) ⌝ }
-    ensures { λ _. ⌜ now (code .exit)
+    ensures written { λ r. ⌜ (r ≡ length (codeBytes (now (text .entry)))) × (r ≤ mostLineBytes) ⌝ }
+    ensures code_then { λ _. ⌜ now (code .exit)
         ≡ codeBytes (now (text .entry)) ++ drop (length (codeBytes (now (text .entry)))) (now (code .entry)) ⌝ }
 {
     match hex::line(text, code) {
@@ -78,12 +78,13 @@ fn accepted(code: &[u8]) -> bool
 // The code line read to its end: "a refused code line ends the program".
 fn finish_code(text: &[u8], code: &mut [u8], out: &mut [u8], full: usize) -> State
     requires { ⌜ (length (now code) ≡ mostLineBytes) × (full + length (codeOut (readCode (now text))) ≤ length (now out)) ⌝ }
-    ensures { λ r. ⌜ (r .len ≡ 0) × ((r .code ≡ pick (accepts (codeBytes (now (text .entry)))) (length (codeBytes (now (text .entry)))) 0)
+    ensures held { λ r. ⌜ (r .len ≡ 0)
+        × ((r .code ≡ pick (accepts (codeBytes (now (text .entry)))) (length (codeBytes (now (text .entry)))) 0)
         × (r .ended ≡ not (accepts (codeBytes (now (text .entry)))))) ⌝ }
-    ensures { λ r. ⌜ r .full ≡ full + length (codeOut (readCode (now (text .entry)))) ⌝ }
-    ensures { λ _. ⌜ now (code .exit)
+    ensures full { λ r. ⌜ r .full ≡ full + length (codeOut (readCode (now (text .entry)))) ⌝ }
+    ensures code_then { λ _. ⌜ now (code .exit)
         ≡ codeBytes (now (text .entry)) ++ drop (length (codeBytes (now (text .entry)))) (now (code .entry)) ⌝ }
-    ensures { λ _. ⌜ now (out .exit) ≡ putAt (now (out .entry)) full (codeOut (readCode (now (text .entry)))) ⌝ }
+    ensures out_then { λ _. ⌜ now (out .exit) ≡ putAt (now (out .entry)) full (codeOut (readCode (now (text .entry)))) ⌝ }
 {
     let n = code_bytes(text, code);
     if accepted(&code[..n]) {
@@ -107,9 +108,10 @@ fn finish_code(text: &[u8], code: &mut [u8], out: &mut [u8], full: usize) -> Sta
 pub fn finish_line(st: State, line: &[u8], code: &mut [u8], out: &mut [u8]) -> State
     requires { ⌜ (length (now line) ≡ lineRoom) × ((length (now code) ≡ mostLineBytes) × ((st .ended ≡ false)
         × (st .full + length (lineFinishedOut (keptOf (heldIn st (now line) (now code)))) ≤ length (now out)))) ⌝ }
-    ensures { λ r. ⌜ heldIn r (now (line .entry)) (now (code .exit)) ≡ finishedHeld (heldIn st (now (line .entry)) (now (code .entry))) ⌝ }
-    ensures { λ r. ⌜ r .full ≡ st .full + length (lineFinishedOut (keptOf (heldIn st (now (line .entry)) (now (code .entry))))) ⌝ }
-    ensures { λ _. ⌜ now (out .exit)
+    ensures held { λ r. ⌜ heldIn r (now (line .entry)) (now (code .exit))
+        ≡ finishedHeld (heldIn st (now (line .entry)) (now (code .entry))) ⌝ }
+    ensures full { λ r. ⌜ r .full ≡ st .full + length (lineFinishedOut (keptOf (heldIn st (now (line .entry)) (now (code .entry))))) ⌝ }
+    ensures out_then { λ _. ⌜ now (out .exit)
         ≡ putAt (now (out .entry)) (st .full) (lineFinishedOut (keptOf (heldIn st (now (line .entry)) (now (code .entry))))) ⌝ }
 {
     let t = scalar::min_usize(st.len, sizes::LINE_ROOM);

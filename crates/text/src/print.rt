@@ -50,8 +50,8 @@ fn put_all(bytes: &[u8], out: &mut [u8])
 // "status, t, then the symbols"; the bytes written.
 fn put_line(status: u8, t: u8, symbols: &[u8], out: &mut [u8]) -> usize
     requires { ⌜ length (now symbols) * 2 + 5 ≤ length (now out) ⌝ }
-    ensures { λ r. ⌜ r ≡ length (asLine (status ∷ t ∷ now (symbols .entry))) ⌝ }
-    ensures { λ _. ⌜ now (out .exit) ≡ over (asLine (status ∷ t ∷ now (symbols .entry))) (now (out .entry)) ⌝ }
+    ensures written { λ r. ⌜ r ≡ length (asLine (status ∷ t ∷ now (symbols .entry))) ⌝ }
+    ensures out_then { λ _. ⌜ now (out .exit) ≡ over (asLine (status ∷ t ∷ now (symbols .entry))) (now (out .entry)) ⌝ }
 {
     put(status, &mut out[..2]);
     put(t, &mut out[2..4]);
@@ -62,8 +62,8 @@ fn put_line(status: u8, t: u8, symbols: &[u8], out: &mut [u8]) -> usize
 // "A refused line prints its number as such a byte (12 as 0C) and 00 only".
 fn answer(a: Answer, symbols: &[u8], out: &mut [u8]) -> usize
     requires { ⌜ (length (now symbols) * 2 + 5 ≤ length (now out)) × (answerReply a .value ≤ 255) ⌝ }
-    ensures { λ r. ⌜ r ≡ length (printed (said (answerReply a) (now (symbols .entry)))) ⌝ }
-    ensures { λ _. ⌜ now (out .exit) ≡ over (printed (said (answerReply a) (now (symbols .entry)))) (now (out .entry)) ⌝ }
+    ensures written { λ r. ⌜ r ≡ length (printed (said (answerReply a) (now (symbols .entry)))) ⌝ }
+    ensures out_then { λ _. ⌜ now (out .exit) ≡ over (printed (said (answerReply a) (now (symbols .entry)))) (now (out .entry)) ⌝ }
 {
     match a {
         Answer::Refused(k) => put_line(k, 0, &symbols[..0], out),
@@ -86,8 +86,9 @@ fn frame_in(
     out: &mut [u8],
 ) -> usize
     requires { ⌜ DecodeRoom (now symbols) (now costs) (now store) (now margins) × (length (now out) ≡ mostPrinted) ⌝ }
-    ensures { λ r. ⌜ r ≡ length (printed (ofFrame (parse (now (code .entry))) (now (frame .entry)))) ⌝ }
-    ensures { λ _. ⌜ now (out .exit) ≡ over (printed (ofFrame (parse (now (code .entry))) (now (frame .entry)))) (now (out .entry)) ⌝ }
+    ensures written { λ r. ⌜ r ≡ length (printed (ofFrame (parse (now (code .entry))) (now (frame .entry)))) ⌝ }
+    ensures out_then { λ _. ⌜ now (out .exit)
+        ≡ over (printed (ofFrame (parse (now (code .entry))) (now (frame .entry)))) (now (out .entry)) ⌝ }
 {
     let d = layered::decode_counted(code, frame, symbols, costs, store, margins);
     let a = d.answer;
@@ -108,8 +109,8 @@ pub fn text_in(
 ) -> usize
     requires { ⌜ (length (now bytes) ≡ mostLineBytes)
         × (DecodeRoom (now symbols) (now costs) (now store) (now margins) × (length (now out) ≡ mostPrinted)) ⌝ }
-    ensures { λ r. ⌜ r ≡ length (frameLine (now (code .entry)) (now (text .entry))) ⌝ }
-    ensures { λ _. ⌜ now (out .exit) ≡ over (frameLine (now (code .entry)) (now (text .entry))) (now (out .entry)) ⌝ }
+    ensures written { λ r. ⌜ r ≡ length (frameLine (now (code .entry)) (now (text .entry))) ⌝ }
+    ensures out_then { λ _. ⌜ now (out .exit) ≡ over (frameLine (now (code .entry)) (now (text .entry))) (now (out .entry)) ⌝ }
 {
     match hex::line(text, bytes) {
         Written::Refused(k) => answer(Answer::Refused(k), &symbols[..0], out),
@@ -119,8 +120,8 @@ pub fn text_in(
 
 // The same in an array for the longest line, with the room that a decoding takes.
 pub fn frame_line(code: &[u8], text: &[u8], out: &mut [u8; sizes::MOST_PRINTED]) -> usize
-    ensures { λ r. ⌜ r ≡ length (frameLine (now (code .entry)) (now (text .entry))) ⌝ }
-    ensures { λ _. ⌜ now (out .exit)
+    ensures written { λ r. ⌜ r ≡ length (frameLine (now (code .entry)) (now (text .entry))) ⌝ }
+    ensures out_then { λ _. ⌜ now (out .exit)
         ≡ frameLine (now (code .entry)) (now (text .entry))
         ++ drop (length (frameLine (now (code .entry)) (now (text .entry)))) (now (out .entry)) ⌝ }
 {
