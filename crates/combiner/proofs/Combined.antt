@@ -1,23 +1,21 @@
 -- The loops over the columns, and the tests in their order, are machine's combining.
 use mathlib.Core.Path.{_≡_, refl, sym, ap, ap₂, _∙_}
-use mathlib.Core.Bool.{true}
 use mathlib.Core.List.{List, _++_, map, Memᴰ·map}
 use Prim.Native.Nat.{ℕ, _+_, _-_, _*_, _≤_, _<_, min}
 use native.Mathlib.Nat.{add-sub-cancel-left, mul-le-mul-right}
 use native.Mathlib.Omega.{arith}
-use lib.ListN.{length, drop, length-append, length-drop}
+use lib.ListN.{length, drop}
 use lib.Pow.{pow-pos}
 use borrow.Author.Tests.{eq-eqb, ne-eqb, lt-ltb, le-ltb}
-use Rattle.trellis.specs.Lists.{upTo, smallest, tab, part, patch, blocks}
-use Rattle.trellis.specs.Rules.{sizeOf, firstOk}
+use Rattle.trellis.specs.Lists.{upTo, smallest, tab, part, patch}
+use Rattle.trellis.specs.Rules.{sizeOf}
 use Rattle.trellis.specs.Reply.{accepted, refusal}
 use Rattle.trellis.proofs.Lists.{in-upTo, smallest-le}
-use Rattle.trellis.proofs.Loops.{tab-whole, length-even, block-more, block-end}
+use Rattle.trellis.proofs.Loops.{tab-whole, block-start, block-length, block-more, block-end}
 use Rattle.machine.specs.CodeLine.{good, Code, columnOf, parse, numbersOf, frameFault}
 use Rattle.machine.specs.Combining.{bothCosts, combinedColumn, combinedTo, combineFault, combiningUnder, combining}
 use Rattle.machine.proofs.Faults.{combine-by}
 use Rattle.machine.proofs.Lists.{map-after}
-use Rattle.machine.proofs.Lines.{parse-good}
 use Rattle.machine.proofs.Ranges.{frame-fits}
 use Rattle.machine.proofs.Combining.{length-combined, fault-none}
 use Rattle.codeline.specs.declared.answers.Header.{Header}
@@ -70,7 +68,7 @@ module _ (f g d : List ℕ) (q n : ℕ) (ld : length d ≡ n * q) (some : 0 < q)
 
   pub all-start : d ≡ combinedTo q f g 0 ++ drop (0 * q) d
   unfolding combinedTo
-  all-start = let e : 0 * q ≡ 0 = omega arith in rw e
+  all-start = block-start at q full d
 
   pub all-turn : (now : List ℕ) (c : ℕ) → now ≡ combinedTo q f g c ++ drop (c * q) d → patch now (c * q) q (at c) ≡ combinedTo q f g (c + 1) ++ drop ((c + 1) * q) d
   unfolding combinedTo
@@ -78,7 +76,7 @@ module _ (f g d : List ℕ) (q n : ℕ) (ld : length d ≡ n * q) (some : 0 < q)
 
   pub all-length : (c : ℕ) → c ≤ n → length (combinedTo q f g c ++ drop (c * q) d) ≡ length d
   unfolding combinedTo
-  all-length c h = rw (length-append (blocks at c), length-even at q full c, length-drop) (omega (arith, mul-le-mul-right q h))
+  all-length c h = block-length at q full d c (omega (arith, mul-le-mul-right q h))
 
   pub all-done : (now : List ℕ) (c : ℕ) → c ≡ n → now ≡ combinedTo q f g c ++ drop (c * q) d → now ≡ combinedTo q f g n
   unfolding combinedTo

@@ -115,6 +115,13 @@ module _ (f : ℕ → List ℕ) (w : ℕ) (full : (j : ℕ) → length (f j) ≡
   length-even zero = omega (arith, zero-mul w)
   length-even (suc n) = simp (length-append, length-even n, full n) (omega (arith, suc-mul n w))
 
+  -- before the first, and how long the whole is
+  pub block-start : (l : List ℕ) → l ≡ blocks f 0 ++ drop (0 * w) l
+  block-start l = rw zero-mul
+
+  pub block-length : (l : List ℕ) (i : ℕ) → i * w ≤ length l → length (blocks f i ++ drop (i * w) l) ≡ length l
+  block-length l i h = rw (length-append (blocks f i), length-even i, length-drop) (omega arith)
+
   pub block-room : (i n : ℕ) → i < n → i * w + w ≤ n * w
   block-room i n h = rw suc-mul at (mul-le-mul-right w h)
 
