@@ -20,9 +20,9 @@ use Rattle.machine.specs.Moments.{Moment, moment, stateAfter, further, gone}
 use Rattle.machine.specs.inner.Accepted.{GoodCode}
 use Rattle.machine.specs.inner.InRange.{Below}
 use Rattle.machine.proofs.Ranges.{frame-ranged}
-use Rattle.machine.proofs.Lent.{lentOf, held-none, held-end, iteration-stands, Ready}
+use Rattle.machine.proofs.Lent.{lentOf, held-none, held-end, iteration-stands, ReadyState}
 use Rattle.machine.proofs.Buffers.{holding-again}
-use Rattle.machine.proofs.Resume.{at, Sound, iteration-sound}
+use Rattle.machine.proofs.Resume.{at, SoundState, iteration-sound}
 use Rattle.channels.specs.Channels.{after, finished, spentIn, answer, received}
 use Rattle.channels.specs.inner.Rounds.{opened, nextIteration, statusOf}
 use Rattle.channels.proofs.Alone.{after-t, after-suc, received-is}
@@ -37,19 +37,19 @@ module _ (C : Code) (G : GoodCode C) (f : List ℕ) (own : Buffers) (fits : fram
   no-last : (m : ℕ) → m < length (C .checks) → lastOf (start C f) m ≡ none
   no-last m h = getD-replicate (length (C .checks)) m none none h
 
-  start-ready : Ready C G (own .store) (room .for-store) (start C f)
+  start-ready : ReadyState C G (own .store) (room .for-store) (start C f)
   start-ready = record { kept = record { full = length-replicate (length (C .checks)) none; fine = λ m h. rw (no-last m h) tt }; when = no-last }
 
   after-first : after C f 0 ≡ start C f
   unfolding after
   after-first = refl
 
-  after-sound : (j : ℕ) → Sound C G own room (after C f j)
+  after-sound : (j : ℕ) → SoundState C G own room (after C f j)
   after-sound zero = rw after-first record { ready = start-ready; ranged = frame-ranged C f fits bytes }
   after-sound (suc j) = rw (after-suc C f j) (iteration-sound C G own room (after C f j) (after-sound j))
 
   -- one iteration, where the parts hold a state of a run
-  stepped-at : (s : State) → Sound C G own room s
+  stepped-at : (s : State) → SoundState C G own room s
       → nextIteration C (s .t) (at C G own room s) ≡ moment (stateAfter C (s .t + 1) (iteration C s .costs)) 0 (s .t + 1) (at C G own room (iteration C s))
   stepped-at s S =
       ap (λ l. gone C (s .t + 1) l (at C G own room s)) further-at

@@ -27,12 +27,12 @@ use Rattle.channels.specs.Serving.{countOf, serve, sum}
 use Rattle.channels.specs.Channels.{after, finished, spentIn, answer, received, frameOf, ownOf, counted, results}
 use Rattle.channels.specs.inner.Rounds.{statusOf, Standing, standing, statusAt, countAt, loadedTo, roundsAt, Rooms, Asked, replyBy, Ends}
 use Rattle.channels.proofs.Servings.{length-counts, sum-left}
-use Rattle.channels.proofs.Rounds.{begin}
+use Rattle.channels.proofs.Rounds.{unserved}
 use Rattle.channels.proofs.Parts.{length-part, Exact, exact-room, own-exact, received-exact, received-refused}
 use Rattle.channels.proofs.Call.{fault-13, value-at, sum-answers}
 use Rattle.channels.proofs.Patches.{all-parts}
 use Rattle.channels.proofs.Bridge.{ran, ran-at, ran-buffers, ran-ended, ran-status, ran-refused}
-use Rattle.channels.proofs.Stands.{Runs, Stands, serve-stands}
+use Rattle.channels.proofs.Stands.{Runs, ServedStands, serve-stands}
 use Rattle.channels.proofs.Loads.{Loaded, loaded}
 
 -- a status is 20 only while running
@@ -162,7 +162,7 @@ module _ (C : Code) (n A : ℕ) (fs : List ℕ) (b : Buffers) (K : Asked C n fs 
   L = loaded C fs n l₀ rooms (K .long)
 
   -- after the loads the code stands where the service begins
-  begins : Stands C n fin rn l₀ (begin fin n A) (loadedTo C fs n l₀)
+  begins : ServedStands C n fin rn l₀ (unserved fin n A) (loadedTo C fs n l₀)
   unfolding ran
   begins =
       record {
@@ -176,13 +176,13 @@ module _ (C : Code) (n A : ℕ) (fs : List ℕ) (b : Buffers) (K : Asked C n fs 
         untouched = L .untouched;
       }
     where
-      zeros : (c : ℕ) → c < n → countOf (begin fin n A) c ≡ 0
+      zeros : (c : ℕ) → c < n → countOf (unserved fin n A) c ≡ 0
       zeros c h = getD-replicate n c 0 0 h
 
   abbrev end : Standing
   end = roundsAt C n A (loadedTo C fs n l₀)
 
-  S : Stands C n fin rn l₀ (serve fin n A) end
+  S : ServedStands C n fin rn l₀ (serve fin n A) end
   S = serve-stands C n fin rn l₀ runs A (loadedTo C fs n l₀) begins
 
   abbrev j : ℕ → ℕ

@@ -62,22 +62,22 @@ module _ (z : Layout) (ds cs ws : List ℕ) (H : Fitted z ds cs ws) where
     own = ownOf C b c
 
     -- the same parts by the layout
-    abbrev pub symbolsAt : List ℕ
-    symbolsAt = part (b .symbols) (c * z .columns) (c * z .columns + z .columns - c * z .columns)
+    abbrev pub symbolsPart : List ℕ
+    symbolsPart = part (b .symbols) (c * z .columns) (c * z .columns + z .columns - c * z .columns)
 
-    abbrev pub costsAt : List ℕ
-    costsAt = part (b .costs) (c * z .costs) (c * z .costs + z .costs - c * z .costs)
+    abbrev pub costsPart : List ℕ
+    costsPart = part (b .costs) (c * z .costs) (c * z .costs + z .costs - c * z .costs)
 
-    abbrev pub marginsAt : List ℕ
-    marginsAt = part (b .margins) (c * z .columns) (c * z .columns + z .columns - c * z .columns)
+    abbrev pub marginsPart : List ℕ
+    marginsPart = part (b .margins) (c * z .columns) (c * z .columns + z .columns - c * z .columns)
 
-    symbols-own : symbolsAt ≡ own .symbols
+    symbols-own : symbolsPart ≡ own .symbols
     symbols-own = between (b .symbols) (z .columns) (C .columns) (H .columns-is) c
 
-    costs-own : costsAt ≡ own .costs
+    costs-own : costsPart ≡ own .costs
     costs-own = between (b .costs) (z .costs) (C .columns * size C) (H .costs-is) c
 
-    margins-own : marginsAt ≡ own .margins
+    margins-own : marginsPart ≡ own .margins
     margins-own = between (b .margins) (z .columns) (C .columns) (H .columns-is) c
 
     full-symbols : length (own .symbols) ≡ C .columns
@@ -89,10 +89,10 @@ module _ (z : Layout) (ds cs ws : List ℕ) (H : Fitted z ds cs ws) where
     full-margins : length (own .margins) ≡ C .columns
     full-margins = length-part (b .margins) (c * C .columns) (C .columns) (rw (H .columns-is) at for-margins)
 
-    count-symbols : length symbolsAt ≡ C .columns
+    count-symbols : length symbolsPart ≡ C .columns
     count-symbols = ap length symbols-own ∙ full-symbols
 
-    count-margins : length marginsAt ≡ C .columns
+    count-margins : length marginsPart ≡ C .columns
     count-margins = ap length margins-own ∙ full-margins
 
     put-same : b ≡ patchAt C c b own
@@ -115,10 +115,10 @@ module _ (z : Layout) (ds cs ws : List ℕ) (H : Fitted z ds cs ws) where
             store = length-part (b .store) (c * used C) (used C) (rw (H .store-is) at for-store);
           }
 
-      abbrev pub storeAt : List ℕ
-      storeAt = part (b .store) (c * z .store) (c * z .store + z .store - c * z .store)
+      abbrev pub storePart : List ℕ
+      storePart = part (b .store) (c * z .store) (c * z .store + z .store - c * z .store)
 
-      store-own : storeAt ≡ own .store
+      store-own : storePart ≡ own .store
       store-own = between (b .store) (z .store) (used C) (H .store-is) c
 
       -- put back
@@ -141,7 +141,7 @@ module _ (z : Layout) (ds cs ws : List ℕ) (H : Fitted z ds cs ws) where
 
       -- it may be made
       pub step-asks : Passable C (H .coded .good) (eqb t 0) (lentIn (ownOf C b c)) → (A S : List ℕ) → 2048 ≤ length A → 2048 ≤ length S
-          → IterateRoom (z .numbers) ds cs ws (eqb t 0) costsAt storeAt symbolsAt marginsAt A S
+          → IterateRoom (z .numbers) ds cs ws (eqb t 0) costsPart storePart symbolsPart marginsPart A S
       step-asks Q A S i j =
           record {
             iterate = record {
@@ -157,7 +157,7 @@ module _ (z : Layout) (ds cs ws : List ℕ) (H : Fitted z ds cs ws) where
           }
 
       -- and what it leaves
-      pub step-puts : (found : Bool) (P u x x′ : List ℕ) → found ≡ settled C P → lent P u ≡ iterationLent C (eqb t 0) (lent costsAt storeAt)
+      pub step-puts : (found : Bool) (P u x x′ : List ℕ) → found ≡ settled C P → lent P u ≡ iterationLent C (eqb t 0) (lent costsPart storePart)
           → x ≡ symbols C P → x′ ≡ margins C P → (e : Stage) → e ≡ stageAfter found (t + 1) (z .numbers .limit) → (r : ℕ) → r ≡ statusOf e
           → Puts C c b (stepAt C c t b) r (putBack x P u x′)
       unfolding stepAt
@@ -211,7 +211,7 @@ module _ (z : Layout) (ds cs ws : List ℕ) (H : Fitted z ds cs ws) where
               rw (d, part-patch (b .costs) f′ (c * z .costs) (z .costs) for-costs frame-full) (i ∙ frame-own)
 
           -- the test may be made
-          pub load-asks : Below 255 fs → TestRoom (z .numbers) ds cs ws copiedAt symbolsAt marginsAt
+          pub load-asks : Below 255 fs → TestRoom (z .numbers) ds cs ws copiedAt symbolsPart marginsPart
           load-asks bytes =
               let R : Ranged C copiedAt =
               rw copied-is (frame-ranged C (frameOf C fs c) (sym fault-own ∙ h) (below-take 255 (C .columns * size C) _ (below-drop 255 (c * (C .columns * size C)) fs bytes))) in

@@ -37,24 +37,24 @@ opened-exact C f own e E = go (eqb (frameFault C f) 0)
 
 module _ (C : Code) (fs : List ℕ) (n : ℕ) (l₀ : Standing) (W : Rooms C n l₀) (long : length fs ≡ n * (C .columns * size C)) where
   -- channel c's load
-  abbrev pub firstOf : ℕ → Moment
-  firstOf c = opened C (frameOf C fs c) (ownOf C (l₀ .buffers) c)
+  abbrev pub loadedMoment : ℕ → Moment
+  loadedMoment c = opened C (frameOf C fs c) (ownOf C (l₀ .buffers) c)
 
-  pub first-exact : (c : ℕ) → c < n → Exact C (firstOf c .buffers)
+  pub first-exact : (c : ℕ) → c < n → Exact C (loadedMoment c .buffers)
   first-exact c h =
       opened-exact C (frameOf C fs c) (ownOf C (l₀ .buffers) c) (length-part fs n (C .columns * size C) c (omega arith) h) (own-exact C n (l₀ .buffers) (W .room) c h)
 
   -- after the loads of the first k channels
   pub record Loaded (k : ℕ) (l : Standing) : Type 0 where
-    pub status : (c : ℕ) → c < k → statusAt l c ≡ statusOf (firstOf c .stage)
-    pub parts : (c : ℕ) → c < k → ownOf C (l .buffers) c ≡ firstOf c .buffers
+    pub status : (c : ℕ) → c < k → statusAt l c ≡ statusOf (loadedMoment c .stage)
+    pub parts : (c : ℕ) → c < k → ownOf C (l .buffers) c ≡ loadedMoment c .buffers
     pub waiting : (c : ℕ) → k ≤ c → c < n → ownOf C (l .buffers) c ≡ ownOf C (l₀ .buffers) c
     pub counts : l .counts ≡ l₀ .counts
     pub left : l .left ≡ l₀ .left
     pub rooms : Rooms C n l
     pub untouched : Untouched C n l₀ l
 
-  load-is : (k : ℕ) (l : Standing) → k < n → Loaded k l → loadAt C fs k (l .buffers) ≡ firstOf k
+  load-is : (k : ℕ) (l : Standing) → k < n → Loaded k l → loadAt C fs k (l .buffers) ≡ loadedMoment k
   unfolding loadAt
   load-is k l h L = ap (opened C (frameOf C fs k)) (L .waiting k (omega arith) h)
 
@@ -64,25 +64,25 @@ module _ (C : Code) (fs : List ℕ) (n : ℕ) (l₀ : Standing) (W : Rooms C n l
       rw (load-is k l h L)
       record {
         status = λ c i. elim (ℕ-discrete c k) [
-          | yes e ↦ rw e (getD-set-same (l .status) k (statusOf (firstOf k .stage)) 0 (omega (arith, L .rooms .for-status)))
-          | no e ↦ getD-set-other (l .status) k c (statusOf (firstOf k .stage)) 0 e ∙ L .status c (omega arith)
+          | yes e ↦ rw e (getD-set-same (l .status) k (statusOf (loadedMoment k .stage)) 0 (omega (arith, L .rooms .for-status)))
+          | no e ↦ getD-set-other (l .status) k c (statusOf (loadedMoment k .stage)) 0 e ∙ L .status c (omega arith)
         ];
         parts = λ c i. elim (ℕ-discrete c k) [
-          | yes e ↦ rw e (patch-own C n (l .buffers) (firstOf k .buffers) (L .rooms .room) (first-exact k h) k h)
-          | no e ↦ patch-other C n (l .buffers) (firstOf k .buffers) (L .rooms .room) (first-exact k h) k h c (omega arith) e ∙ L .parts c (omega arith)
+          | yes e ↦ rw e (patch-own C n (l .buffers) (loadedMoment k .buffers) (L .rooms .room) (first-exact k h) k h)
+          | no e ↦ patch-other C n (l .buffers) (loadedMoment k .buffers) (L .rooms .room) (first-exact k h) k h c (omega arith) e ∙ L .parts c (omega arith)
         ];
-        waiting = λ c i j. patch-other C n (l .buffers) (firstOf k .buffers) (L .rooms .room) (first-exact k h) k h c j (omega arith) ∙ L .waiting c (omega arith) j;
+        waiting = λ c i j. patch-other C n (l .buffers) (loadedMoment k .buffers) (L .rooms .room) (first-exact k h) k h c j (omega arith) ∙ L .waiting c (omega arith) j;
         counts = L .counts;
         left = L .left;
         rooms = record {
-          for-status = rw (length-set (l .status) k (statusOf (firstOf k .stage))) (L .rooms .for-status);
+          for-status = rw (length-set (l .status) k (statusOf (loadedMoment k .stage))) (L .rooms .for-status);
           for-counts = L .rooms .for-counts;
-          room = patch-room C n (l .buffers) (firstOf k .buffers) (L .rooms .room) (first-exact k h) k h;
+          room = patch-room C n (l .buffers) (loadedMoment k .buffers) (L .rooms .room) (first-exact k h) k h;
         };
         untouched = record {
-          status = drop-set-lt n (l .status) k (statusOf (firstOf k .stage)) h ∙ L .untouched .status;
+          status = drop-set-lt n (l .status) k (statusOf (loadedMoment k .stage)) h ∙ L .untouched .status;
           counts = L .untouched .counts;
-          buffers = patch-beyond C n (l .buffers) (firstOf k .buffers) (L .rooms .room) (first-exact k h) k h (l₀ .buffers) (L .untouched .buffers);
+          buffers = patch-beyond C n (l .buffers) (loadedMoment k .buffers) (L .rooms .room) (first-exact k h) k h (l₀ .buffers) (L .untouched .buffers);
         };
       }
 

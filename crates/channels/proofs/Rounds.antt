@@ -18,14 +18,14 @@ module _ (fin : ℕ → ℕ → Bool) (n A : ℕ) where
   abbrev pub rounds : ℕ → Served → Served
   rounds k s = upto (λ i. round) k s
 
-  abbrev pub begin : Served
-  begin = record { counts = replicate n 0; left = A }
+  abbrev pub unserved : Served
+  unserved = record { counts = replicate n 0; left = A }
 
   step : (k : ℕ) → servings fin n A (suc k) ≡ serving fin (k % n) (servings fin n A k)
   unfolding servings
   step k = refl
 
-  first : servings fin n A 0 ≡ begin
+  first : servings fin n A 0 ≡ unserved
   unfolding servings
   first = refl
 
@@ -36,12 +36,12 @@ module _ (fin : ℕ → ℕ → Bool) (n A : ℕ) where
       ∙ step (n * r + c)
       ∙ ap₂ (serving fin) (mul-add-mod-self-left n r c ∙ mod-eq-of-lt h) (within-round r s e c (omega arith))
 
-  after-rounds : (r : ℕ) → servings fin n A (n * r) ≡ rounds r begin
+  after-rounds : (r : ℕ) → servings fin n A (n * r) ≡ rounds r unserved
   unfolding round
   after-rounds zero = ap (servings fin n A) (mul-zero n) ∙ first
-  after-rounds (suc r) = ap (servings fin n A) (mul-suc n r) ∙ within-round r (rounds r begin) (after-rounds r) n (omega arith)
+  after-rounds (suc r) = ap (servings fin n A) (mul-suc n r) ∙ within-round r (rounds r unserved) (after-rounds r) n (omega arith)
 
-  pub serve-rounds : serve fin n A ≡ rounds A begin
+  pub serve-rounds : serve fin n A ≡ rounds A unserved
   serve-rounds = after-rounds A
 
   -- the first of some rounds, and then the others

@@ -15,7 +15,7 @@ use Rattle.machine.specs.Moments.{Moment}
 use Rattle.channels.specs.Serving.{Served, countOf, serving, serve}
 use Rattle.channels.specs.Channels.{ownOf}
 use Rattle.channels.specs.inner.Rounds.{nextIteration, stepAt, patchAt, statusOf, Standing, standing, statusAt, countAt, idleAt, movedAt, servingAt, roundAt, roundsAt, Rooms}
-use Rattle.channels.proofs.Rounds.{round, rounds, begin, serve-rounds}
+use Rattle.channels.proofs.Rounds.{round, rounds, unserved, serve-rounds}
 use Rattle.channels.proofs.Parts.{Exact}
 use Rattle.channels.proofs.Patches.{Beyond, patch-room, patch-own, patch-other, patch-beyond}
 
@@ -39,7 +39,7 @@ module _ (C : Code) (n : ℕ) (fin : ℕ → ℕ → Bool) (rn : ℕ → ℕ →
     pub exact : (c j : ℕ) → c < n → Until c j → Exact C (rn c j .buffers)
 
   -- the code stands where the service stands
-  pub record Stands (s : Served) (l : Standing) : Type 0 where
+  pub record ServedStands (s : Served) (l : Standing) : Type 0 where
     pub until : (c : ℕ) → c < n → Until c (countOf s c)
     pub counts : (c : ℕ) → c < n → countAt l c ≡ countOf s c
     pub left : l .left ≡ s .left
@@ -49,7 +49,7 @@ module _ (C : Code) (n : ℕ) (fin : ℕ → ℕ → Bool) (rn : ℕ → ℕ →
     pub rooms : Rooms C n l
     pub untouched : Untouched C n l₀ l
 
-  module _ (H : Runs) (s : Served) (l : Standing) (S : Stands s l) (c : ℕ) (h : c < n) where
+  module _ (H : Runs) (s : Served) (l : Standing) (S : ServedStands s l) (c : ℕ) (h : c < n) where
     abbrev j : ℕ
     j = countOf s c
 
@@ -88,7 +88,7 @@ module _ (C : Code) (n : ℕ) (fin : ℕ → ℕ → Bool) (rn : ℕ → ℕ →
       E : Exact C (rn c (suc j) .buffers)
       E = H .exact c (suc j) h until-more
 
-      moved-stands : Stands s′ l′
+      moved-stands : ServedStands s′ l′
       unfolding s′ l′
       moved-stands =
           record {
@@ -120,12 +120,12 @@ module _ (C : Code) (n : ℕ) (fin : ℕ → ℕ → Bool) (rn : ℕ → ℕ →
           }
 
     -- a serving
-    pub serving-stands : Stands (serving fin c s) (servingAt C c l)
+    pub serving-stands : ServedStands (serving fin c s) (servingAt C c l)
     unfolding serving servingAt movedAt s′ l′
     serving-stands = rw same-test (go (fin c j) refl (eqb (s .left) 0))
       where
         go : (a : Bool) → fin c j ≡ a → (b : Bool)
-            → Stands (pick (a || b) s (record { counts = set (s .counts) c (countOf s c + 1); left = s .left - 1 }))
+            → ServedStands (pick (a || b) s (record { counts = set (s .counts) c (countOf s c + 1); left = s .left - 1 }))
             (pick (a || b) l (standing (set (l .status) c (statusOf (stepAt C c (countAt l c) (l .buffers) .stage))) (set (l .counts) c (countAt l c + 1)) (l .left - 1)
             (patchAt C c (l .buffers) (stepAt C c (countAt l c) (l .buffers) .buffers))))
         go true e b = S
@@ -133,15 +133,15 @@ module _ (C : Code) (n : ℕ) (fin : ℕ → ℕ → Bool) (rn : ℕ → ℕ →
         go false e false = rw moment-is (moved-stands e)
 
   -- the servings of a round, and of some rounds
-  pub round-stands : Runs → (s : Served) (l : Standing) → Stands s l → (k : ℕ) → k ≤ n → Stands (upto (serving fin) k s) (upto (servingAt C) k l)
+  pub round-stands : Runs → (s : Served) (l : Standing) → ServedStands s l → (k : ℕ) → k ≤ n → ServedStands (upto (serving fin) k s) (upto (servingAt C) k l)
   round-stands H s l S zero h = S
   round-stands H s l S (suc k) h = serving-stands H (upto (serving fin) k s) (upto (servingAt C) k l) (round-stands H s l S k (omega arith)) k h
 
-  pub rounds-stand : Runs → (A : ℕ) (s : Served) (l : Standing) → Stands s l → (k : ℕ) → Stands (rounds fin n A k s) (roundsAt C n k l)
+  pub rounds-stand : Runs → (A : ℕ) (s : Served) (l : Standing) → ServedStands s l → (k : ℕ) → ServedStands (rounds fin n A k s) (roundsAt C n k l)
   unfolding round roundAt
   rounds-stand H A s l S zero = S
   rounds-stand H A s l S (suc k) = round-stands H (rounds fin n A k s) (roundsAt C n k l) (rounds-stand H A s l S k) n (omega arith)
 
   -- A rounds of the code are the service
-  pub serve-stands : Runs → (A : ℕ) (l : Standing) → Stands (begin fin n A) l → Stands (serve fin n A) (roundsAt C n A l)
-  serve-stands H A l S = rw (serve-rounds fin n A) (rounds-stand H A (begin fin n A) l S A)
+  pub serve-stands : Runs → (A : ℕ) (l : Standing) → ServedStands (unserved fin n A) l → ServedStands (serve fin n A) (roundsAt C n A l)
+  serve-stands H A l S = rw (serve-rounds fin n A) (rounds-stand H A (unserved fin n A) l S A)

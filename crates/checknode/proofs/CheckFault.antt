@@ -80,12 +80,12 @@ module _ (first : ℕ) (ws cs : List ℕ) (room : ℕ) where
       passed-case bad good = sym (by-fault bad good ∙ simp (eq-eqb k 0 z))
 
   -- a check that none of them refuses, and whose record fits
-  pub record Passed : Type 0 where
+  pub record CheckPassed : Type 0 where
     pub weighed : WeightsAccepted first ws
     pub ready : Ready first ws cs
     pub fits : recordLength (ruleFor first) (length ws) ≤ room
 
-  pub passed : {k : ℕ} → k ≡ checkFault first ws cs room → k ≡ 0 → Passed
+  pub passed : {k : ℕ} → k ≡ checkFault first ws cs room → k ≡ 0 → CheckPassed
   unfolding checkFault
   passed f z =
       elim (ℕ-discrete (weightsFault first ws) 0) [
@@ -95,7 +95,7 @@ module _ (first : ℕ) (ws cs : List ℕ) (room : ℕ) where
       ]
     where
       go : WeightsAccepted first ws → (x : Bool) → eqb (length cs) (length ws * sizeOf first) ≡ x → (y : Bool) → allTo (zeroOk (sizeOf first) cs) (length ws) ≡ y → (z : Bool) → ltb room (recordLength (ruleFor first) (length ws)) ≡ z
-          → _≡_ {A = ℕ} (pick x (pick y (pick z 4 0) 13) 12) 0 → Passed
+          → _≡_ {A = ℕ} (pick x (pick y (pick z 4 0) 13) 12) 0 → CheckPassed
       go W false s y t z u e = absurd (omega arith)
       go W true s false t z u e = absurd (omega arith)
       go W true s true t true u e = absurd (omega arith)

@@ -15,11 +15,11 @@ use Rattle.checknode.proofs.CheckFault.{refused-case, passed-case}
 
 module _ (first : ℕ) (ws cs out sent : List ℕ) where
   -- a call that is refused by k
-  abbrev pub RefusedBy : ℕ → Type 0
-  RefusedBy k = (refusal k ≡ messagesReply first ws cs out sent) × ((out ≡ messagesLeaves first ws cs out sent) × (sent ≡ messagesSent first ws cs out sent))
+  abbrev pub MessagesRefused : ℕ → Type 0
+  MessagesRefused k = (refusal k ≡ messagesReply first ws cs out sent) × ((out ≡ messagesLeaves first ws cs out sent) × (sent ≡ messagesSent first ws cs out sent))
 
   module _ {k : ℕ} (f : k ≡ checkFault first ws cs (length out)) where
-    pub refused : k ≢ 0 → RefusedBy k
+    pub refused : k ≢ 0 → MessagesRefused k
     unfolding messagesReply messagesLeaves messagesSent
     refused n =
         (refused-case first ws cs (length out) f (λ k. refusal k) _ n, (refused-case first ws cs (length out) f (λ k. out) _ n, refused-case first ws cs (length out) f (λ k. sent) _ n))
@@ -30,7 +30,7 @@ module _ (first : ℕ) (ws cs out sent : List ℕ) where
           let k : length sent < length ws * sizeOf first = rw s at l in
           sym (ap (λ b. pick b (bad 2) good) (lt-ltb _ _ k)) ∙ passed-case first ws cs (length out) f z bad _
 
-      pub refused-2 : length sent < length ws * w → RefusedBy 2
+      pub refused-2 : length sent < length ws * w → MessagesRefused 2
       unfolding messagesReply messagesLeaves messagesSent
       refused-2 l = (short-case (λ k. refusal k) _ l, (short-case (λ k. out) _ l, short-case (λ k. sent) _ l))
 

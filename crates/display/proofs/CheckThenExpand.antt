@@ -26,7 +26,7 @@ use Rattle.display.specs.Demand.{Sends, Demand-2-messages}
 use Rattle.trellis.proofs.Messages.{ready-length, ready-form, ready-messages, ready-many, ready-least}
 use Rattle.field.proofs.Blocks.{part-room}
 use Rattle.expansion.proofs.Cases.{expand-case}
-use Rattle.checknode.proofs.CheckFault.{Passed, passed}
+use Rattle.checknode.proofs.CheckFault.{CheckPassed, passed}
 use Rattle.checknode.proofs.CheckCall.{refused, written}
 use Rattle.checknode.proofs.check as check
 use Rattle.checknode.proofs.check.Kinds as check-kinds
@@ -40,7 +40,7 @@ not-both e f = let z : _≡_ {A = ℕ} 0 1 = cc in omega arith
 
 -- a check that is not refused: its reply and what it leaves
 record Accepts (first : ℕ) (ws cs out : List ℕ) : Type 0 where
-  passes : Passed first ws cs (length out)
+  passes : CheckPassed first ws cs (length out)
   reply : checkReply first ws cs out ≡ accepted (recordLength (ruleFor first) (length ws))
   leaves : checkLeaves first ws cs out ≡ recordOf (ruleFor first) (columnsOf (sizeOf first) ws cs) ++ drop (recordLength (ruleFor first) (length ws)) out
 

@@ -55,12 +55,12 @@ module _ (f : ℕ) (ws r : List ℕ) where
         ((λ e. omega arith), ((λ e. omega arith), ((λ e. omega arith), ((λ e. omega arith), ((λ e. omega arith), ((λ e. omega arith), tt)))))) bad good
 
   -- a call that is not refused
-  pub record Passed (room : ℕ) : Type 0 where
+  pub record DisplayPassed (room : ℕ) : Type 0 where
     pub weighed : WeightsAccepted f ws
     pub form : recordOk (ruleFor f) (length ws) r ≡ true
     pub enough : length ws ≤ room
 
-  pub passes : (room : ℕ) → displayFault f ws r room ≡ 0 → Passed room
+  pub passes : (room : ℕ) → displayFault f ws r room ≡ 0 → DisplayPassed room
   unfolding displayFault weightsFault
   passes room e = let z = go (firstOk f) (ltb (length ws) 2) (ltb 32 (length ws)) (weightsOk (sizeOf f) ws) formed refl (ltb room (length ws)) refl e in record { weighed = no-fault f ws (z .0); form = z .1; enough = ltb-false _ _ (z .2) }
     where
@@ -74,7 +74,7 @@ module _ (f : ℕ) (ws r : List ℕ) where
       go true false false true true i true j e = absurd (omega arith)
       go true false false true true i false j e = (refl, i, j)
 
-  pub stored : (room : ℕ) → Passed room → Stored f ws r
+  pub stored : (room : ℕ) → DisplayPassed room → Stored f ws r
   stored room P =
       record {
         first = P .weighed .accepted;
@@ -104,7 +104,7 @@ module _ (f : ℕ) (ws r : List ℕ) where
         (sym (by-fault (length out) (λ k. refusal k) _ ∙ rw (← e, ne-eqb k 0 n)), sym (by-fault (length out) (λ k. out) _ ∙ rw (← e, ne-eqb k 0 n)))
 
     module _ (z : k ≡ 0) where
-      pub room : Passed (length out)
+      pub room : DisplayPassed (length out)
       room = passes (length out) (sym e ∙ z)
 
       pub show-room : (p : ℕ) → p ≡ powerOf f → ShowRoom p ws r (take (length ws) out)

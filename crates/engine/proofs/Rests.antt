@@ -24,10 +24,10 @@ use Rattle.engine.specs.inner.Rests.{atMost, rest, lineAt, joinedAt, bet
 use Rattle.engine.proofs.BestRests.{BestRest, best-one, best-iff, best-of, best-max, best-to, best-fold, best-meet, Meets}
 
 -- m is the cost of a choice with at most j deviations and weighted difference a
-abbrev pub Costs : Rule → List Column → ℕ → ℕ → ℕ → Type 0
-Costs R cs j a m = (w : List ℕ) × Allowed (atMost R j) cs (xor a (decided R cs)) w × (costOf R cs w ≡ m)
+abbrev pub RestCosts : Rule → List Column → ℕ → ℕ → ℕ → Type 0
+RestCosts R cs j a m = (w : List ℕ) × Allowed (atMost R j) cs (xor a (decided R cs)) w × (costOf R cs w ≡ m)
 
-pub rest-best : (R : Rule) (cs : List Column) (j a : ℕ) → BestRest (Costs R cs j a) (rest R cs j a)
+pub rest-best : (R : Rule) (cs : List Column) (j a : ℕ) → BestRest (RestCosts R cs j a) (rest R cs j a)
 unfolding rest
 rest-best R cs j a =
     best-iff
@@ -102,13 +102,13 @@ module _ (R : Rule) (meet : ℕ → ℕ → ℕ) (M : Meets (R .join) meet) (p :
   decided-small cs A = sums-small (decisions-fit R cs A) A
 
   -- no deviation
-  zero-only : (cs : List Column) → All R cs → (a m : ℕ) → Costs R cs 0 a m → (a ≡ 0) × (m ≡ 0)
+  zero-only : (cs : List Column) → All R cs → (a m : ℕ) → RestCosts R cs 0 a m → (a ≡ 0) × (m ≡ 0)
   zero-only cs A a m (w, h, e) =
       let r = no-deviation R J (h .fits) A (h .few) in
       let s : xor a (decided R cs) ≡ decided R cs = sym (h .sum) ∙ r .1 in
       (sym (twice a (decided R cs)) ∙ ap (λ y. xor y (decided R cs)) s ∙ xor-self (decided R cs), sym e ∙ r .0)
 
-  zero-costs : (cs : List Column) → All R cs → (j : ℕ) → Costs R cs j 0 0
+  zero-costs : (cs : List Column) → All R cs → (j : ℕ) → RestCosts R cs j 0 0
   unfolding decided
   zero-costs cs A j =
       let f = decisions-fit R cs A in
@@ -118,13 +118,13 @@ module _ (R : Rule) (meet : ℕ → ℕ → ℕ) (M : Meets (R .join) meet) (p :
         no-deviation R J f A (omega arith) .0,
       )
 
-  costs-mono : (cs : List Column) (i j a m : ℕ) → i ≤ j → Costs R cs i a m → Costs R cs j a m
+  costs-mono : (cs : List Column) (i j a m : ℕ) → i ≤ j → RestCosts R cs i a m → RestCosts R cs j a m
   costs-mono cs i j a m l (w, h, e) = (w, record { fits = h .fits; few = omega (arith, h .few); sum = h .sum }, e)
 
   -- two parts of the columns
   module _ (cs ds : List Column) where
-    together : (i j k a b m x y : ℕ) → i + j ≤ k → Costs R cs i (xor a b) x → Costs R ds j b y → m ≡ R .join x y
-        → Costs R (cs ++ ds) k a m
+    together : (i j k a b m x y : ℕ) → i + j ≤ k → RestCosts R cs i (xor a b) x → RestCosts R ds j b y → m ≡ R .join x y
+        → RestCosts R (cs ++ ds) k a m
     together i j k a b m x y l (w, h, e) (v, g, f) o = (
       w ++ v,
       record {
@@ -145,11 +145,11 @@ module _ (R : Rule) (meet : ℕ → ℕ → ℕ) (M : Meets (R .join) meet) (p :
       pub y : ℕ
       pub few : i + j ≤ k
       pub small : b < R .size
-      pub first : Costs R cs i (xor a b) x
-      pub next : Costs R ds j b y
+      pub first : RestCosts R cs i (xor a b) x
+      pub next : RestCosts R ds j b y
       pub whole : m ≡ R .join x y
 
-    parted : All R ds → (k a m : ℕ) → Costs R (cs ++ ds) k a m → Parted k a m
+    parted : All R ds → (k a m : ℕ) → RestCosts R (cs ++ ds) k a m → Parted k a m
     parted A k a m (u, h, o) =
         let r = fits-split cs (h .fits) in
         let w : List ℕ = r .0 in
@@ -176,7 +176,7 @@ module _ (R : Rule) (meet : ℕ → ℕ → ℕ) (M : Meets (R .join) meet) (p :
         }
 
   -- the order of two parts does not matter
-  turned : (cs ds : List Column) → All R ds → (k a m : ℕ) → a < R .size → Costs R (cs ++ ds) k a m → Costs R (ds ++ cs) k a m
+  turned : (cs ds : List Column) → All R ds → (k a m : ℕ) → a < R .size → RestCosts R (cs ++ ds) k a m → RestCosts R (ds ++ cs) k a m
   turned cs ds A k a m l h =
       let P = parted cs ds A k a m h in
       let b : ℕ = xor a (P .b) in
@@ -230,7 +230,7 @@ module _ (R : Rule) (meet : ℕ → ℕ → ℕ) (M : Meets (R .join) meet) (p :
     unfolding decided
     one-decided = xor-right _
 
-    line-costs : (j a m : ℕ) → 1 ≤ j → a < R .size → Line a m → Costs R (c ∷ []) j a m
+    line-costs : (j a m : ℕ) → 1 ≤ j → a < R .size → Line a m → RestCosts R (c ∷ []) j a m
     line-costs j a m h l e =
         let r = symbol-at a l in
         let x : ℕ = symbolAt R c a in (
@@ -243,7 +243,7 @@ module _ (R : Rule) (meet : ℕ → ℕ → ℕ) (M : Meets (R .join) meet) (p :
           J .right _ ∙ sym e,
         )
 
-    costs-line : (j a m : ℕ) → a < R .size → Costs R (c ∷ []) j a m → Line a m
+    costs-line : (j a m : ℕ) → a < R .size → RestCosts R (c ∷ []) j a m → Line a m
     costs-line j a m l (w, h, e) = go (h .fits) (h .sum) e
       where
         go : {w : List ℕ} → Fits (R .size) (c ∷ []) w → weightedSum R (c ∷ []) w ≡ xor a (decided R (c ∷ [])) → costOf R (c ∷ []) w ≡ m
@@ -262,20 +262,20 @@ module _ (R : Rule) (meet : ℕ → ℕ → ℕ) (M : Meets (R .join) meet) (p :
     -- one column more
     module _ (cs : List Column) (A : All R cs) where
       abbrev Grown : ℕ → ℕ → ℕ → Type 0
-      Grown j a m = Costs R cs (suc (suc j)) a m ⊎ Across (Costs R cs (suc j)) Line a m
+      Grown j a m = RestCosts R cs (suc (suc j)) a m ⊎ Across (RestCosts R cs (suc j)) Line a m
 
-      grow-there : (j a m : ℕ) → a < R .size → Grown j a m → Costs R (cs ++ (c ∷ [])) (suc (suc j)) a m
+      grow-there : (j a m : ℕ) → a < R .size → Grown j a m → RestCosts R (cs ++ (c ∷ [])) (suc (suc j)) a m
       grow-there j a m l s =
           ⊎-elim
-          (λ (h : Costs R cs (suc (suc j)) a m). together cs (c ∷ []) (suc (suc j)) 0 (suc (suc j)) a 0 m m 0 (omega arith)
+          (λ (h : RestCosts R cs (suc (suc j)) a m). together cs (c ∷ []) (suc (suc j)) 0 (suc (suc j)) a 0 m m 0 (omega arith)
           (rw (xor-right a) h) (zero-costs (c ∷ []) one 0) (sym (J .right m)))
-          (λ (h : Across (Costs R cs (suc j)) Line a m).
+          (λ (h : Across (RestCosts R cs (suc j)) Line a m).
           let b : ℕ = h .0 in
           together cs (c ∷ []) (suc j) 1 (suc (suc j)) a b m (h .2 .0) (h .2 .1) (omega arith) (h .2 .2)
           (line-costs 1 b (h .2 .1) (omega arith) (h .1) (h .2 .3)) (h .2 .4))
           s
 
-      grow-back : (j a m : ℕ) → Costs R (cs ++ (c ∷ [])) (suc (suc j)) a m → Grown j a m
+      grow-back : (j a m : ℕ) → RestCosts R (cs ++ (c ∷ [])) (suc (suc j)) a m → Grown j a m
       grow-back j a m h =
           let P = parted cs (c ∷ []) one (suc (suc j)) a m h in
           elim (ℕ-discrete (P .j) 0) [
@@ -296,7 +296,7 @@ module _ (R : Rule) (meet : ℕ → ℕ → ℕ) (M : Meets (R .join) meet) (p :
             )
           ]
         where
-          kept : (P : Parted cs (c ∷ []) (suc (suc j)) a m) → P .b ≡ 0 → P .y ≡ 0 → Costs R cs (P .i) a m
+          kept : (P : Parted cs (c ∷ []) (suc (suc j)) a m) → P .b ≡ 0 → P .y ≡ 0 → RestCosts R cs (P .i) a m
           kept P e f =
               let s : xor a (P .b) ≡ a = ap (xor a) e ∙ xor-right a in
               let t : m ≡ P .x = P .whole ∙ ap (R .join (P .x)) f ∙ J .right (P .x) in
@@ -309,19 +309,19 @@ module _ (R : Rule) (meet : ℕ → ℕ → ℕ) (M : Meets (R .join) meet) (p :
           best-one (rest-best R (cs ++ (c ∷ [])) (suc (suc j)) a)
           (best-iff (λ m. grow-there j a m l) (λ m. grow-back j a m)
           (best-max (rest-best R cs (suc (suc j)) a)
-          (across-best (Costs R cs (suc j)) Line (rest R cs (suc j)) (lineAt R c) (λ b h. rest-best R cs (suc j) b)
+          (across-best (RestCosts R cs (suc j)) Line (rest R cs (suc j)) (lineAt R c) (λ b h. rest-best R cs (suc j) b)
           (λ b h. line-best b) a l)))
 
-      first-there : (a m : ℕ) → a < R .size → Costs R cs 1 a m ⊎ Line a m → Costs R (cs ++ (c ∷ [])) 1 a m
+      first-there : (a m : ℕ) → a < R .size → RestCosts R cs 1 a m ⊎ Line a m → RestCosts R (cs ++ (c ∷ [])) 1 a m
       first-there a m l s =
           ⊎-elim
-          (λ (h : Costs R cs 1 a m). together cs (c ∷ []) 1 0 1 a 0 m m 0 (omega arith) (rw (xor-right a) h) (zero-costs (c ∷ []) one 0)
+          (λ (h : RestCosts R cs 1 a m). together cs (c ∷ []) 1 0 1 a 0 m m 0 (omega arith) (rw (xor-right a) h) (zero-costs (c ∷ []) one 0)
           (sym (J .right m)))
           (λ (h : Line a m). together cs (c ∷ []) 0 1 1 a a m 0 m (omega arith) (rw (xor-self a) (zero-costs cs A 0))
           (line-costs 1 a m (omega arith) l h) (sym (J .gathers .left m)))
           s
 
-      first-back : (a m : ℕ) → a < R .size → Costs R (cs ++ (c ∷ [])) 1 a m → Costs R cs 1 a m ⊎ Line a m
+      first-back : (a m : ℕ) → a < R .size → RestCosts R (cs ++ (c ∷ [])) 1 a m → RestCosts R cs 1 a m ⊎ Line a m
       first-back a m l h =
           let P = parted cs (c ∷ []) one 1 a m h in
           elim (ℕ-discrete (P .j) 0) [
@@ -334,7 +334,7 @@ module _ (R : Rule) (meet : ℕ → ℕ → ℕ) (M : Meets (R .join) meet) (p :
                 inr (lined P (r .0) (r .1))
           ]
         where
-          kept : (P : Parted cs (c ∷ []) 1 a m) → P .b ≡ 0 → P .y ≡ 0 → Costs R cs (P .i) a m
+          kept : (P : Parted cs (c ∷ []) 1 a m) → P .b ≡ 0 → P .y ≡ 0 → RestCosts R cs (P .i) a m
           kept P e f =
               let s : xor a (P .b) ≡ a = ap (xor a) e ∙ xor-right a in
               let t : m ≡ P .x = P .whole ∙ ap (R .join (P .x)) f ∙ J .right (P .x) in
@@ -353,18 +353,18 @@ module _ (R : Rule) (meet : ℕ → ℕ → ℕ) (M : Meets (R .join) meet) (p :
   -- two parts of the columns joined
   module _ (cs ds : List Column) (A : All R cs) (B : All R ds) (k : ℕ) where
     abbrev Middle : ℕ → ℕ → Type 0
-    Middle a m = (i : ℕ) × (i < k - 1) × Across (Costs R cs (k - suc i)) (Costs R ds (suc i)) a m
+    Middle a m = (i : ℕ) × (i < k - 1) × Across (RestCosts R cs (k - suc i)) (RestCosts R ds (suc i)) a m
 
     abbrev Between : ℕ → ℕ → Type 0
-    Between a m = (Costs R cs k a m ⊎ Costs R ds k a m) ⊎ Middle a m
+    Between a m = (RestCosts R cs k a m ⊎ RestCosts R ds k a m) ⊎ Middle a m
 
-    between-there : (a m : ℕ) → a < R .size → Between a m → Costs R (cs ++ ds) k a m
+    between-there : (a m : ℕ) → a < R .size → Between a m → RestCosts R (cs ++ ds) k a m
     between-there a m l s =
         ⊎-elim
-        (λ (t : Costs R cs k a m ⊎ Costs R ds k a m). ⊎-elim
-        (λ (h : Costs R cs k a m). together cs ds k 0 k a 0 m m 0 (omega arith) (rw (xor-right a) h) (zero-costs ds B 0)
+        (λ (t : RestCosts R cs k a m ⊎ RestCosts R ds k a m). ⊎-elim
+        (λ (h : RestCosts R cs k a m). together cs ds k 0 k a 0 m m 0 (omega arith) (rw (xor-right a) h) (zero-costs ds B 0)
         (sym (J .right m)))
-        (λ (h : Costs R ds k a m). together cs ds 0 k k a a m 0 m (omega arith) (rw (xor-self a) (zero-costs cs A 0)) h
+        (λ (h : RestCosts R ds k a m). together cs ds 0 k k a a m 0 m (omega arith) (rw (xor-self a) (zero-costs cs A 0)) h
         (sym (J .gathers .left m)))
         t)
         (λ (h : Middle a m).
@@ -373,7 +373,7 @@ module _ (R : Rule) (meet : ℕ → ℕ → ℕ) (M : Meets (R .join) meet) (p :
         (r .2 .4))
         s
 
-    between-back : (a m : ℕ) → Costs R (cs ++ ds) k a m → Between a m
+    between-back : (a m : ℕ) → RestCosts R (cs ++ ds) k a m → Between a m
     between-back a m h =
         let P = parted cs ds B k a m h in
         elim (ℕ-discrete (P .j) 0) [
@@ -403,13 +403,13 @@ module _ (R : Rule) (meet : ℕ → ℕ → ℕ) (M : Meets (R .join) meet) (p :
               ]
         ]
       where
-        left : (P : Parted cs ds k a m) → P .b ≡ 0 → P .y ≡ 0 → Costs R cs (P .i) a m
+        left : (P : Parted cs ds k a m) → P .b ≡ 0 → P .y ≡ 0 → RestCosts R cs (P .i) a m
         left P e f =
             let s : xor a (P .b) ≡ a = ap (xor a) e ∙ xor-right a in
             let t : m ≡ P .x = P .whole ∙ ap (R .join (P .x)) f ∙ J .right (P .x) in
             rw t (rw s at (P .first))
 
-        right : (P : Parted cs ds k a m) → xor a (P .b) ≡ 0 → P .x ≡ 0 → Costs R ds (P .j) a m
+        right : (P : Parted cs ds k a m) → xor a (P .b) ≡ 0 → P .x ≡ 0 → RestCosts R ds (P .j) a m
         right P e f =
             let s : P .b ≡ a = sym (xor-cancel a (P .b)) ∙ ap (xor a) e ∙ xor-right a in
             let t : m ≡ P .y = P .whole ∙ ap (λ y. R .join y (P .y)) f ∙ J .gathers .left (P .y) in
@@ -421,7 +421,7 @@ module _ (R : Rule) (meet : ℕ → ℕ → ℕ) (M : Meets (R .join) meet) (p :
         best-one (rest-best R (cs ++ ds) k a)
         (best-iff (λ m. between-there a m l) (λ m. between-back a m)
         (best-max (best-max (rest-best R cs k a) (rest-best R ds k a))
-        (best-to (λ i m. Across (Costs R cs (k - suc i)) (Costs R ds (suc i)) a m)
+        (best-to (λ i m. Across (RestCosts R cs (k - suc i)) (RestCosts R ds (suc i)) a m)
         (λ i. joinedAt meet (R .size) (rest R cs (k - suc i)) (rest R ds (suc i)) a) (k - 1)
-        (λ i h. across-best (Costs R cs (k - suc i)) (Costs R ds (suc i)) (rest R cs (k - suc i)) (rest R ds (suc i))
+        (λ i h. across-best (RestCosts R cs (k - suc i)) (RestCosts R ds (suc i)) (rest R cs (k - suc i)) (rest R ds (suc i))
         (λ b j. rest-best R cs (k - suc i) b) (λ b j. rest-best R ds (suc i) b) a l))))

@@ -17,10 +17,10 @@ use Rattle.expansion.proofs.Expanding.{expandable}
 
 module _ (first : ℕ) (ws r out : List ℕ) where
   -- a call that is refused by k
-  abbrev pub RefusedBy : ℕ → Type 0
-  RefusedBy k = (refusal k ≡ expandReply first ws r out) × (out ≡ expandLeaves first ws r out)
+  abbrev pub ExpandRefused : ℕ → Type 0
+  ExpandRefused k = (refusal k ≡ expandReply first ws r out) × (out ≡ expandLeaves first ws r out)
 
-  pub refused-fault : {k : ℕ} → k ≡ weightsFault first ws → k ≢ 0 → RefusedBy k
+  pub refused-fault : {k : ℕ} → k ≡ weightsFault first ws → k ≢ 0 → ExpandRefused k
   unfolding expandReply expandLeaves
   refused-fault e n = (fault-case first ws (λ k. refusal k) _ e n, fault-case first ws (λ k. out) _ e n)
 
@@ -28,7 +28,7 @@ module _ (first : ℕ) (ws r out : List ℕ) where
     form : {b : Bool} → o ≡ b → recordOk (ruleFor first) (length ws) r ≡ b
     form u = sym f ∙ u
 
-    pub refused-16 : o ≡ false → RefusedBy 16
+    pub refused-16 : o ≡ false → ExpandRefused 16
     unfolding expandReply expandLeaves
     refused-16 u = (case-16 first ws W (length out) (λ k. refusal k) _ r (form u), case-16 first ws W (length out) (λ k. out) _ r (form u))
 
@@ -36,7 +36,7 @@ module _ (first : ℕ) (ws r out : List ℕ) where
       pub accepts : ExpandRoom (powerOf first) (mostOf first) ws r
       accepts = expandable first ws r W (form u)
 
-      pub refused-2 : length out < length ws * w → RefusedBy 2
+      pub refused-2 : length out < length ws * w → ExpandRefused 2
       unfolding expandReply expandLeaves
       refused-2 l =
           let k : length out < length ws * sizeOf first = rw s at l in

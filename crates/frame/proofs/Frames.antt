@@ -35,16 +35,16 @@ pub zero-told : (q c z : ℕ) (f : List ℕ) → z ≡ firstZero (part f (c * q)
 zero-told q c z f e = rw (e, add-sub-cancel-left (c * q) q)
 
 -- a loop that ends at the first test that fails: of n tests those before i passed
-pub record Passed (p : ℕ → Bool) (n i : ℕ) : Type 0 where
+pub record PassedTo (p : ℕ → Bool) (n i : ℕ) : Type 0 where
   pub inside : i ≤ n
   pub passed : allTo p i ≡ true
 
-module _ {p : ℕ → Bool} {n i : ℕ} (o : Passed p n i) where
+module _ {p : ℕ → Bool} {n i : ℕ} (o : PassedTo p n i) where
   pub passed-all : n ≤ i → true ≡ allTo p n
   passed-all h = let e : i ≡ n = omega arith in rw (← e) (sym (o .passed))
 
   module _ {r : Bool} (h : i < n) (e : r ≡ p i) where
-    pub passed-more : not r ≡ false → Passed p n (i + 1)
+    pub passed-more : not r ≡ false → PassedTo p n (i + 1)
     passed-more k = record { inside = omega arith; passed = rw (add-one i, o .passed, ← e) (not-false r k) }
 
     pub passed-not : not r ≡ true → false ≡ allTo p n

@@ -185,11 +185,11 @@ module _ (C : Code) (G : GoodCode C) (s₀ : List ℕ) (room : used C ≤ length
       keeps s (suc k) = keeps s k
 
   -- a state of a run, with the records that its t says
-  pub record Ready (s : State) : Type 0 where
+  pub record ReadyState (s : State) : Type 0 where
     pub kept : GoodUpdates C s
     pub when : (m : ℕ) → m < length (C .checks) → When C (eqb (s .t) 0) (lastOf s m)
 
-  pub iteration-ready : (s : State) → Ready s → Ready (iteration C s)
+  pub iteration-ready : (s : State) → ReadyState s → ReadyState (iteration C s)
   iteration-ready s R =
       let r = iteration-kept C G s (R .kept) in
       let e : eqb (iteration C s .t) 0 ≡ false = ne-eqb (iteration C s .t) 0 (λ (z : iteration C s .t ≡ 0). omega (arith, iteration-t s)) in
@@ -199,12 +199,12 @@ module _ (C : Code) (G : GoodCode C) (s₀ : List ℕ) (room : used C ≤ length
   endedOf r = ended (r .status) (r .end .t) (lentOf C s₀ (r .end))
 
   -- the buffers' run is the machine's
-  pub go-stands : (n : ℕ) (s : State) → Ready s → (goLent C n (s .t) (lentOf C s₀ s) ≡ endedOf (go C n s)) × Ready (go C n s .end)
+  pub go-stands : (n : ℕ) (s : State) → ReadyState s → (goLent C n (s .t) (lentOf C s₀ s) ≡ endedOf (go C n s)) × ReadyState (go C n s .end)
   unfolding goLent go
   go-stands zero s R = at (settled C (s .costs))
     where
       at : (b : Bool) → (pick b (ended found (s .t) (lentOf C s₀ s)) (ended notFound (s .t) (lentOf C s₀ s)) ≡ endedOf (pick b (result found s) (result notFound s)))
-          × Ready (pick b (result found s) (result notFound s) .end)
+          × ReadyState (pick b (result found s) (result notFound s) .end)
       at true = (refl, R)
       at false = (refl, R)
   go-stands (suc n) s R = at (settled C (s .costs)) (go-stands n (iteration C s) (iteration-ready s R))
@@ -212,9 +212,9 @@ module _ (C : Code) (G : GoodCode C) (s₀ : List ℕ) (room : used C ≤ length
       step : goLent C n (s .t + 1) (iterationLent C (eqb (s .t) 0) (lentOf C s₀ s)) ≡ goLent C n (iteration C s .t) (lentOf C s₀ (iteration C s))
       step = ap₂ (goLent C n) (sym (iteration-t s)) (iteration-stands (eqb (s .t) 0) s (R .kept) (R .when))
 
-      at : (b : Bool) → (goLent C n (iteration C s .t) (lentOf C s₀ (iteration C s)) ≡ endedOf (go C n (iteration C s))) × Ready (go C n (iteration C s) .end)
+      at : (b : Bool) → (goLent C n (iteration C s .t) (lentOf C s₀ (iteration C s)) ≡ endedOf (go C n (iteration C s))) × ReadyState (go C n (iteration C s) .end)
           → (pick b (ended found (s .t) (lentOf C s₀ s)) (goLent C n (s .t + 1) (iterationLent C (eqb (s .t) 0) (lentOf C s₀ s))) ≡ endedOf (pick b (result found s) (go C n (iteration C s))))
-          × Ready (pick b (result found s) (go C n (iteration C s)) .end)
+          × ReadyState (pick b (result found s) (go C n (iteration C s)) .end)
       at true i = (refl, R)
       at false i = (step ∙ i .0, i .1)
 
@@ -235,7 +235,7 @@ module _ (C : Code) (G : GoodCode C) (s₀ : List ℕ) (room : used C ≤ length
       same m none i = absurd i
       same m (made cs) i = refl
 
-  pub held-end : (s : State) → Ready s → held C s₀ s ≡ pick (eqb (s .t) 0) s₀ (records C s ++ drop (used C) s₀)
+  pub held-end : (s : State) → ReadyState s → held C s₀ s ≡ pick (eqb (s .t) 0) s₀ (records C s ++ drop (used C) s₀)
   held-end s R = at (eqb (s .t) 0) (R .when)
     where
       at : (b : Bool) → ((m : ℕ) → m < length (C .checks) → When C b (lastOf s m)) → held C s₀ s ≡ pick b s₀ (records C s ++ drop (used C) s₀)
@@ -249,7 +249,7 @@ module _ (C : Code) (G : GoodCode C) (s₀ : List ℕ) (room : used C ≤ length
   unfolding run
   run-stands f =
       let no : (m : ℕ) → m < length (C .checks) → lastOf (start C f) m ≡ none = λ m h. getD-replicate (length (C .checks)) m none none h in
-      let R : Ready (start C f) = record { kept = record { full = length-replicate (length (C .checks)) none; fine = λ m h. rw (no m h) tt }; when = no } in
+      let R : ReadyState (start C f) = record { kept = record { full = length-replicate (length (C .checks)) none; fine = λ m h. rw (no m h) tt }; when = no } in
       let g = go-stands (C .limit) (start C f) R in
       ap (λ l. goLent C (C .limit) 0 (record { costs = f; store = l })) (sym (held-none (start C f) no))
       ∙ g .0

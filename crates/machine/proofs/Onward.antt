@@ -15,9 +15,9 @@ use Rattle.machine.specs.Moments.{Moment, moment, loadingUnder, loading,
 use Rattle.machine.specs.inner.Accepted.{GoodCode}
 use Rattle.machine.proofs.Lines.{parse-good}
 use Rattle.machine.proofs.Ranges.{frame-ranged}
-use Rattle.machine.proofs.Lent.{held-none, held-end, Ready, iteration-t, go-stands}
+use Rattle.machine.proofs.Lent.{held-none, held-end, ReadyState, iteration-t, go-stands}
 use Rattle.machine.proofs.Buffers.{admits, accepted-call}
-use Rattle.machine.proofs.Resume.{at, Sound, iteration-sound, iterating-at}
+use Rattle.machine.proofs.Resume.{at, SoundState, iteration-sound, iterating-at}
 
 -- what is left of a run, by its first test
 pub go-open : (C : Code) (n : ℕ) (s : State) → settled C (s .costs) ≡ false → go C (suc n) s ≡ go C n (iteration C s)
@@ -45,7 +45,7 @@ module _ (C : Code) (G : GoodCode C) (b₀ : Buffers) (room : Room C b₀) (code
   stays (suc n) notFound t b = refl
 
   -- from a state that does not satisfy every check, with n iterations left after the next
-  goes-on : (k n : ℕ) (s : State) → Sound C G b₀ room s → settled C (s .costs) ≡ false → s .t + suc n ≡ C .limit → suc n ≤ k
+  goes-on : (k n : ℕ) (s : State) → SoundState C G b₀ room s → settled C (s .costs) ≡ false → s .t + suc n ≡ C .limit → suc n ≤ k
       → onward code f k (moment 1 0 (s .t) (at C G b₀ room s)) ≡ endOf (go C n (iteration C s))
   unfolding onward
   goes-on zero n s S e l h = absurd (omega arith)
@@ -55,7 +55,7 @@ module _ (C : Code) (G : GoodCode C) (b₀ : Buffers) (room : Room C b₀) (code
       t-is : iteration C s .t ≡ s .t + 1
       t-is = iteration-t C G (b₀ .store) (room .for-store) s
 
-      by : ((m : ℕ) (u : State) → Sound C G b₀ room u → settled C (u .costs) ≡ false → u .t + suc m ≡ C .limit → suc m ≤ k
+      by : ((m : ℕ) (u : State) → SoundState C G b₀ room u → settled C (u .costs) ≡ false → u .t + suc m ≡ C .limit → suc m ≤ k
           → onward code f k (moment 1 0 (u .t) (at C G b₀ room u)) ≡ endOf (go C m (iteration C u)))
           → (i : Bool) → settled C (iteration C s .costs) ≡ i → (j : Bool) → leb (C .limit) (s .t + 1) ≡ j
           → onward code f k (moment (pick i 2 (pick j 3 1)) 0 (s .t + 1) (at C G b₀ room (iteration C s))) ≡ endOf (go C n (iteration C s))
@@ -75,7 +75,7 @@ module _ (C : Code) (G : GoodCode C) (b₀ : Buffers) (room : Room C b₀) (code
   no-last : (m : ℕ) → m < length (C .checks) → lastOf (start C f) m ≡ none
   no-last m h = getD-replicate (length (C .checks)) m none none h
 
-  pub start-ready : Ready C G (b₀ .store) (room .for-store) (start C f)
+  pub start-ready : ReadyState C G (b₀ .store) (room .for-store) (start C f)
   start-ready = record { kept = record { full = length-replicate (length (C .checks)) none; fine = λ m h. rw (no-last m h) tt }; when = no-last }
 
   pub start-at : at C G b₀ room (start C f) ≡ holding C f (b₀ .store) b₀

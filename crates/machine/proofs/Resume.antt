@@ -22,7 +22,7 @@ use Rattle.machine.specs.inner.Accepted.{GoodCode}
 use Rattle.machine.proofs.Updates.{Fine, IsMade, made-proper}
 use Rattle.machine.specs.inner.InRange.{Ranged}
 use Rattle.machine.proofs.Ranges.{part-front, column-room, iteration-ranged}
-use Rattle.machine.proofs.Lent.{len, lentOf, When, length-held, held-part, iteration-stands, Ready, iteration-ready}
+use Rattle.machine.proofs.Lent.{len, lentOf, When, length-held, held-part, iteration-stands, ReadyState, iteration-ready}
 use Rattle.machine.specs.Decoding.{Buffers, holding, admitted, Room}
 use Rattle.machine.proofs.Buffers.{holding-again, holding-room, admits}
 use Rattle.machine.specs.Moments.{Moment, moment, costsOk, storeOk, resumable, further, stateAfter, gone, iteratingUnder, iterating}
@@ -43,11 +43,11 @@ module _ (C : Code) (G : GoodCode C) (b₀ : Buffers) (room : Room C b₀) where
   abbrev pub at : State → Buffers
   at s = holding C (s .costs) (held C (b₀ .store) s) b₀
 
-  pub record Sound (s : State) : Type 0 where
-    pub ready : Ready C G (b₀ .store) (room .for-store) s
+  pub record SoundState (s : State) : Type 0 where
+    pub ready : ReadyState C G (b₀ .store) (room .for-store) s
     pub ranged : Ranged C (s .costs)
 
-  pub iteration-sound : (s : State) → Sound s → Sound (iteration C s)
+  pub iteration-sound : (s : State) → SoundState s → SoundState (iteration C s)
   iteration-sound s S = record { ready = iteration-ready C G (b₀ .store) (room .for-store) s (S .ready); ranged = iteration-ranged C G s (S .ranged) }
 
   piece-ok : (m : ℕ) → m < length (C .checks) → (l : Last) → Fine C (check C m) l → IsMade l → recordOk (rule C) (length (check C m)) (pieceOf C (b₀ .store) m l) ≡ true
@@ -55,7 +55,7 @@ module _ (C : Code) (G : GoodCode C) (b₀ : Buffers) (room : Room C b₀) where
   piece-ok m h (made cs) f i =
       ap (λ d. recordOk (rule C) d (recordOf (rule C) cs)) (sym (f .count)) ∙ record-ok (rule C) cs (made-proper C G (check C m) (G .each-check m h) cs f)
 
-  pub store-pass : (s : State) → Sound s → (eqb (s .t) 0 || storeOk C (held C (b₀ .store) s)) ≡ true
+  pub store-pass : (s : State) → SoundState s → (eqb (s .t) 0 || storeOk C (held C (b₀ .store) s)) ≡ true
   unfolding storeOk
   store-pass s S = go (eqb (s .t) 0) (S .ready .when)
     where
@@ -67,24 +67,24 @@ module _ (C : Code) (G : GoodCode C) (b₀ : Buffers) (room : Room C b₀) where
           (rw (held-part C G (b₀ .store) (room .for-store) s (S .ready .kept) m h) (piece-ok m h (lastOf s m) (S .ready .kept .fine m h) (w m h)))))
 
   module _ (code f : List ℕ) (line : parse code ≡ good C) (fits : frameFault C f ≡ 0) where
-    pub admitted-at : (s : State) → Sound s → admitted code f (at s) ≡ good C
+    pub admitted-at : (s : State) → SoundState s → admitted code f (at s) ≡ good C
     admitted-at s S =
         admits code f (at s) C (record { line = line; fits = fits })
         (holding-room C (s .costs) (held C (b₀ .store) s) b₀ room (S .ranged .full) (length-held C G (b₀ .store) (room .for-store) s (S .ready .kept)))
 
-    pub resumable-at : (s : State) → Sound s → resumable code f (s .t) (at s) ≡ good C
+    pub resumable-at : (s : State) → SoundState s → resumable code f (s .t) (at s) ≡ good C
     unfolding resumable
     resumable-at s S =
         rw (admitted-at s S, costs-pass C (s .costs) (drop (C .columns * size C) (b₀ .costs)) (S .ranged), store-pass s S)
 
-    pub further-at : (s : State) → Sound s → further C (s .t) (at s) ≡ lentOf C (b₀ .store) (iteration C s)
+    pub further-at : (s : State) → SoundState s → further C (s .t) (at s) ≡ lentOf C (b₀ .store) (iteration C s)
     further-at s S =
         ap (λ P. iterationLent C (eqb (s .t) 0) (record { costs = P; store = held C (b₀ .store) s }))
         (take-at (s .costs) (drop (C .columns * size C) (b₀ .costs)) (C .columns * size C) (S .ranged .full))
         ∙ iteration-stands C G (b₀ .store) (room .for-store) (eqb (s .t) 0) s (S .ready .kept) (S .ready .when)
 
     -- one iteration
-    pub iterating-at : (s : State) → Sound s → iterating code f (s .t) (at s) ≡ moment (stateAfter C (s .t + 1) (iteration C s .costs)) 0 (s .t + 1) (at (iteration C s))
+    pub iterating-at : (s : State) → SoundState s → iterating code f (s .t) (at s) ≡ moment (stateAfter C (s .t + 1) (iteration C s .costs)) 0 (s .t + 1) (at (iteration C s))
     unfolding iterating
     iterating-at s S =
         ap (λ c. iteratingUnder c (s .t) (at s)) (resumable-at s S)

@@ -24,7 +24,7 @@ use Rattle.trellis.proofs.Sent.{Proper, deviates-small, goal, fits-deci
 use Rattle.trellis.proofs.Tests.{both, fst-T, snd-T, or-left, or-right, or-cases, all-or-one}
 use Rattle.trellis.proofs.Ranks.{placed}
 use Rattle.trellis.proofs.InOrder.{of-take, of-order, length-order, in-first}
-use Rattle.trellis.proofs.Kept.{rank, Keeps, fine, improve, weightOf, difference-small, symbol-at, symbol-own, cost-set, few-set, sum-set, x-small, w₀, f₀, at₀, else₀, few₀, cost₀, sum₀, row-some}
+use Rattle.trellis.proofs.Kept.{rank, KeepsColumn, fine, improve, weightOf, difference-small, symbol-at, symbol-own, cost-set, few-set, sum-set, x-small, w₀, f₀, at₀, else₀, few₀, cost₀, sum₀, row-some}
 
 length-rows : (f : ℕ → List Entry) (w : ℕ) (l : List ℕ) → ((x : ℕ) → length (f x) ≡ w) → length (each f l) ≡ w * length l
 length-rows f w [] g = omega arith
@@ -260,7 +260,7 @@ module _ (R : Rule) (cs : List Column) (P : Proper R cs) where
         let c : costOf R cs w ≡ sentAt R cs n a = cost-others R cs P a n l w (g .fits) e ∙ ap (costOf R (others n cs)) o ∙ S .attained in
         let r = improve R cs P a n l (suc (placed (weightOf R cs P) 0 w)) w (record { good = g; here = e }) (le-refl _) in
         let v : List ℕ = r .0 in
-        let k : Keeps R cs P a n v = r .1 in
+        let k : KeepsColumn R cs P a n v = r .1 in
         let C = chosen (R .most) v (k .good .fits) (r .3) (k .good .few) in
         let at-n : (m : ℕ) → T (among m (n ∷ [])) → getD v m 0 ≡ decision (column cs m) .symbol =
         λ m t. let q : m ≡ n = ⊎-elim (λ (s : T (eqb m n)). eqb→eq m n s) (λ (s : ⊥). absurd s) (or-cases (eqb m n) false t) in rw q (k .here) in

@@ -77,15 +77,15 @@ fold-mark [] = le-refl _
 fold-mark (x ∷ l) = omega (arith, fold-mark l)
 
 -- m is the cost of a choice with j deviations and weighted sum t
-abbrev pub Costs : Rule → List Column → ℕ → ℕ → ℕ → Type 0
-Costs R cs j t m = (w : List ℕ) × Counted R cs j t w × (costOf R cs w ≡ m)
+abbrev pub SweepCosts : Rule → List Column → ℕ → ℕ → ℕ → Type 0
+SweepCosts R cs j t m = (w : List ℕ) × Counted R cs j t w × (costOf R cs w ≡ m)
 
 module _ (R : Rule) (cs : List Column) (j t : ℕ) where
   pub swept-mark : swept R cs j t ≤ mark
   unfolding swept
   swept-mark = fold-mark (map (costOf R cs) (keep (counted? R cs j t) (choices (R .size) cs)))
 
-  pub swept-near : Near (Costs R cs j t) (swept R cs j t)
+  pub swept-near : Near (SweepCosts R cs j t) (swept R cs j t)
   unfolding swept
   swept-near =
       near-iff
@@ -101,7 +101,7 @@ module _ (R : Rule) (cs : List Column) (j t : ℕ) where
   swept-keeps small =
       ⊎-elim
       (λ (h : mark ≤ swept R cs j t). inr (omega (arith, swept-mark), λ w c. absurd (omega (arith, small w c, swept-near .least (costOf R cs w) (w, c, refl)))))
-      (λ (h : Costs R cs j t (swept R cs j t)). inl record { choice = h .0; counted = h .1; attained = h .2; least = λ w c. swept-near .least (costOf R cs w) (w, c, refl) })
+      (λ (h : SweepCosts R cs j t (swept R cs j t)). inl record { choice = h .0; counted = h .1; attained = h .2; least = λ w c. swept-near .least (costOf R cs w) (w, c, refl) })
       (swept-near .attained)
 
 -- no column: one choice, of cost 0
@@ -113,7 +113,7 @@ swept-none R j t = near-one (swept-near R [] j t) (go (eqb j 0) refl (eqb t 0) r
     capped true false = le-refl _
     capped false b = le-refl _
 
-    go : (a : Bool) → eqb j 0 ≡ a → (b : Bool) → eqb t 0 ≡ b → Near (Costs R [] j t) (cond a (cond b 0 mark) mark)
+    go : (a : Bool) → eqb j 0 ≡ a → (b : Bool) → eqb t 0 ≡ b → Near (SweepCosts R [] j t) (cond a (cond b 0 mark) mark)
     go true e true f = record { attained = inr ([], record { fits = none; count = sym (eqb→eq j 0 (rw e tt)); sum = sym (eqb→eq t 0 (rw f tt)) }, refl); least = λ n h. omega arith }
     go true e false f = record { attained = inl (le-refl _); least = λ n h. absurd (let q : t ≡ 0 = sym (h .1 .sum) in let u : T (eqb t 0) = rw q tt in rw f at u) }
     go false e b f = record { attained = inl (le-refl _); least = λ n h. absurd (let q : j ≡ 0 = sym (h .1 .count) in let u : T (eqb j 0) = rw q tt in rw e at u) }
@@ -150,10 +150,10 @@ module _ (R : Rule) (J : Joins (R .join)) where
         go false e = record { attained = inr ((λ h. let u : T (eqb x z) = rw h (eqb-refl z) in rw e at u), refl); least = λ n s. omega arith }
 
     abbrev Keeping : ℕ → ℕ → ℕ → Type 0
-    Keeping j t m = Costs R cs j (xor t (weigh R c z)) m
+    Keeping j t m = SweepCosts R cs j (xor t (weigh R c z)) m
 
     abbrev Deviating : ℕ → ℕ → ℕ → Type 0
-    Deviating j t m = (x : ℕ) × (x < R .size) × ((y v : ℕ) × ((x ≢ z) × (y ≡ costAt c x)) × Costs R cs j (xor t (weigh R c x)) v × (m ≡ R .join y v))
+    Deviating j t m = (x : ℕ) × (x < R .size) × ((y v : ℕ) × ((x ≢ z) × (y ≡ costAt c x)) × SweepCosts R cs j (xor t (weigh R c x)) v × (m ≡ R .join y v))
 
     moved : (x : ℕ) {s t : ℕ} → s ≡ xor t (weigh R c x) → xor (weigh R c x) s ≡ t
     moved x {s} {t} e = rw (e, xor-comm t) (xor-cancel (weigh R c x) t)
@@ -161,7 +161,7 @@ module _ (R : Rule) (J : Joins (R .join)) where
     back : (x : ℕ) {s t : ℕ} → xor (weigh R c x) s ≡ t → s ≡ xor t (weigh R c x)
     back x {s} {t} e = sym (rw (← e, xor-comm (xor (weigh R c x) s)) (xor-cancel (weigh R c x) s))
 
-    keeping : (j t m : ℕ) → Keeping j t m → Costs R (c ∷ cs) j t m
+    keeping : (j t m : ℕ) → Keeping j t m → SweepCosts R (c ∷ cs) j t m
     keeping j t m h = (
       z ∷ h .0,
       record { fits = more below (h .1 .fits); count = rw (same-symbol c z refl, zero-add) (h .1 .count); sum = moved z (h .1 .sum) },
@@ -171,7 +171,7 @@ module _ (R : Rule) (J : Joins (R .join)) where
     differs : (x : ℕ) → x ≢ z → deviates c x ≡ 1
     differs x n = ⊎-elim (λ (e : x ≡ z). absurd (n e)) (λ e. e) (deviates-cases c x)
 
-    deviating : (j t m : ℕ) → Deviating j t m → Costs R (c ∷ cs) (suc j) t m
+    deviating : (j t m : ℕ) → Deviating j t m → SweepCosts R (c ∷ cs) (suc j) t m
     deviating j t m h =
         let x : ℕ = h .0 in
         let w = h .2 .3 in (
@@ -180,7 +180,7 @@ module _ (R : Rule) (J : Joins (R .join)) where
           rw (w .2, ← h .2 .2 .1) (sym (h .2 .4)),
         )
 
-    split : (j t m : ℕ) → Costs R (c ∷ cs) j t m → Keeping j t m ⊎ ((i : ℕ) × (j ≡ suc i) × Deviating i t m)
+    split : (j t m : ℕ) → SweepCosts R (c ∷ cs) j t m → Keeping j t m ⊎ ((i : ℕ) × (j ≡ suc i) × Deviating i t m)
     split j t m (w, h, e) = go (h .fits) (h .count) (h .sum) e
       where
         go : {w : List ℕ} → Fits (R .size) (c ∷ cs) w → deviations (c ∷ cs) w ≡ j → weightedSum R (c ∷ cs) w ≡ t → costOf R (c ∷ cs) w ≡ m → Keeping j t m ⊎ ((i : ℕ) × (j ≡ suc i) × Deviating i t m)
@@ -191,7 +191,7 @@ module _ (R : Rule) (J : Joins (R .join)) where
               | no u ↦ inr (deviations cs w, omega (arith, differs x u), (x, k, (costAt c x, costOf R cs w, (u, refl), (w, record { fits = f; count = refl; sum = back x s }, refl), sym e)))
             ]
 
-    step-near : (j t : ℕ) → Near (Costs R (c ∷ cs) j t) (stepped R c (swept R cs) j t)
+    step-near : (j t : ℕ) → Near (SweepCosts R (c ∷ cs) j t) (stepped R c (swept R cs) j t)
     unfolding stepped
     step-near zero t =
         near-iff (keeping 0 t) (λ m h. ⊎-elim (λ k. k) (λ (r : (i : ℕ) × (0 ≡ suc i) × Deviating i t m). absurd (omega (arith, r .1))) (split 0 t m h)) (swept-near R cs 0 (xor t (weigh R c z)))
@@ -215,20 +215,20 @@ module _ (R : Rule) (J : Joins (R .join)) where
     total-last : (op : ℕ → ℕ → ℕ) → Gathers op → ((a : ℕ) → op a 0 ≡ a) → (f : Column → ℕ → ℕ) {w : List ℕ} (x : ℕ) → Fits (R .size) cs w → total op f (cs ++ (c ∷ [])) (w ++ (x ∷ [])) ≡ op (f c x) (total op f cs w)
     total-last op G r f {w} x h = total-append op G f h (c ∷ []) (x ∷ []) ∙ G .turn (total op f cs w) (f c x) 0 ∙ ap (op (f c x)) (r (total op f cs w))
 
-    turned : (j t m : ℕ) → Costs R (c ∷ cs) j t m → Costs R (cs ++ (c ∷ [])) j t m
+    turned : (j t m : ℕ) → SweepCosts R (c ∷ cs) j t m → SweepCosts R (cs ++ (c ∷ [])) j t m
     turned j t m (w, h, e) = go (h .fits) (h .count) (h .sum) e
       where
-        go : {w : List ℕ} → Fits (R .size) (c ∷ cs) w → deviations (c ∷ cs) w ≡ j → weightedSum R (c ∷ cs) w ≡ t → costOf R (c ∷ cs) w ≡ m → Costs R (cs ++ (c ∷ [])) j t m
+        go : {w : List ℕ} → Fits (R .size) (c ∷ cs) w → deviations (c ∷ cs) w ≡ j → weightedSum R (c ∷ cs) w ≡ t → costOf R (c ∷ cs) w ≡ m → SweepCosts R (cs ++ (c ∷ [])) j t m
         go (more {x = x} {w = w} k f) d s e = (
           w ++ (x ∷ []),
           record { fits = fits-append f (more k none); count = total-last _+_ sums add-zero deviates x f ∙ d; sum = total-last xor xors xor-right (weigh R) x f ∙ s },
           total-last (R .join) (J .gathers) (J .right) costAt x f ∙ e,
         )
 
-    turned-back : (j t m : ℕ) → Costs R (cs ++ (c ∷ [])) j t m → Costs R (c ∷ cs) j t m
+    turned-back : (j t m : ℕ) → SweepCosts R (cs ++ (c ∷ [])) j t m → SweepCosts R (c ∷ cs) j t m
     turned-back j t m (u, h, e) = let r = fits-split cs (h .fits) in go (r .0) (r .2) (r .3) (r .4)
       where
-        go : (w : List ℕ) {v : List ℕ} → Fits (R .size) cs w → Fits (R .size) (c ∷ []) v → u ≡ w ++ v → Costs R (c ∷ cs) j t m
+        go : (w : List ℕ) {v : List ℕ} → Fits (R .size) cs w → Fits (R .size) (c ∷ []) v → u ≡ w ++ v → SweepCosts R (c ∷ cs) j t m
         go w f (more {x = x} k none) g = (
           x ∷ w,
           record {
@@ -250,7 +250,7 @@ module _ (R : Rule) (J : Joins (R .join)) where
 
   module _ (cs ds : List Column) (small : (w : List ℕ) → Fits (R .size) cs w → weightedSum R cs w < R .size) (k t : ℕ) where
     abbrev Both : ℕ → ℕ → ℕ → ℕ → Type 0
-    Both i j s m = (x y : ℕ) × Costs R cs i s x × Costs R ds j (xor s t) y × (m ≡ R .join x y)
+    Both i j s m = (x y : ℕ) × SweepCosts R cs i s x × SweepCosts R ds j (xor s t) y × (m ≡ R .join x y)
 
     abbrev Shared : ℕ → Type 0
     Shared m = (i : ℕ) × (i < suc k) × ((j : ℕ) × (j < suc (k - i)) × ((s : ℕ) × (s < R .size) × Both i j s m))
@@ -305,7 +305,7 @@ module _ (R : Rule) (J : Joins (R .join)) where
         (near-leastTo _ (λ i. leastTo (across R (swept R cs) (swept R ds) t i) (suc (k - i))) (suc k)
         (λ i u. near-leastTo _ (across R (swept R cs) (swept R ds) t i) (suc (k - i))
         (λ j v. near-leastTo _ (λ s. R .join (swept R cs i s) (swept R ds j (xor s t))) (R .size)
-        (λ s l. near-join (Costs R cs i s) (Costs R ds j (xor s t)) (swept R cs i s) (swept R ds j (xor s t)) (swept-near R cs i s) (swept-near R ds j (xor s t))))))
+        (λ s l. near-join (SweepCosts R cs i s) (SweepCosts R ds j (xor s t)) (swept R cs i s) (swept R ds j (xor s t)) (swept-near R cs i s) (swept-near R ds j (xor s t))))))
 
     joined-mark : joined R (swept R cs) (swept R ds) k t ≤ mark
     unfolding joined

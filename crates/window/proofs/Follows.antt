@@ -18,18 +18,18 @@ use Rattle.machine.proofs.Lines.{parse-good}
 use Rattle.machine.proofs.Early.{limit-read}
 use Rattle.machine.proofs.Updates.{GoodUpdates}
 use Rattle.machine.proofs.Ranges.{frame-ranged}
-use Rattle.machine.proofs.Lent.{held-none, held-end, Ready, iteration-t, go-stands}
+use Rattle.machine.proofs.Lent.{held-none, held-end, ReadyState, iteration-t, go-stands}
 use Rattle.machine.specs.Decoding.{Buffers, holding, admitted, decodingUnder, decoding, storeOf, Room}
 use Rattle.machine.proofs.Buffers.{Admits, admits, admits-of, decoding-good}
 use Rattle.machine.specs.Moments.{stateFor, loadingUnder, loading, stateAfter, iterating}
 use Rattle.window.specs.Window.{Registers, Window, entering, taking, load, iterate, masked, cleared, second, command, write}
 use Rattle.window.specs.Writes.{Write, writes, commands, loadCommand, EndsAs, Bytes, Load-and-iterate}
 use Rattle.machine.proofs.Onward.{go-open, go-found, go-missed, start-ready, start-at, end-at}
-use Rattle.machine.proofs.Resume.{at, Sound, iteration-sound, iterating-at}
+use Rattle.machine.proofs.Resume.{at, SoundState, iteration-sound, iterating-at}
 
 -- one command 2, where the buffers hold a state of a run
 iterate-at : (C : Code) (G : GoodCode C) (b₀ : Buffers) (room : Room C b₀) (code f : List ℕ) (line : parse code ≡ good C) (fits : frameFault C f ≡ 0)
-    (s : State) → Sound C G b₀ room s → (r : Registers) → r .iterations ≡ s .t
+    (s : State) → SoundState C G b₀ room s → (r : Registers) → r .iterations ≡ s .t
     → iterate code f (record { registers = r; buffers = at C G b₀ room s })
     ≡ record { registers = entering (stateAfter C (s .t + 1) (iteration C s .costs)) 0 (s .t + 1) r; buffers = at C G b₀ room (iteration C s) }
 iterate-at C G b₀ room code f line fits s S r e =
@@ -78,7 +78,7 @@ module _ (C : Code) (G : GoodCode C) (b₀ : Buffers) (room : Room C b₀) (code
     pub refusal : w .registers .refusal ≡ 0
     pub iterations : w .registers .iterations ≡ s .t
     pub buffers : w .buffers ≡ at C G b₀ room s
-    pub sound : Sound C G b₀ room s
+    pub sound : SoundState C G b₀ room s
     pub unsettled : settled C (s .costs) ≡ false
     pub left : s .t + suc n ≡ C .limit
 

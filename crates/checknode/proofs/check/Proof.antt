@@ -6,7 +6,7 @@ use borrow.Author.Needs.{needs}
 use lib.ListN.{length, length-take}
 use Rattle.trellis.specs.Rules.{sizeOf}
 use Rattle.trellis.proofs.Recurrence.{size-64}
-use Rattle.checknode.proofs.CheckFault.{Passed, passed}
+use Rattle.checknode.proofs.CheckFault.{CheckPassed, passed}
 use Rattle.checknode.proofs.CheckCall.{refused, written}
 use Rattle.checknode.proofs.check.Statement.{statement}
 use Rattle.checknode.proofs.check.Tie as tie
@@ -20,7 +20,7 @@ returns c =
     refused (a .first) (a .weights .now) (a .costs .now) (a .out .now) (c .before .check-fault .ensures) (c .if1 .taken)
 
 -- past the refusals
-accepts : (c : tie.Else1) → let a = c .before .before .before .before .before .args in Passed (a .first) (a .weights .now) (a .costs .now) (length (a .out .now))
+accepts : (c : tie.Else1) → let a = c .before .before .before .before .before .args in CheckPassed (a .first) (a .weights .now) (a .costs .now) (length (a .out .now))
 accepts c =
     let a = c .before .before .before .before .before .args in
     passed (a .first) (a .weights .now) (a .costs .now) (length (a .out .now)) (c .before .check-fault .ensures) (c .if1 .left)

@@ -7,7 +7,7 @@ use lib.ListN.{length, length-take}
 use Rattle.field.proofs.Blocks.{mul-small}
 use Rattle.trellis.specs.Rules.{sizeOf}
 use Rattle.trellis.proofs.Recurrence.{size-64}
-use Rattle.checknode.proofs.CheckFault.{Passed, passed}
+use Rattle.checknode.proofs.CheckFault.{CheckPassed, passed}
 use Rattle.checknode.proofs.MessagesCall.{refused, refused-2, written}
 use Rattle.checknode.proofs.messages.Statement.{statement}
 use Rattle.checknode.proofs.messages.Tie as tie
@@ -21,7 +21,7 @@ returns c =
     refused (a .first) (a .weights .now) (a .costs .now) (a .out .now) (a .sent .now) (c .before .check-fault .ensures) (c .if1 .taken)
 
 -- past the check's refusals
-accepts : (c : tie.Else1) → let a = c .before .before .before .before .before .before .args in Passed (a .first) (a .weights .now) (a .costs .now) (length (a .out .now))
+accepts : (c : tie.Else1) → let a = c .before .before .before .before .before .before .args in CheckPassed (a .first) (a .weights .now) (a .costs .now) (length (a .out .now))
 accepts c =
     let a = c .before .before .before .before .before .before .args in
     passed (a .first) (a .weights .now) (a .costs .now) (length (a .out .now)) (c .before .check-fault .ensures) (c .if1 .left)

@@ -4,13 +4,13 @@ use Prim.Native.Nat.{_-_}
 use native.Mathlib.Omega.{arith}
 use borrow.Author.Needs.{needs}
 use Rattle.frame.specs.Answers.{lowCost}
-use Rattle.frame.proofs.Frames.{Passed, passed-all}
+use Rattle.frame.proofs.Frames.{PassedTo, passed-all}
 use Rattle.frame.proofs.Resuming.{low-more, low-not}
 use Rattle.frame.proofs.columns.low_costs.Statement.{statement}
 use Rattle.frame.proofs.columns.low_costs.Tie as tie
 
 abbrev Inv-loop : tie.InvT-loop
-Inv-loop costs w i₀ i = Passed (lowCost costs) w i
+Inv-loop costs w i₀ i = PassedTo (lowCost costs) w i
 
 abbrev μ-loop : tie.MeasureT-loop
 μ-loop costs w i₀ i = w - i

@@ -4,12 +4,12 @@ use native.Mathlib.Omega.{arith}
 use borrow.Author.Needs.{needs}
 use Rattle.machine.specs.CodeLine.{zeroIn}
 use Rattle.machine.proofs.Ranges.{column-room}
-use Rattle.frame.proofs.Frames.{Passed, passed-all, passed-more, passed-not}
+use Rattle.frame.proofs.Frames.{PassedTo, passed-all, passed-more, passed-not}
 use Rattle.frame.proofs.columns.zeros_u16.Statement.{statement}
 use Rattle.frame.proofs.columns.zeros_u16.Tie as tie
 
 abbrev Inv-loop : tie.InvT-loop
-Inv-loop costs q n c₀ c = Passed (zeroIn q costs) n c
+Inv-loop costs q n c₀ c = PassedTo (zeroIn q costs) n c
 
 abbrev μ-loop : tie.MeasureT-loop
 μ-loop costs q n c₀ c = n - c

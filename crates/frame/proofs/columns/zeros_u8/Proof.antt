@@ -4,12 +4,12 @@ use native.Mathlib.Omega.{arith}
 use borrow.Author.Needs.{needs}
 use Rattle.machine.specs.CodeLine.{zeroIn}
 use Rattle.machine.proofs.Ranges.{column-room}
-use Rattle.frame.proofs.Frames.{Passed, passed-all, passed-more, passed-not}
+use Rattle.frame.proofs.Frames.{PassedTo, passed-all, passed-more, passed-not}
 use Rattle.frame.proofs.columns.zeros_u8.Statement.{statement}
 use Rattle.frame.proofs.columns.zeros_u8.Tie as tie
 
 abbrev Inv-loop : tie.InvT-loop
-Inv-loop frame q n c₀ c = Passed (zeroIn q frame) n c
+Inv-loop frame q n c₀ c = PassedTo (zeroIn q frame) n c
 
 abbrev μ-loop : tie.MeasureT-loop
 μ-loop frame q n c₀ c = n - c
