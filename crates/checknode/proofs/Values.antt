@@ -3,16 +3,14 @@ use mathlib.Core.List.{List}
 use Prim.Native.Nat.{ℕ, _*_, _-_, _≤_}
 use native.Mathlib.Nat.{mul-le-mul}
 use native.Mathlib.Omega.{arith}
-use lib.Dec.{eqb, ltb}
-use lib.ListN.{length}
-use Rattle.trellis.specs.Lists.{allTo}
+use lib.ListN.{length, drop}
 use Rattle.trellis.specs.Record.{groupLength, recordLength}
 use Rattle.trellis.specs.Rules.{ruleFor, powerOf, sizeOf}
 use Rattle.trellis.specs.Reply.{accepted}
 use Rattle.trellis.proofs.Rules.{most-few}
 use Rattle.trellis.proofs.Recurrence.{size-64}
-use Rattle.field.proofs.Values.{Short, either, none, short-under}
-use Rattle.checknode.specs.Answers.{zeroOk, checkReply}
+use Rattle.field.proofs.Values.{Short, short-under, short-by}
+use Rattle.checknode.specs.Answers.{checkCallTests, checkReply}
 
 -- at most seven bytes for each of at most 63 symbols
 groups-441 : (first : ℕ) → powerOf first ≤ 6 → groupLength (ruleFor first) * (sizeOf first - 1) ≤ 441
@@ -26,5 +24,4 @@ unfolding checkReply
 check-short first ws cs out =
     short-under first ws _ (λ W.
     let l : Short (accepted (recordLength (ruleFor first) (length ws))) = record { small = omega (arith, W .few, groups-441 first (W .high)) } in
-    either (eqb (length cs) (length ws * sizeOf first)) _ _
-    (either (allTo (zeroOk (sizeOf first) cs) (length ws)) _ _ (either (ltb (length out) (recordLength (ruleFor first) (length ws))) _ _ (none 4) l) (none 13)) (none 12)) .small
+    short-by (drop 4 (checkCallTests first ws cs (length out))) l) .small

@@ -1,6 +1,6 @@
 -- The tests of a display in their order, and what a call leads to by them.
-use mathlib.Core.Path.{_≡_, refl, sym, ap, _∙_}
-use mathlib.Core.Bool.{Bool, true, false, not}
+use mathlib.Core.Path.{_≡_, sym, ap, _∙_}
+use mathlib.Core.Bool.{Bool, true, false}
 use mathlib.Core.List.{List, [], _∷_, _++_}
 use Prim.Native.Nat.{ℕ, _≤_, _<_}
 use native.Mathlib.Decide.{ℕ-discrete}
@@ -11,14 +11,14 @@ use lib.Seq.{length-take-le}
 use borrow.Author.Tests.{eq-eqb, ne-eqb, lt-ltb, le-ltb, ltb-false}
 use Rattle.trellis.specs.Lists.{pick}
 use Rattle.trellis.specs.Record.{recordOk}
-use Rattle.trellis.specs.Rules.{powerOf, sizeOf, firstOk, ruleFor}
-use Rattle.trellis.specs.Refusals.{when, unless}
-use Rattle.trellis.proofs.Refusals.{by-number}
-use Rattle.trellis.specs.Reply.{Reply, accepted, refusal}
+use Rattle.trellis.specs.Rules.{powerOf, ruleFor}
+use Rattle.trellis.specs.Refusals.{Test, when, unless, refusedBy, faultBy}
+use Rattle.trellis.proofs.Refusals.{Numbered, by-number, none-applies, passed-both}
+use Rattle.trellis.specs.Reply.{accepted, refusal}
 use Rattle.trellis.specs.Display.{displayed, Stored}
-use Rattle.trellis.proofs.Display.{form-front}
-use Rattle.field.specs.Answers.{weightTests, weightsOk, weightsFault}
-use Rattle.field.proofs.Weighed.{WeightsAccepted, no-fault, fault-case, rest-case, weight-at}
+use Rattle.trellis.proofs.Form.{form-front, form-line}
+use Rattle.field.specs.Answers.{weightTests, weightCases, weightsFault}
+use Rattle.field.proofs.Weighed.{WeightsAccepted, weights-passed, fault-case, rest-case, weight-at}
 use Rattle.display.specs.Answers.{displayCases, displayFault, displayReply, displayLeaves}
 use Rattle.display.specs.inner.Showing.{ShowRoom}
 
@@ -26,20 +26,33 @@ module _ (f : ℕ) (ws r : List ℕ) where
   abbrev formed : Bool
   formed = recordOk (ruleFor f) (length ws) r
 
-  -- the tests in their order
+  -- the tests in their order, the record's form one of them
   module _ (room : ℕ) where
-    pub weight-fault : (k : ℕ) → k ≡ weightsFault f ws → (k ≡ 0 → ⊥) → k ≡ displayFault f ws r room
+    abbrev tests : List Test
+    tests = weightTests f ws ++ (unless formed 16 ∷ when (ltb room (length ws)) 2 ∷ [])
+
+    numbered : Numbered tests
+    numbered = ((λ e. omega arith), ((λ e. omega arith), ((λ e. omega arith), ((λ e. omega arith), ((λ e. omega arith), ((λ e. omega arith), tt))))))
+
+    in-tests : {A : Type 0} (bad : ℕ → A) (good : A) → displayCases f ws r room bad good ≡ refusedBy tests bad good
+    in-tests bad good = ap (weightCases f ws bad) (form-line (ruleFor f) (length ws) r (when (ltb room (length ws)) 2 ∷ []) bad good)
+
+    fault-is : displayFault f ws r room ≡ faultBy tests
     unfolding displayFault
-    weight-fault k e n = fault-case f ws (λ k. k) (pick formed (pick (ltb room (length ws)) 2 0) 16) e n
+    fault-is = in-tests (λ k. k) 0
+
+    pub weight-fault : (k : ℕ) → k ≡ weightsFault f ws → (k ≡ 0 → ⊥) → k ≡ displayFault f ws r room
+    weight-fault k e n = fault-case f ws (λ k. k) (pick formed (pick (ltb room (length ws)) 2 0) 16) e n ∙ sym fault-is
 
     module _ (W : WeightsAccepted f ws) where
+      past-weights : displayFault f ws r room ≡ pick formed (pick (ltb room (length ws)) 2 0) 16
+      past-weights = fault-is ∙ rest-case f ws W (λ k. k) _
+
       pub form-fault : formed ≡ false → 16 ≡ displayFault f ws r room
-      unfolding displayFault
-      form-fault o = sym (rest-case f ws W (λ k. k) _ ∙ rw o)
+      form-fault o = sym (past-weights ∙ rw o)
 
       pub accepts : formed ≡ true → displayFault f ws r room ≡ pick (ltb room (length ws)) 2 0
-      unfolding displayFault
-      accepts o = rest-case f ws W (λ k. k) _ ∙ rw o
+      accepts o = past-weights ∙ rw o
 
       pub short-fault : formed ≡ true → room < length ws → 2 ≡ displayFault f ws r room
       short-fault o h = sym (accepts o ∙ rw (lt-ltb room (length ws) h))
@@ -49,10 +62,7 @@ module _ (f : ℕ) (ws r : List ℕ) where
 
     -- any answer goes by the number of the refusal
     pub by-fault : {A : Type 0} (bad : ℕ → A) (good : A) → displayCases f ws r room bad good ≡ pick (eqb (displayFault f ws r room) 0) good (bad (displayFault f ws r room))
-    unfolding displayFault
-    by-fault bad good =
-        by-number (weightTests f ws ++ (unless formed 16 ∷ when (ltb room (length ws)) 2 ∷ []))
-        ((λ e. omega arith), ((λ e. omega arith), ((λ e. omega arith), ((λ e. omega arith), ((λ e. omega arith), ((λ e. omega arith), tt)))))) bad good
+    by-fault bad good = in-tests bad good ∙ by-number tests numbered bad good ∙ rw (← fault-is)
 
   -- a call that is not refused
   pub record DisplayPassed (room : ℕ) : Type 0 where
@@ -61,18 +71,9 @@ module _ (f : ℕ) (ws r : List ℕ) where
     pub enough : length ws ≤ room
 
   pub passes : (room : ℕ) → displayFault f ws r room ≡ 0 → DisplayPassed room
-  unfolding displayFault weightsFault
-  passes room e = let z = go (firstOk f) (ltb (length ws) 2) (ltb 32 (length ws)) (weightsOk (sizeOf f) ws) formed refl (ltb room (length ws)) refl e in record { weighed = no-fault f ws (z .0); form = z .1; enough = ltb-false _ _ (z .2) }
-    where
-      go : (a c d o b : Bool) → formed ≡ b → (t : Bool) → ltb room (length ws) ≡ t → _≡_ {A = ℕ} (pick (not a) 6 (pick c 9 (pick d 9 (pick o (pick b (pick t 2 0) 16) 11)))) 0
-          → (_≡_ {A = ℕ} (pick (not a) 6 (pick c 9 (pick d 9 (pick o 0 11)))) 0) × (formed ≡ true) × (ltb room (length ws) ≡ false)
-      go false c d o b i t j e = absurd (omega arith)
-      go true true d o b i t j e = absurd (omega arith)
-      go true false true o b i t j e = absurd (omega arith)
-      go true false false false b i t j e = absurd (omega arith)
-      go true false false true false i t j e = absurd (omega arith)
-      go true false false true true i true j e = absurd (omega arith)
-      go true false false true true i false j e = (refl, i, j)
+  passes room e =
+      let p = passed-both (weightTests f ws) (drop 4 (tests room)) (none-applies (tests room) (numbered room) (sym (fault-is room) ∙ e)) in
+      record { weighed = weights-passed f ws (p .0); form = p .1 .0; enough = ltb-false _ _ (p .1 .1 .0) }
 
   pub stored : (room : ℕ) → DisplayPassed room → Stored f ws r
   stored room P =

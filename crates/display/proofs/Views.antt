@@ -1,17 +1,18 @@
 -- The claims about calls: equal displays, equal refusals, and the two views of a record that a check wrote.
 use mathlib.Core.Path.{_≡_, refl, sym, ap, _∙_}
 use mathlib.Core.Bool.{Bool, true, false, true≢false}
-use mathlib.Core.List.{List, _++_}
+use mathlib.Core.List.{List, [], _∷_, _++_}
 use Prim.Native.Nat.{ℕ, _*_, _<_}
 use native.Mathlib.Decide.{ℕ-discrete}
 use lib.Dec.{ltb}
 use lib.ListN.{length, getD, take, drop}
 use lib.Seq.{take-at, drop-at, getD-take}
 use borrow.Author.Tests.{eq-eqb, ne-eqb, le-ltb}
-use Rattle.trellis.specs.Lists.{pick}
 use Rattle.trellis.specs.Field.{xor, product}
 use Rattle.trellis.specs.Check.{Column, shift, sentAt, column}
-use Rattle.trellis.specs.Record.{recordOk}
+use Rattle.trellis.specs.Record.{recordTests, recordOk}
+use Rattle.trellis.specs.Refusals.{when, refusedBy}
+use Rattle.trellis.proofs.Refusals.{then-ends}
 use Rattle.trellis.specs.Rules.{powerOf, sizeOf, ruleFor, columnsOf}
 use Rattle.trellis.specs.Reply.{Reply, accepted, refusal}
 use Rattle.trellis.specs.Display.{displayed, shownAt, Stored}
@@ -22,8 +23,8 @@ use Rattle.trellis.proofs.Records.{record-shift, sent-at}
 use Rattle.trellis.proofs.Ready.{ready-proper, length-columns, column-at}
 use Rattle.trellis.proofs.Messages.{ready-form}
 use Rattle.expansion.specs.Answers.{expandReply}
-use Rattle.field.specs.Answers.{weightsFault}
-use Rattle.field.proofs.Weighed.{no-fault, fault-case, rest-case, ready-weighed}
+use Rattle.field.specs.Answers.{weightTests}
+use Rattle.field.proofs.Weighed.{ready-weighed}
 use Rattle.display.proofs.CheckThenExpand.{demand-2-messages}
 use Rattle.display.specs.Answers.{displayFault, displayReply, displayLeaves}
 use Rattle.display.specs.Views.{Displays, Displays-equal, Display-refuses-alike, Two-views}
@@ -74,19 +75,13 @@ displays-equal f f′ ws r r′ out out′ n n′ o o′ e D D′ =
 pub refuses-alike : Display-refuses-alike
 unfolding displayReply expandReply
 refuses-alike f ws r out buffer h l =
-    elim (ℕ-discrete (weightsFault f ws) 0) [
-      | yes e ↦
-          let W = no-fault f ws e in
-          ap (λ (a : Reply). a .number) (rest-case f ws W (λ k. refusal k) _)
-          ∙ by (recordOk (ruleFor f) (length ws) r) (ltb (length out) (length ws)) (ltb (length buffer) (length ws * sizeOf f)) (le-ltb _ _ h) (le-ltb _ _ l)
-          ∙ sym (ap (λ (a : Reply). a .number) (rest-case f ws W (λ k. refusal k) _))
-      | no e ↦ ap (λ (a : Reply). a .number) (sym (fault-case f ws (λ k. refusal k) _ refl e) ∙ fault-case f ws (λ k. refusal k) _ refl e)
-    ]
+    by (ltb (length out) (length ws)) (accepted (length ws))
+    ∙ rw (le-ltb (length out) (length ws) h, le-ltb (length buffer) (length ws * sizeOf f) l) refl
+    ∙ sym (by (ltb (length buffer) (length ws * sizeOf f)) (accepted (length ws * sizeOf f)))
   where
-    by : (b s t : Bool) → s ≡ false → t ≡ false
-        → pick b (pick s (refusal 2) (accepted (length ws))) (refusal 16) .number ≡ pick b (pick t (refusal 2) (accepted (length ws * sizeOf f))) (refusal 16) .number
-    by true s t i j = rw (i, j)
-    by false s t i j = refl
+    by : (b : Bool) (good : Reply) → let tests = weightTests f ws ++ (recordTests (ruleFor f) (length ws) r ++ (when b 2 ∷ [])) in
+        refusedBy tests (λ k. refusal k) good .number ≡ refusedBy tests (λ k. k) (good .number)
+    by b good = then-ends (λ (a : Reply). a .number) (weightTests f ws ++ (recordTests (ruleFor f) (length ws) r ++ (when b 2 ∷ []))) (λ k. refusal k) good
 
 reply-good : (f : ℕ) (ws r out : List ℕ) → displayFault f ws r (length out) ≡ 0 → displayReply f ws r out ≡ accepted (length ws)
 unfolding displayReply

@@ -3,10 +3,10 @@ use mathlib.Core.List.{List, [], _∷_, _++_}
 use Prim.Native.Nat.{ℕ}
 use lib.Dec.{ltb}
 use lib.ListN.{length, drop}
-use Rattle.trellis.specs.Record.{recordOk}
+use Rattle.trellis.specs.Record.{recordTests}
 use Rattle.trellis.specs.Rules.{powerOf, ruleFor}
 use Rattle.trellis.specs.Display.{displayed}
-use Rattle.trellis.specs.Refusals.{when, unless, refusedBy}
+use Rattle.trellis.specs.Refusals.{when, refusedBy}
 use Rattle.trellis.specs.Reply.{Reply, accepted, refusal}
 use Rattle.field.specs.Answers.{weightTests}
 
@@ -15,9 +15,8 @@ abbrev pub displayCases {ℓ} : {A : Type ℓ} → ℕ → List ℕ → List ℕ
 displayCases f ws r room bad good =
     refusedBy
     (weightTests f ws
-    ++ (unless (recordOk (ruleFor f) (length ws) r) 16
-    ∷ when (ltb room (length ws)) 2
-    ∷ []))
+    ++ (recordTests (ruleFor f) (length ws) r
+    ++ (when (ltb room (length ws)) 2 ∷ [])))
     bad good
 
 -- the number of the refusal where the buffer has `room` bytes, 0 for none

@@ -1,21 +1,20 @@
 -- What the loops of an expansion read from the lists is what the definition reads from the record, and a column's bytes are its products moved by its shift.
 use mathlib.Core.Path.{_≡_, refl, ap, _∙_, sym}
-use mathlib.Core.Bool.{Bool, true, false}
+use mathlib.Core.Bool.{true}
 use mathlib.Core.List.{List}
 use Prim.Native.Nat.{ℕ, zero, suc, _+_, _-_, _*_, _%_, _^_, _≤_, _<_}
 use native.Mathlib.Nat.{zero-add, suc-mul, mul-suc, mul-le-mul-left, mul-le-mul-right}
 use native.Mathlib.Omega.{arith}
 use borrow.Author.Tests.{ne-eqb}
 use lib.Bits.{bitXor, xor-lt}
-use lib.Dec.{eqb, ltb, ltb→lt, eqb→eq}
 use lib.ListN.{length, getD, take, drop}
 use lib.Seq.{drop-cons, getD-take, getD-drop}
-use Rattle.trellis.specs.Lists.{tab, allTo, blocks, part, pick}
+use Rattle.trellis.specs.Lists.{tab, blocks, part}
 use Rattle.trellis.specs.Field.{xor, product}
-use Rattle.trellis.specs.Record.{beside, besideGroup, groupOk, recordOk, readAt, expandAt, expansion, recordLength}
-use Rattle.trellis.specs.Rules.{ruleOf, ruleFor, powerOf, mostOf, sizeOf}
+use Rattle.trellis.specs.Record.{beside, besideGroup, recordOk, readAt, expandAt, expansion}
+use Rattle.trellis.specs.Rules.{ruleOf, ruleFor, powerOf, mostOf}
 use Rattle.trellis.proofs.Rules.{most-few}
-use Rattle.trellis.proofs.Tests.{of-true, all-at}
+use Rattle.trellis.proofs.Form.{form-front}
 use Rattle.trellis.proofs.Recurrence.{size-64}
 use Rattle.trellis.proofs.FieldLaws.{fields-at, has-inverse}
 use Rattle.trellis.proofs.Loops.{length-tab, getD-tab, tab-ext, map-tab, each-blocks, blocks-ext, length-even}
@@ -146,21 +145,15 @@ module _ {p k : ℕ} {ws r : List ℕ} (X : ExpandRoom p k ws r) (q : ℕ) (s : 
   turned-is t u = blocks-ext (turned k t q r out) (columnBytes p k ws r) (length ws) (λ n h. column-is X n q t h s u (row-at n h) refl) ∙ expansion-is X
 
 pub expandable : (first : ℕ) (ws r : List ℕ) → WeightsAccepted first ws → recordOk (ruleFor first) (length ws) r ≡ true → ExpandRoom (powerOf first) (mostOf first) ws r
-unfolding recordOk
-expandable first ws r W o = go (eqb (length r) (recordLength (ruleFor first) (length ws))) refl (allTo (λ n. ltb (getD r n 0) (sizeOf first)) (length ws)) refl o
-  where
-    go : (a : Bool) → eqb (length r) (recordLength (ruleFor first) (length ws)) ≡ a → (b : Bool) → allTo (λ n. ltb (getD r n 0) (sizeOf first)) (length ws) ≡ b
-        → pick a (pick b (allTo (groupOk (ruleFor first) (length ws) r) (sizeOf first - 1)) false) false ≡ true → ExpandRoom (powerOf first) (mostOf first) ws r
-    go false u b v o = let z : _≡_ {A = ℕ} 0 1 = cc in absurd (omega arith)
-    go true u false v o = let z : _≡_ {A = ℕ} 0 1 = cc in absurd (omega arith)
-    go true u true v o =
-        record {
-          low = W .low;
-          high = W .high;
-          pairs = most-few first;
-          few = W .few;
-          weight-some = λ n h. weight-at first ws W n h .0;
-          weight-small = λ n h. weight-at first ws W n h .1;
-          long = eqb→eq _ _ (of-true u);
-          shift-small = λ n h. ltb→lt _ _ (all-at _ (length ws) (of-true v) n h);
-        }
+expandable first ws r W o =
+    let F = form-front (ruleFor first) (length ws) r o in
+    record {
+      low = W .low;
+      high = W .high;
+      pairs = most-few first;
+      few = W .few;
+      weight-some = λ n h. weight-at first ws W n h .0;
+      weight-small = λ n h. weight-at first ws W n h .1;
+      long = F .0;
+      shift-small = F .1;
+    }

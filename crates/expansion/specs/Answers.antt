@@ -3,9 +3,9 @@ use mathlib.Core.List.{List, [], _∷_, _++_}
 use Prim.Native.Nat.{ℕ, _*_}
 use lib.Dec.{ltb}
 use lib.ListN.{length, drop}
-use Rattle.trellis.specs.Record.{recordOk, expansion}
+use Rattle.trellis.specs.Record.{recordTests, expansion}
 use Rattle.trellis.specs.Rules.{sizeOf, ruleFor}
-use Rattle.trellis.specs.Refusals.{when, unless, refusedBy}
+use Rattle.trellis.specs.Refusals.{when, refusedBy}
 use Rattle.trellis.specs.Reply.{Reply, accepted, refusal}
 use Rattle.field.specs.Answers.{weightTests}
 
@@ -14,9 +14,8 @@ abbrev pub expandCases {ℓ} : {A : Type ℓ} → ℕ → List ℕ → List ℕ 
 expandCases f ws r room bad good =
     refusedBy
     (weightTests f ws
-    ++ (unless (recordOk (ruleFor f) (length ws) r) 16
-    ∷ when (ltb room (length ws * sizeOf f)) 2
-    ∷ []))
+    ++ (recordTests (ruleFor f) (length ws) r
+    ++ (when (ltb room (length ws * sizeOf f)) 2 ∷ [])))
     bad good
 
 unfoldable pub expandReply : ℕ → List ℕ → List ℕ → List ℕ → Reply

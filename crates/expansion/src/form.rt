@@ -4,31 +4,24 @@ ghost use Prim.Native.Nat.{_+_, _*_, _≤_};
 ghost use lib.Dec.{ltb};
 ghost use lib.ListN.{length, getD};
 ghost use Rattle.trellis.specs.Lists.{allTo};
-ghost use Rattle.trellis.specs.Record.{pairsOk, recordOk};
+ghost use Rattle.trellis.specs.Record.{pairTests, pairsOk, recordOk};
+ghost use Rattle.trellis.specs.Refusals.{passes};
 ghost use Rattle.trellis.specs.Rules.{ruleFor};
-ghost use Rattle.expansion.specs.inner.Asks.{pairNext};
 
-// After the pair c, s: the least column that the next used pair may have, 256 after an unused pair, 257 for a fault.
-fn pair_next(c: u8, s: u8, e: u8, d: usize, low: usize) -> usize
-    ensures { λ r. ⌜ r ≡ pairNext c s e d low ⌝ }
+// Whether a pair, column c and its S, may stand beside e in a record of degree d: unused, or a column that is low or more.
+fn pair_ok(c: usize, s: u8, e: u8, d: usize, low: usize) -> bool
+    ensures { λ b. ⌜ b ≡ passes (pairTests c s e d low) ⌝ }
 {
-    let column = scalar::u8_to_usize(c);
-    if column == 0xFF {
-        if s == 0x00 {
-            return 256;
-        }
-        return 257;
+    if c == 0xFF {
+        return s == 0x00;
     }
-    if column < low {
-        return 257;
+    if c < low {
+        return false;
     }
-    if d <= column {
-        return 257;
+    if d <= c {
+        return false;
     }
-    if s <= e {
-        return 257;
-    }
-    column + 1
+    e < s
 }
 
 // The k pairs of the group that starts at place at.
@@ -41,10 +34,11 @@ fn pairs_ok(r: &[u8], at: usize, d: usize, k: usize) -> bool
     let mut next = at + 1;
     let mut j = 0;
     while j < k {
-        low = pair_next(r[next], r[next + 1], e, d, low);
-        if low == 257 {
+        let column = scalar::u8_to_usize(r[next]);
+        if !pair_ok(column, r[next + 1], e, d, low) {
             return false;
         }
+        low = column + 1;
         next += 2;
         j += 1;
     }

@@ -1,20 +1,20 @@
 -- First byte and weights that none of 6, 9 and 11 refuses, and the cases of those that are refused.
-use mathlib.Core.Path.{_≡_, refl, ap}
-use mathlib.Core.Bool.{Bool, true, false, not}
+use mathlib.Core.Path.{_≡_, refl, sym}
+use mathlib.Core.Bool.{Bool, true, false}
 use mathlib.Core.Logic.{_≢_}
 use mathlib.Core.List.{List}
 use Prim.Native.Nat.{ℕ, _≤_, _<_}
-use native.Mathlib.Decide.{decLe}
 use native.Mathlib.Omega.{arith}
-use borrow.Author.Tests.{eq-eqb, ne-eqb, lt-ltb, le-ltb}
+use borrow.Author.Tests.{eq-eqb, ne-eqb, le-ltb, ltb-false, not-false}
 use lib.Dec.{T, ltb, eqb, ltb→lt, lt→ltb}
 use lib.ListN.{length, getD}
 use Rattle.trellis.specs.Lists.{pick}
 use Rattle.trellis.specs.Rules.{powerOf, sizeOf, firstOk}
 use Rattle.trellis.specs.Ready.{Ready}
 use Rattle.trellis.proofs.Rules.{first-power}
+use Rattle.trellis.proofs.Refusals.{Numbered, Passed, none-applies, refused-by}
 use Rattle.trellis.proofs.Tests.{of-true, to-true, all-at, all-of}
-use Rattle.field.specs.Answers.{weightOk, weightsOk, weightCases, weightsFault}
+use Rattle.field.specs.Answers.{weightOk, weightsOk, weightTests, weightCases, weightsFault}
 
 pub no-true : {b : Bool} → b ≡ true → b ≡ false → ⊥
 no-true e f = let z : _≡_ {A = ℕ} 0 1 = cc in omega arith
@@ -36,37 +36,22 @@ pub record WeightsAccepted (first : ℕ) (ws : List ℕ) : Type 0 where
   pub few : length ws ≤ 32
   pub ok : weightsOk (sizeOf first) ws ≡ true
 
-pub at-least : {m n : ℕ} → ltb m n ≡ false → n ≤ m
-at-least {m} {n} e =
-    elim (decLe n m) [
-      | yes h ↦ h
-      | no h ↦ absurd (no-true (lt-ltb m n (omega arith)) e)
-    ]
+numbered : (first : ℕ) (ws : List ℕ) → Numbered (weightTests first ws)
+numbered first ws = ((λ e. omega arith), ((λ e. omega arith), ((λ e. omega arith), ((λ e. omega arith), tt))))
+
+pub weights-passed : (first : ℕ) (ws : List ℕ) → Passed (weightTests first ws) → WeightsAccepted first ws
+weights-passed first ws p =
+    let f : firstOk first ≡ true = not-false _ (p .0) in
+    record { accepted = f; low = first-power first f .0; high = first-power first f .1; two = ltb-false _ _ (p .1 .0); few = ltb-false _ _ (p .1 .1 .0); ok = p .1 .1 .1 .0 }
 
 pub no-fault : (first : ℕ) (ws : List ℕ) → weightsFault first ws ≡ 0 → WeightsAccepted first ws
 unfolding weightsFault
-no-fault first ws e = go (firstOk first) refl (ltb (length ws) 2) refl (ltb 32 (length ws)) refl (weightsOk (sizeOf first) ws) refl e
-  where
-    go : (a : Bool) → firstOk first ≡ a → (c : Bool) → ltb (length ws) 2 ≡ c → (d : Bool) → ltb 32 (length ws) ≡ d → (o : Bool) → weightsOk (sizeOf first) ws ≡ o
-        → _≡_ {A = ℕ} (pick (not a) 6 (pick c 9 (pick d 9 (pick o 0 11)))) 0 → WeightsAccepted first ws
-    go false i c k d l o m e = absurd (omega arith)
-    go true i true k d l o m e = absurd (omega arith)
-    go true i false k true l o m e = absurd (omega arith)
-    go true i false k false l false m e = absurd (omega arith)
-    go true i false k false l true m e =
-        record { accepted = i; low = first-power first i .0; high = first-power first i .1; two = at-least k; few = at-least l; ok = m }
+no-fault first ws e = weights-passed first ws (none-applies (weightTests first ws) (numbered first ws) e)
 
 -- a refusal by its number, and none
 pub fault-case : {A : Type 0} (first : ℕ) (ws : List ℕ) (bad : ℕ → A) (rest : A) {k : ℕ} → k ≡ weightsFault first ws → k ≢ 0 → bad k ≡ weightCases first ws bad rest
 unfolding weightsFault
-fault-case first ws bad rest e n = go (firstOk first) (ltb (length ws) 2) (ltb 32 (length ws)) (weightsOk (sizeOf first) ws) e n
-  where
-    go : (a c d o : Bool) {k : ℕ} → k ≡ pick (not a) 6 (pick c 9 (pick d 9 (pick o 0 11))) → k ≢ 0 → bad k ≡ pick (not a) (bad 6) (pick c (bad 9) (pick d (bad 9) (pick o rest (bad 11))))
-    go false c d o e n = ap bad e
-    go true true d o e n = ap bad e
-    go true false true o e n = ap bad e
-    go true false false false e n = ap bad e
-    go true false false true e n = absurd (n e)
+fault-case first ws bad rest {k} e n = sym (refused-by (weightTests first ws) (numbered first ws) k e n bad rest)
 
 module _ (first : ℕ) (ws : List ℕ) (W : WeightsAccepted first ws) where
   pub rest-case : {A : Type 0} (bad : ℕ → A) (rest : A) → weightCases first ws bad rest ≡ rest
@@ -75,15 +60,20 @@ module _ (first : ℕ) (ws : List ℕ) (W : WeightsAccepted first ws) where
   pub weight-at : (n : ℕ) → n < length ws → (getD ws n 0 ≢ 0) × (getD ws n 0 < sizeOf first)
   weight-at n k = weight-true (sizeOf first) (getD ws n 0) (all-at _ (length ws) (of-true (W .ok)) n k)
 
+-- what none of them refuses
+pub weights-accepted : (first : ℕ) (ws : List ℕ) → firstOk first ≡ true → 2 ≤ length ws → length ws ≤ 32 → ((n : ℕ) → n < length ws → getD ws n 0 ≢ 0)
+    → ((n : ℕ) → n < length ws → getD ws n 0 < sizeOf first) → WeightsAccepted first ws
+unfolding weightOk
+weights-accepted first ws f two few some small =
+    record {
+      accepted = f;
+      low = first-power first f .0;
+      high = first-power first f .1;
+      two = two;
+      few = few;
+      ok = to-true (all-of _ (length ws) (λ n h. rw (ne-eqb (getD ws n 0) 0 (some n h)) (lt→ltb _ _ (small n h))));
+    }
+
 -- the weights of an accepted check
 pub ready-weighed : (first : ℕ) (ws cs : List ℕ) → Ready first ws cs → WeightsAccepted first ws
-unfolding weightOk
-ready-weighed first ws cs D =
-    record {
-      accepted = D .first;
-      low = first-power first (D .first) .0;
-      high = first-power first (D .first) .1;
-      two = D .two;
-      few = D .few;
-      ok = to-true (all-of _ (length ws) (λ n h. rw (ne-eqb (getD ws n 0) 0 (D .weight-some n h)) (lt→ltb _ _ (D .weight-small n h))));
-    }
+ready-weighed first ws cs D = weights-accepted first ws (D .first) (D .two) (D .few) (D .weight-some) (D .weight-small)

@@ -7,12 +7,12 @@ use Prim.Native.Nat.{ℕ, _+_, _-_, _*_, _≤_, _<_, min}
 use native.Mathlib.Nat.{mul-le-mul, add-sub-cancel-left}
 use native.Mathlib.Numerals.{add-one}
 use native.Mathlib.Omega.{arith}
-use lib.Dec.{eqb, leb}
+use lib.Dec.{leb}
 use lib.Pow.{pow-mono}
 use lib.ListN.{length, getD, length-take, length-drop}
 use borrow.Author.Tests.{le-leb, lt-leb, eq-eqb, ne-eqb}
 use Rattle.trellis.specs.Lists.{pick, upto, allTo, part}
-use Rattle.trellis.specs.Record.{groupLength, recordLength, recordOk}
+use Rattle.trellis.specs.Record.{groupLength, recordLength, recordTests, recordOk}
 use Rattle.trellis.specs.Rules.{powerOf, sizeOf, ruleFor}
 use Rattle.trellis.proofs.Rules.{most-few}
 use Rattle.machine.specs.CodeLine.{zeroIn}
@@ -94,7 +94,7 @@ module _ (first : ℕ) (ds s : List ℕ) (count m place d n groups : ℕ) (h : m
 
   -- a record that the store does not hold whole has another length
   pub form-short : length s - place < n → allTo (formedAt first ds s) count ≡ false
-  unfolding recordOk
+  unfolding recordOk recordTests
   form-short u =
       let z : length (part s (bytesBefore first ds m) (recordLength (ruleFor first) (getD ds m 0))) ≢ recordLength (ruleFor first) (getD ds m 0) =
       λ e. let a : length (part s place n) ≡ n = rw (record-end, b) e in let c : length (part s place n) ≡ min n (length s - place) = simp (length-take, length-drop) in omega (arith, a, c) in

@@ -11,7 +11,7 @@ use lib.Dec.{lt→ltb}
 use lib.ListN.{length, getD, length-map, length-append}
 use lib.Seq.{take-at, drop-at, drop-length, ext-getD, getD-take, getD-drop}
 use lib.Pow.{pow-pos}
-use borrow.Author.Tests.{eq-eqb, ne-eqb, le-ltb}
+use borrow.Author.Tests.{eq-eqb, le-ltb}
 use Rattle.trellis.specs.Lists.{upTo, each, upto, allTo, tab, part, patch, blocks}
 use Rattle.trellis.specs.Check.{Column, column, blank, allSent}
 use Rattle.trellis.specs.Record.{recordOf, recordLength, recordOk, expandAt, expansion}
@@ -24,7 +24,8 @@ use Rattle.trellis.proofs.Loops.{length-tab, getD-tab}
 use Rattle.trellis.proofs.Instances.{first-zero}
 use Rattle.trellis.proofs.Ready.{length-columns, column-at}
 use Rattle.trellis.proofs.Messages.{ready-messages}
-use Rattle.field.specs.Answers.{weightOk, weightsOk}
+use Rattle.field.proofs.Weighed.{weights-accepted, rest-case, ready-weighed}
+use Rattle.expansion.proofs.Cases.{expand-case}
 use Rattle.checknode.specs.Answers.{zeroOk, messagesCases, messagesLeaves, messagesSent}
 use Rattle.expansion.specs.Answers.{expandLeaves}
 use Rattle.machine.specs.CodeLine.{edgeAt, columnOf}
@@ -130,17 +131,12 @@ unfolding oldCosts
 message-old first g true ws r n h = message-zeros first g ws r n h
 message-old first g false ws r n h = message-expansion first g ws r n h
 
--- check and expand accept: none of 6, 9, 11
-pub weights-pass : (first : ℕ) (ws : List ℕ) → Weighed first ws → weightsOk (sizeOf first) ws ≡ true
-unfolding weightOk
-weights-pass first ws W = to-true (all-of _ (length ws) (λ n h. rw (ne-eqb (getD ws n 0) 0 (W .some n h)) (lt→ltb _ _ (W .small n h))))
-
--- nor 16 nor 2
+-- check and expand accept: none of 6, 9, 11, nor 16 nor 2
 pub expand-accepts : (first : ℕ) (ws r out : List ℕ) → Weighed first ws → recordOk (ruleFor first) (length ws) r ≡ true → length out ≡ length ws * sizeOf first → expandLeaves first ws r out ≡ expansion (ruleFor first) ws r
 unfolding expandLeaves
 expand-accepts first ws r out W f e =
-    rw (W .accepted, le-ltb (length ws) 2 (W .two), le-ltb 32 (length ws) (W .few), weights-pass first ws W, f, ← e, le-ltb (length out) (length out) (omega arith), drop-length out)
-    (append-nil (expansion (ruleFor first) ws r))
+    sym (expand-case first ws (weights-accepted first ws (W .accepted) (W .two) (W .few) (W .some) (W .small)) (length out) (λ k. out) _ r f (omega arith))
+    ∙ rw (← e, drop-length out) (append-nil (expansion (ruleFor first) ws r))
 
 -- what the old record sent
 pub recall-first : (first : ℕ) (start : Bool) (ws r out new : List ℕ) → RecallRoom first start ws r out → start ≡ true → new ≡ tab (λ x. 0) (length out) → new ≡ oldCosts first start ws r
@@ -152,20 +148,14 @@ unfolding oldCosts
 recall-later first start ws r out new R f e = e ∙ expand-accepts first ws r out (R .weighed) (R .form f) (R .full) ∙ rw f
 
 module _ (first : ℕ) (ws Q : List ℕ) (D : Ready first ws Q) where
-  pub ready-weighed : Weighed first ws
-  ready-weighed = record { accepted = D .first; two = D .two; few = D .few; some = D .weight-some; small = D .weight-small }
-
   -- nor 12, 13, 4 or 2
   messages-pass : (r out : List ℕ) → length r ≡ recordLength (ruleFor first) (length ws) → length out ≡ length ws * sizeOf first
       → {A : Type 0} (bad : ℕ → A) (good : A) → messagesCases first ws Q (length r) (length out) bad good ≡ good
   unfolding zeroOk
   messages-pass r out e f bad good =
       let z : allTo (zeroOk (sizeOf first) Q) (length ws) ≡ true = to-true (all-of _ (length ws) (λ n h. lt→ltb _ _ (D .zeros n h))) in
-      rw (
-        D .first,
-        le-ltb (length ws) 2 (D .two),
-        le-ltb 32 (length ws) (D .few),
-        weights-pass first ws ready-weighed,
+      rest-case first ws (ready-weighed first ws Q D) bad _
+      ∙ rw (
         eq-eqb (length Q) (length ws * sizeOf first) (D .count),
         z,
         le-ltb (length r) (recordLength (ruleFor first) (length ws)) (omega arith),

@@ -1,35 +1,24 @@
 -- What a code line that is read has: the ranges of its numbers.
 use mathlib.Core.Path.{_≡_, refl, sym, ap, _∙_}
-use mathlib.Core.Bool.{Bool, true, false, not}
-use mathlib.Core.Logic.{_≢_}
+use mathlib.Core.Bool.{Bool, true, false}
 use mathlib.Core.List.{List, [], _∷_}
-use Prim.Native.Nat.{ℕ, zero, suc, _+_, _*_, _-_, _^_, _≤_, _<_}
+use Prim.Native.Nat.{ℕ, zero, suc, _+_, _*_, _-_, _≤_, _<_}
 use native.Mathlib.Nat.{not-suc-le-zero}
 use native.Mathlib.Omega.{arith}
-use lib.Dec.{eqb, ltb, leb}
+use lib.Dec.{eqb}
 use lib.ListN.{length, getD}
 use borrow.Author.Tests.{ltb-false, leb-false, eqb-false, not-false}
 use Rattle.trellis.specs.Lists.{pick}
 use Rattle.trellis.specs.Refusals.{Test, when, unless, refusedBy}
-use Rattle.trellis.proofs.Refusals.{Passed}
+use Rattle.trellis.proofs.Refusals.{Passed, passed-on}
 use Rattle.trellis.specs.Rules.{sizeOf, firstOk}
 use Rattle.trellis.proofs.Rules.{first-power}
-use Rattle.machine.specs.CodeLine.{Read, good, bad, then, Edge, Code, edge, wordAt, readEdge, edges, checkAt, checks, parse, power, size, check, edgeAt, Numbers, numbersOf, edgeTests, checkTests, headTests}
+use Rattle.machine.specs.CodeLine.{Read, good, bad, then, Edge, Code, edge, wordAt, readEdge, edges, checkAt, checks, parse, edgeAt, Numbers, numbersOf, edgeTests, checkTests, headTests}
 use Rattle.machine.specs.inner.Accepted.{GoodEdge, GoodCheck, edgeTotal, GoodCode}
 
 -- what is read passed them all
 pub passed : {A : Type 0} (l : List Test) (y : Read A) (a : A) → refusedBy l bad y ≡ good a → Passed l × (y ≡ good a)
-passed [] y a h = (tt, h)
-passed (when b k ∷ l) y a h = go b refl (passed l y a) h
-  where
-    go : (c : Bool) → b ≡ c → (refusedBy l bad y ≡ good a → Passed l × (y ≡ good a)) → pick c (bad k) (refusedBy l bad y) ≡ good a → Passed (when b k ∷ l) × (y ≡ good a)
-    go true e f h = let z : _≡_ {A = ℕ} 0 1 = cc in absurd (omega arith)
-    go false e f h = ((e, f h .0), f h .1)
-passed (unless b k ∷ l) y a h = go b refl (passed l y a) h
-  where
-    go : (c : Bool) → b ≡ c → (refusedBy l bad y ≡ good a → Passed l × (y ≡ good a)) → pick c (refusedBy l bad y) (bad k) ≡ good a → Passed (unless b k ∷ l) × (y ≡ good a)
-    go true e f h = ((e, f h .0), f h .1)
-    go false e f h = let z : _≡_ {A = ℕ} 0 1 = cc in absurd (omega arith)
+passed l y a h = passed-on (λ r. r ≡ good a) bad (λ k e. let z : _≡_ {A = ℕ} 0 1 = cc in omega arith) l y h
 
 -- and the other way round
 pub to-pass : {A : Type 0} (l : List Test) (y : Read A) → Passed l → refusedBy l bad y ≡ y

@@ -1,38 +1,23 @@
 -- Two accepted records show the same exactly when their shifts are the same; a shown symbol is one that costs the column nothing.
 use mathlib.Core.Path.{_≡_, refl, sym, ap, _∙_}
-use mathlib.Core.Bool.{Bool, true, false}
 use mathlib.Core.List.{List, [], _∷_}
 use Prim.Native.Nat.{ℕ, _-_, _<_}
 use native.Mathlib.Omega.{arith}
-use lib.Dec.{T, ltb, eqb, ltb→lt}
+use lib.Dec.{T}
 use lib.ListN.{length, getD, take, length-map, length-take}
 use lib.Seq.{ext-getD, getD-take}
-use borrow.Author.Tests.{eqb-true}
-use Rattle.trellis.specs.Lists.{upTo, pick, allTo}
+use Rattle.trellis.specs.Lists.{upTo}
 use Rattle.trellis.specs.Field.{xor, product, quotient}
-use Rattle.trellis.specs.Check.{Rule}
-use Rattle.trellis.specs.Record.{recordLength, groupOk, recordOk, readAt, expandAt}
+use Rattle.trellis.specs.Record.{readAt, expandAt}
 use Rattle.trellis.specs.Rules.{powerOf, sizeOf, ruleFor}
 use Rattle.trellis.specs.Display.{displayed, shownAt, Stored, Display-equal, Shifts-alone, Urged, Urged-towards}
 use Rattle.trellis.proofs.Lists.{of-upTo}
 use Rattle.trellis.proofs.Places.{length-count, at-map-count, map-ext}
-use Rattle.trellis.proofs.Tests.{all-at}
 use Rattle.trellis.proofs.Xor.{xor-self}
 use Rattle.trellis.proofs.FieldLaws.{field, fields-at}
 use Rattle.trellis.proofs.Rules.{first-power}
+use Rattle.trellis.proofs.Form.{form-front}
 use Rattle.trellis.proofs.Quotients.{quotient-times, quotient-small, quotient-one}
-
--- what the form of a record says of its front
-pub form-front : (R : Rule) (d : ℕ) (r : List ℕ) → recordOk R d r ≡ true → (length r ≡ recordLength R d) × ((n : ℕ) → n < d → getD r n 0 < R .size)
-unfolding recordOk
-form-front R d r e = go (eqb (length r) (recordLength R d)) refl (allTo (λ n. ltb (getD r n 0) (R .size)) d) refl e
-  where
-    go : (a : Bool) → eqb (length r) (recordLength R d) ≡ a → (b : Bool) → allTo (λ n. ltb (getD r n 0) (R .size)) d ≡ b
-        → pick a (pick b (allTo (groupOk R d r) (R .size - 1)) false) false ≡ true
-        → (length r ≡ recordLength R d) × ((n : ℕ) → n < d → getD r n 0 < R .size)
-    go true i true j k = (eqb-true _ _ i, λ n l. ltb→lt (getD r n 0) (R .size) (all-at (λ n. ltb (getD r n 0) (R .size)) d (rw j tt) n l))
-    go true i false j k = let z : _≡_ {A = ℕ} 0 1 = cc in absurd (omega arith)
-    go false i b j k = let z : _≡_ {A = ℕ} 0 1 = cc in absurd (omega arith)
 
 pub length-displayed : (p : ℕ) (ws r : List ℕ) → length (displayed p ws r) ≡ length ws
 unfolding displayed

@@ -1,4 +1,4 @@
--- A check's record has the accepted form: its pairs are those of the columns above E, which are kept of the numbers below d in their order, and
+-- What the form of a record says of it; and a check's record has the accepted form: its pairs are those of the columns above E, which are kept of the numbers below d in their order, and
 -- padded to k pairs; so the test of the pairs passes by induction on these numbers.
 use mathlib.Core.Path.{_≡_, refl, sym, ap, ap₂, _∙_}
 use mathlib.Core.Bool.{Bool, true, false, cond}
@@ -6,30 +6,45 @@ use mathlib.Core.List.{List, [], _∷_, _++_, append-assoc}
 use Prim.Native.Nat.{ℕ, zero, suc, _+_, _*_, _-_, _≤_, _<_}
 use native.Mathlib.Nat.{add-assoc, not-suc-le-zero, suc-sub-suc}
 use native.Mathlib.Omega.{arith}
-use lib.Dec.{ltb, lt→ltb}
+use lib.Dec.{ltb, ltb→lt, lt→ltb}
 use lib.ListN.{length, getD, drop, length-append, take-append-drop}
 use lib.Seq.{getD-drop}
-use borrow.Author.Tests.{eq-eqb, ne-eqb, le-ltb, lt-leb, ltb-true}
+use borrow.Author.Tests.{eq-eqb, ne-eqb, eqb-true, le-ltb, lt-leb, ltb-true}
 use Rattle.trellis.specs.Lists.{keep, each, countFrom, allTo}
 use Rattle.trellis.specs.Check.{Rule, Column, sentAt, extra}
-use Rattle.trellis.specs.Record.{above, group, shifts, recordOf, groupLength, recordLength, pairsOk, groupAt, groupOk, recordOk}
-use Rattle.trellis.proofs.Tests.{of-true, to-true, all-of}
+use Rattle.trellis.specs.Record.{above, group, shifts, recordOf, groupLength, recordLength, pairTests, pairsOk, groupAt, groupOk, recordTests, recordOk}
+use Rattle.trellis.specs.Refusals.{Test, unless, refusedBy}
+use Rattle.trellis.proofs.Tests.{of-true, to-true, all-of, all-at}
+use Rattle.trellis.proofs.Refusals.{in-order, to-passed, alike}
 use Rattle.trellis.proofs.Sent.{Proper, above-few}
 use Rattle.trellis.proofs.Records.{length-shifts, record-shift, record-group, group-length, shift-small}
+
+-- a record of accepted form: its length, and its shifts
+pub form-front : (R : Rule) (d : ℕ) (r : List ℕ) → recordOk R d r ≡ true → (length r ≡ recordLength R d) × ((n : ℕ) → n < d → getD r n 0 < R .size)
+unfolding recordOk recordTests
+form-front R d r e =
+    let p = to-passed (recordTests R d r) e in
+    (eqb-true _ _ (p .0), λ n l. ltb→lt _ _ (all-at (λ n. ltb (getD r n 0) (R .size)) d (of-true (p .1 .0)) n l))
+
+-- in a table they are one line: whichever applies, the number is 16
+pub form-line : {A : Type 0} (R : Rule) (d : ℕ) (r : List ℕ) (l : List Test) (bad : ℕ → A) (good : A)
+    → refusedBy (recordTests R d r ++ l) bad good ≡ refusedBy (unless (recordOk R d r) 16 ∷ l) bad good
+unfolding recordOk recordTests
+form-line R d r l bad good = in-order (recordTests R d r) l bad good ∙ alike 16 (recordTests R d r) (refl, (refl, (refl, tt))) bad (refusedBy l bad good)
 
 -- the test reads on from its place alone
 pairs-drop : (k : ℕ) (r : List ℕ) (at i e d low : ℕ) → pairsOk k r (at + i) e d low ≡ pairsOk k (drop at r) i e d low
 unfolding pairsOk
 pairs-drop zero r at i e d low = refl
 pairs-drop (suc k) r at i e d low =
-    rw (add-assoc at i 1, add-assoc at i 2, pairs-drop k r at (i + 2) e d 256, pairs-drop k r at (i + 2) e d (getD r (at + i) 0 + 1), ← getD-drop at r i 0, ← getD-drop at r (i + 1) 0)
+    rw (add-assoc at i 1, add-assoc at i 2, pairs-drop k r at (i + 2) e d (getD r (at + i) 0 + 1), ← getD-drop at r i 0, ← getD-drop at r (i + 1) 0)
 
 module _ (e d : ℕ) (short : d ≤ 255) where
   abbrev pads : ℕ → ℕ → List ℕ
   pads i k = each (λ (j : ℕ). 0xFF ∷ 0x00 ∷ []) (countFrom i k)
 
   pads-ok : (k i low : ℕ) (rest : List ℕ) → pairsOk k (pads i k ++ rest) 0 e d low ≡ true
-  unfolding pairsOk
+  unfolding pairsOk pairTests
   pads-ok zero i low rest = refl
   pads-ok (suc k) i low rest = pairs-drop k (0xFF ∷ 0x00 ∷ (pads (suc i) k ++ rest)) 2 0 e d 256 ∙ pads-ok k (suc i) 256 rest
 
@@ -43,7 +58,7 @@ module _ (e d : ℕ) (short : d ≤ 255) where
     -- a used pair in front
     one-more : (i k low : ℕ) (l rest : List ℕ) → low ≤ i → i < d → ltb e (S i) ≡ true → length (i ∷ l) ≤ k → ((j : ℕ) → length l ≤ j → pairsOk j (paired j l rest) 0 e d (i + 1) ≡ true)
         → pairsOk k (paired k (i ∷ l) rest) 0 e d low ≡ true
-    unfolding pairsOk
+    unfolding pairsOk pairTests
     one-more i zero low l rest a b t c h = absurd (not-suc-le-zero c)
     one-more i (suc k) low l rest a b t c h =
         rw (ne-eqb i 0xFF (λ (z : i ≡ 0xFF). omega arith), le-ltb i low a, lt-leb d i b, lt-leb (S i) e (ltb-true e (S i) t), suc-sub-suc k (length l))
@@ -98,7 +113,8 @@ module _ (R : Rule) (cs : List Column) (P : Proper R cs) where
 
   -- so an expansion accepts it
   pub record-ok : recordOk R (length cs) (recordOf R cs) ≡ true
-  unfolding recordOk
+  unfolding recordOk recordTests
   record-ok =
       let s : allTo (λ n. ltb (getD (recordOf R cs) n 0) (R .size)) (length cs) ≡ true = to-true (all-of _ (length cs) (λ n l. rw (record-shift R cs P n l) (lt→ltb _ _ (shift-small R cs P n l)))) in
-      rw (eq-eqb _ _ record-length, s) (to-true (all-of _ (R .size - 1) (λ b l. of-true (group-ok b (omega arith)))))
+      let g : allTo (groupOk R (length cs) (recordOf R cs)) (R .size - 1) ≡ true = to-true (all-of _ (R .size - 1) (λ b l. of-true (group-ok b (omega arith)))) in
+      rw (eq-eqb _ _ record-length, s, g)

@@ -1,13 +1,14 @@
 -- The laws of a table of refusals: two tables one after the other, and what a table leads to by the number of the first line that applies.
-use mathlib.Core.Path.{_≡_, refl, ap, _∙_}
+use mathlib.Core.Path.{_≡_, refl, sym, ap, ap₂, _∙_}
 use mathlib.Core.Bool.{Bool, true, false}
 use mathlib.Core.Logic.{_≢_}
 use mathlib.Core.List.{List, [], _∷_, _++_}
 use Prim.Native.Nat.{ℕ}
+use native.Mathlib.Omega.{arith}
 use lib.Dec.{eqb}
 use borrow.Author.Tests.{eq-eqb, ne-eqb}
 use Rattle.trellis.specs.Lists.{pick}
-use Rattle.trellis.specs.Refusals.{Test, when, unless, refusedBy, faultBy}
+use Rattle.trellis.specs.Refusals.{Test, when, unless, refusedBy, faultBy, passes}
 
 pub in-order : {A : Type 0} (l m : List Test) (bad : ℕ → A) (good : A) → refusedBy (l ++ m) bad good ≡ refusedBy l bad (refusedBy m bad good)
 in-order [] m bad good = refl
@@ -66,15 +67,41 @@ Passed [] = Unit {0}
 Passed (when b k ∷ l) = (b ≡ false) × Passed l
 Passed (unless b k ∷ l) = (b ≡ true) × Passed l
 
+pub passed-both : (l m : List Test) → Passed (l ++ m) → Passed l × Passed m
+passed-both [] m p = (tt, p)
+passed-both (when b k ∷ l) m p = let q = passed-both l m (p .1) in ((p .0, q .0), q .1)
+passed-both (unless b k ∷ l) m p = let q = passed-both l m (p .1) in ((p .0, q .0), q .1)
+
+-- where what a refusal leads to never has P and the whole has it, no test applies and the rest has it
+pub passed-on : {A : Type 0} (P : A → Type 0) (bad : ℕ → A) → ((k : ℕ) → P (bad k) → ⊥) → (l : List Test) (good : A) → P (refusedBy l bad good) → Passed l × P good
+passed-on P bad never [] good p = (tt, p)
+passed-on P bad never (when b k ∷ l) good p = go b refl (passed-on P bad never l good) p
+  where
+    go : (c : Bool) → b ≡ c → (P (refusedBy l bad good) → Passed l × P good) → P (pick c (bad k) (refusedBy l bad good)) → Passed (when b k ∷ l) × P good
+    go true i f p = absurd (never k p)
+    go false i f p = ((i, f p .0), f p .1)
+passed-on P bad never (unless b k ∷ l) good p = go b refl (passed-on P bad never l good) p
+  where
+    go : (c : Bool) → b ≡ c → (P (refusedBy l bad good) → Passed l × P good) → P (pick c (refusedBy l bad good) (bad k)) → Passed (unless b k ∷ l) × P good
+    go true i f p = ((i, f p .0), f p .1)
+    go false i f p = absurd (never k p)
+
+pub to-passed : (l : List Test) → passes l ≡ true → Passed l
+to-passed l e = passed-on (λ b. b ≡ true) (λ k. false) (λ k e. let z : _≡_ {A = ℕ} 0 1 = cc in omega arith) l true e .0
+
 pub none-applies : (l : List Test) → Numbered l → faultBy l ≡ 0 → Passed l
-none-applies [] n e = tt
-none-applies (when b k ∷ l) n e = go b refl (none-applies l (n .1)) e
+none-applies l n e = to-passed l (by-number l n (λ k. false) true ∙ rw (eq-eqb (faultBy l) 0 e))
+
+-- every line of a table has the number n
+abbrev pub All : ℕ → List Test → Type 0
+All n [] = Unit {0}
+All n (when b k ∷ l) = (k ≡ n) × All n l
+All n (unless b k ∷ l) = (k ≡ n) × All n l
+
+pub alike : {A : Type 0} (n : ℕ) (l : List Test) → All n l → (bad : ℕ → A) (good : A) → refusedBy l bad good ≡ pick (passes l) good (bad n)
+alike {A} n l a bad good = go l a ∙ sym (then-ends (λ b. pick b good (bad n)) l (λ k. false) true)
   where
-    go : (c : Bool) → b ≡ c → (faultBy l ≡ 0 → Passed l) → pick c k (faultBy l) ≡ 0 → Passed (when b k ∷ l)
-    go true i f e = absurd (n .0 e)
-    go false i f e = (i, f e)
-none-applies (unless b k ∷ l) n e = go b refl (none-applies l (n .1)) e
-  where
-    go : (c : Bool) → b ≡ c → (faultBy l ≡ 0 → Passed l) → pick c (faultBy l) k ≡ 0 → Passed (unless b k ∷ l)
-    go true i f e = (i, f e)
-    go false i f e = absurd (n .0 e)
+    go : (l : List Test) → All n l → refusedBy l bad good ≡ refusedBy l (λ k. bad n) good
+    go [] a = refl
+    go (when b k ∷ l) a = ap₂ (λ (x y : A). pick b x y) (ap bad (a .0)) (go l (a .1))
+    go (unless b k ∷ l) a = ap₂ (λ (x y : A). pick b x y) (go l (a .1)) (ap bad (a .0))

@@ -7,6 +7,7 @@ use lib.ListN.{length, getD, take, drop}
 use Rattle.trellis.specs.Lists.{countFrom, upTo, keep, each, pick, allTo}
 use Rattle.trellis.specs.Field.{xor}
 use Rattle.trellis.specs.Check.{Rule, Column, shift, sentAt, extra}
+use Rattle.trellis.specs.Refusals.{Test, when, unless, passes}
 
 -- "The columns are those with S_n(a) greater than E(a), rising" (SPEC 3.2)
 unfoldable pub above : Rule → List Column → ℕ → List ℕ
@@ -34,17 +35,24 @@ groupLength R = 1 + 2 * R .most
 abbrev pub recordLength : Rule → ℕ → ℕ
 recordLength R d = d + groupLength R * (R .size - 1)
 
--- The k pairs from place at on, beside E = e, of degree d. Refused: "an unused pair that is not FF 00 or stands before a used one, columns
--- not rising or not below d, or S not above E". A used pair's column is low or more; after an unused pair low is 256, past every byte
+-- A pair, column c and its S, beside E = e in a record of degree d. Refused: "an unused pair that is not FF 00 or stands before a used one,
+-- columns not rising or not below d, or S not above E". A used pair's column is low or more
+unfoldable pub pairTests : ℕ → ℕ → ℕ → ℕ → ℕ → List Test
+pairTests c s e d low =
+    pick (eqb c 0xFF)
+    (unless (eqb s 0x00) 16 ∷ [])
+    (when (ltb c low) 16
+    ∷ when (leb d c) 16
+    ∷ when (leb s e) 16
+    ∷ [])
+
+-- the k pairs from place at on. Past a column the next is greater; past FF it is greater than every byte
 unfoldable pub pairsOk : ℕ → List ℕ → ℕ → ℕ → ℕ → ℕ → Bool
 pairsOk zero r at e d low = true
 pairsOk (suc k) r at e d low =
-    pick (eqb (getD r at 0) 0xFF)
-    (pick (eqb (getD r (at + 1) 0) 0x00) (pairsOk k r (at + 2) e d 256) false)
-    (pick (ltb (getD r at 0) low) false
-    (pick (leb d (getD r at 0)) false
-    (pick (leb (getD r (at + 1) 0) e) false
-    (pairsOk k r (at + 2) e d (getD r at 0 + 1)))))
+    pick (passes (pairTests (getD r at 0) (getD r (at + 1) 0) e d low))
+    (pairsOk k r (at + 2) e d (getD r at 0 + 1))
+    false
 
 -- where the bytes of a = b + 1 start
 abbrev pub groupAt : Rule → ℕ → ℕ → ℕ
@@ -53,14 +61,16 @@ groupAt R d b = d + groupLength R * b
 abbrev pub groupOk : Rule → ℕ → List ℕ → ℕ → Bool
 groupOk R d r b = pairsOk (R .most) r (groupAt R d b + 1) (getD r (groupAt R d b) 0) d 0
 
--- the form of an accepted record of degree d. Refused: "length wrong, shift not below q", or a pair as above (SPEC 3.4)
+-- the form of an accepted record of degree d. Refused: "16, length wrong, shift not below q", or a pair as above (SPEC 3.4)
+unfoldable pub recordTests : Rule → ℕ → List ℕ → List Test
+recordTests R d r =
+    unless (eqb (length r) (recordLength R d)) 16
+    ∷ unless (allTo (λ n. ltb (getD r n 0) (R .size)) d) 16
+    ∷ unless (allTo (groupOk R d r) (R .size - 1)) 16
+    ∷ []
+
 unfoldable pub recordOk : Rule → ℕ → List ℕ → Bool
-recordOk R d r =
-    pick (eqb (length r) (recordLength R d))
-    (pick (allTo (λ n. ltb (getD r n 0) (R .size)) d)
-    (allTo (groupOk R d r) (R .size - 1))
-    false)
-    false
+recordOk R d r = passes (recordTests R d r)
 
 -- "the S beside n if a's pairs list n, else E(a)" (SPEC 3.5)
 abbrev pub beside : ℕ → ℕ → List ℕ → ℕ

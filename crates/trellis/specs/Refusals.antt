@@ -1,6 +1,6 @@
 -- Refusals as tables: tests in their order, each with its number. "Each call makes its tests in the order below and reports the first that
 -- applies." SPEC 8.1.
-use mathlib.Core.Bool.{Bool}
+use mathlib.Core.Bool.{Bool, true, false}
 use mathlib.Core.List.{List, [], _∷_}
 use Prim.Native.Nat.{ℕ}
 use Rattle.trellis.specs.Lists.{pick}
@@ -19,3 +19,7 @@ refusedBy (unless b k ∷ l) bad good = pick b (refusedBy l bad good) (bad k)
 -- the number itself, 0 for none
 abbrev pub faultBy : List Test → ℕ
 faultBy l = refusedBy l (λ k. k) 0
+
+-- whether no line applies
+abbrev pub passes : List Test → Bool
+passes l = refusedBy l (λ k. false) true

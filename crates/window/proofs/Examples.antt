@@ -1,19 +1,19 @@
 -- Document 01's example through the window, and refusals of command 2, by evaluation.
 use mathlib.Core.Path.{_≡_, refl}
-use mathlib.Core.Bool.{true, false}
+use mathlib.Core.Bool.{true}
 use mathlib.Core.List.{List, [], _∷_, _++_}
 use Prim.Native.Nat.{ℕ}
 use lib.ListN.{replicate}
 use Rattle.trellis.specs.Field.{xor}
 use Rattle.trellis.specs.Rules.{firstOk}
-use Rattle.trellis.specs.Check.{extra, sentAt, leastCost, choices, shift, decided, sent, marginOf}
-use Rattle.trellis.specs.Record.{recordOf, shifts, group, above, pairsOk, recordOk, readAt, expandAt}
+use Rattle.trellis.specs.Check.{extra, sentAt, leastCost, choices, shift, decided, marginOf}
+use Rattle.trellis.specs.Record.{recordOf, shifts, group, above, pairTests, pairsOk, recordTests, recordOk, readAt, expandAt}
 use Rattle.machine.specs.CodeLine.{parse, checks, checkAt, edges, readEdge, frameFault}
 use Rattle.machine.specs.Machine.{spread, arriving, outgoing, incoming, settled, symbols, margins, place}
 use Rattle.machine.specs.Lent.{costsLent, recordLent, updateLent, iterationLent, messageLent}
 use Rattle.machine.specs.Decoding.{Buffers, admitted}
 use Rattle.machine.specs.Moments.{costsOk, storeOk, resumable, loading, iterating}
-use Rattle.window.specs.Window.{Registers, idle, read, interrupt, Window, setting, second, command, write}
+use Rattle.window.specs.Window.{Registers, idle, interrupt, Window, setting, second, command, write}
 use Rattle.window.specs.Writes.{Write, writes}
 
 abbrev line : List ℕ
@@ -83,7 +83,7 @@ unfolding write command second iterating resumable costsOk storeOk updateLent co
 above-510 = refl
 
 pub bad-record : number 1 (costs 510) ≡ 16
-unfolding write command second iterating resumable costsOk storeOk updateLent costsLent recordLent iterationLent messageLent readAt expandAt recordOk pairsOk setting admitted parse firstOk checks checkAt edges readEdge frameFault place spread arriving outgoing incoming settled symbols margins marginOf choices leastCost xor recordOf shifts group above extra sentAt shift decided
+unfolding write command second iterating resumable costsOk storeOk updateLent costsLent recordLent iterationLent messageLent readAt expandAt recordOk recordTests pairsOk pairTests setting admitted parse firstOk checks checkAt edges readEdge frameFault place spread arriving outgoing incoming settled symbols margins marginOf choices leastCost xor recordOf shifts group above extra sentAt shift decided
 bad-record = refl
 
 pub no-record : number 0 (costs 510) ≡ 0

@@ -3,6 +3,7 @@ use mathlib.Core.Path.{_≡_, refl, sym, _∙_}
 use Prim.Native.Nat.{_+_, _-_, _*_, _≤_}
 use native.Mathlib.Omega.{arith}
 use borrow.Author.Needs.{needs}
+use borrow.Author.Tests.{not-true, not-false}
 use lib.ListN.{getD}
 use Rattle.trellis.specs.Record.{pairsOk}
 use Rattle.expansion.proofs.Forming.{pairs-fault, pairs-more, pairs-none}
@@ -24,25 +25,31 @@ add-next c = search needs
 loop-holds : tie.Need-loop-holds Inv-loop μ-loop
 loop-holds c = let z : c .before .before .args .k - 0 ≡ c .before .before .args .k = omega arith in (omega arith, (omega arith, rw z refl))
 
-shared-slice-read-pair-next : tie.Need-shared-slice-read-pair-next Inv-loop μ-loop
-shared-slice-read-pair-next c = search needs
+shared-slice-read-u8-to-usize : tie.Need-shared-slice-read-u8-to-usize Inv-loop μ-loop
+shared-slice-read-u8-to-usize c = search needs
 
-add-pair-next : tie.Need-add-pair-next Inv-loop μ-loop
-add-pair-next c = search needs
+u8-to-usize-requires : tie.Need-u8-to-usize-requires Inv-loop μ-loop
+u8-to-usize-requires c κs = search needs
 
-shared-slice-read-pair-next-2 : tie.Need-shared-slice-read-pair-next-2 Inv-loop μ-loop
-shared-slice-read-pair-next-2 c = search needs
+add-pair-ok : tie.Need-add-pair-ok Inv-loop μ-loop
+add-pair-ok c = search needs
 
-pair-next-requires : tie.Need-pair-next-requires Inv-loop μ-loop
-pair-next-requires c κs = search needs
+shared-slice-read-pair-ok : tie.Need-shared-slice-read-pair-ok Inv-loop μ-loop
+shared-slice-read-pair-ok c = search needs
+
+pair-ok-requires : tie.Need-pair-ok-requires Inv-loop μ-loop
+pair-ok-requires c κs = search needs
 
 returns : tie.Need-returns Inv-loop μ-loop
 returns c =
-    let l = c .before .before .before .before .before in
-    let known = l .before .before in
-    let a = known .before .args in
-    pairs-fault _ (a .r .now) (l .loop .next) (getD (a .r .now) (a .at) 0) (a .d) (l .loop .low) (omega (arith, known .shared-slice-known .given (l .loop .next))) (omega arith) (c .before .pair-next .ensures) (c .if1 .taken)
+    let at-column = c .before .before .before in
+    let l = at-column .before .before .before in
+    let a = l .before .before .before .args in
+    pairs-fault _ (a .r .now) (l .loop .next) (getD (a .r .now) (a .at) 0) (a .d) (l .loop .low) (omega arith) (at-column .u8-to-usize .ensures .0) (c .before .pair-ok .ensures) (not-true _ (c .if1 .taken))
     ∙ sym (l .loop .inv .1 .1)
+
+add-low : tie.Need-add-low Inv-loop μ-loop
+add-low c = search needs
 
 add-next-2 : tie.Need-add-next-2 Inv-loop μ-loop
 add-next-2 c = search needs
@@ -55,15 +62,15 @@ loop-less c = search needs
 
 loop-again : tie.Need-loop-again Inv-loop μ-loop
 loop-again c =
-    let l = c .before .before .before .before .before in
-    let known = l .before .before in
-    let a = known .before .args in
+    let at-column = c .before .before .before in
+    let l = at-column .before .before .before in
+    let a = l .before .before .before .args in
     let n : a .k - l .loop .j - 1 ≡ a .k - (l .loop .j + 1) = omega arith in (
       omega arith,
       (
         omega arith,
         l .loop .inv .1 .1
-            ∙ pairs-more _ (a .r .now) (l .loop .next) (getD (a .r .now) (a .at) 0) (a .d) (l .loop .low) (omega (arith, known .shared-slice-known .given (l .loop .next))) (omega arith) (c .before .pair-next .ensures) (c .if1 .left)
+            ∙ pairs-more _ (a .r .now) (l .loop .next) (getD (a .r .now) (a .at) 0) (a .d) (l .loop .low) (omega arith) (at-column .u8-to-usize .ensures .0) (c .before .pair-ok .ensures) (not-false _ (c .if1 .left))
             ∙ rw n refl,
       ),
     )
@@ -80,11 +87,13 @@ pairs-ok-spec =
     shared-slice-read-e
     add-next
     loop-holds
-    shared-slice-read-pair-next
-    add-pair-next
-    shared-slice-read-pair-next-2
-    pair-next-requires
+    shared-slice-read-u8-to-usize
+    u8-to-usize-requires
+    add-pair-ok
+    shared-slice-read-pair-ok
+    pair-ok-requires
     returns
+    add-low
     add-next-2
     add-j
     loop-less
