@@ -8,6 +8,7 @@ use borrow.Author.Needs.{needs}
 use lib.ListN.{length, drop, length-take}
 use Rattle.trellis.specs.Lists.{blocks}
 use Rattle.trellis.specs.Rules.{ruleFor, sizeOf, columnsOf}
+use Rattle.trellis.specs.Ready.{Ready}
 use Rattle.sweep.specs.Kept.{cellCount}
 use Rattle.sweep.specs.inner.Cells.{orderOf, cellsAfter}
 use Rattle.field.proofs.Blocks.{part-room}
@@ -59,32 +60,55 @@ loop-holds c =
     let n = start-length f ws cs D (start .args .back) t w h (at-begin .begin .ensures) in
     (omega arith, (omega (arith, D .two), ((refl, we), (start .pre .1 .0, (n ∙ omega (arith, start .pre .1 .1, wt), table-start f ws cs D (start .args .back) t w we h (at-begin .begin .ensures))))))
 
+-- past the loop's test, part i lies in the table, past part i - 1
+module _ (o : tie.In-loop Inv-loop μ-loop) where
+  abbrev first : ℕ
+  first = o .before .before .before .before .before .before .before .before .before .before .before .args .first
+
+  abbrev ws : List ℕ
+  ws = o .before .before .before .before .before .before .before .before .before .before .before .args .weights .now
+
+  abbrev cs : List ℕ
+  cs = o .before .before .before .before .before .before .before .before .before .before .before .args .costs .now
+
+  ready : Ready first ws cs
+  ready = o .before .before .before .before .before .before .before .before .before .before .before .pre .0
+
+  abbrev w : ℕ
+  w = o .before .before .before .before .before .before .cell-count .result
+
+  count : w ≡ cellCount first
+  count = o .before .before .before .before .before .before .cell-count .ensures .0
+
+  abbrev i : ℕ
+  i = o .before .loop .i
+
+  below : i < length ws
+  below = omega (arith, o .loop-test .taken, o .before .loop .inv .1 .1 .0 .0)
+
+  within : i * w + w ≤ length ws * w
+  within = part-room i (length ws) w below
+
+  past : w ≤ i * w
+  past = past-first i w (λ (z : i ≡ 0). omega (arith, o .before .loop .inv .0))
+
+  whole : length ws * w ≡ length ws * cellCount first
+  whole = ap (λ y. length ws * y) count
+
+  in-table : i * w + w ≤ length (o .before .loop .table)
+  in-table = omega (arith, within, o .before .loop .inv .1 .1 .1 .1 .0)
+
 mul-b : tie.Need-mul-b Inv-loop μ-loop
-mul-b c =
-    let at-loop = c .before in
-    let at-cell-count = at-loop .before .before .before .before .before in
-    let start = at-cell-count .before .before .before .before .before in
-    omega (arith, part-room (at-loop .loop .i) (length (start .args .weights .now)) (at-cell-count .cell-count .result) (let u : (at-loop .loop .i) < (length (start .args .weights .now)) = omega (arith, c .loop-test .taken, at-loop .loop .inv .1 .1 .0 .0) in u), ap (λ y. (length (start .args .weights .now)) * y) (at-cell-count .cell-count .ensures .0), ready-sizes (start .args .first) (start .args .weights .now) (start .args .costs .now) (start .pre .0))
+mul-b c = omega (arith, within c, whole c, ready-sizes (first c) (ws c) (cs c) (ready c))
 
 sub-a : tie.Need-sub-a Inv-loop μ-loop
-sub-a c =
-    let at-loop = c .before in
-    let at-cell-count = at-loop .before .before .before .before .before in
-    omega (arith, past-first (at-loop .loop .i) (at-cell-count .cell-count .result) (λ (z : (at-loop .loop .i) ≡ 0). omega (arith, at-loop .loop .inv .0)))
+sub-a c = omega (arith, past c)
 
 add-e : tie.Need-add-e Inv-loop μ-loop
-add-e c =
-    let at-loop = c .before in
-    let at-cell-count = at-loop .before .before .before .before .before in
-    let start = at-cell-count .before .before .before .before .before in
-    omega (arith, part-room (at-loop .loop .i) (length (start .args .weights .now)) (at-cell-count .cell-count .result) (let u : (at-loop .loop .i) < (length (start .args .weights .now)) = omega (arith, c .loop-test .taken, at-loop .loop .inv .1 .1 .0 .0) in u), ap (λ y. (length (start .args .weights .now)) * y) (at-cell-count .cell-count .ensures .0), ready-sizes (start .args .first) (start .args .weights .now) (start .args .costs .now) (start .pre .0))
+add-e c = omega (arith, within c, whole c, ready-sizes (first c) (ws c) (cs c) (ready c))
 
 mul-copy : tie.Need-mul-copy Inv-loop μ-loop
-mul-copy c =
-    let at-loop = c .before in
-    let at-cell-count = at-loop .before .before .before .before .before in
-    let start = at-cell-count .before .before .before .before .before in
-    omega (arith, part-room (at-loop .loop .i) (length (start .args .weights .now)) (at-cell-count .cell-count .result) (let u : (at-loop .loop .i) < (length (start .args .weights .now)) = omega (arith, c .loop-test .taken, at-loop .loop .inv .1 .1 .0 .0) in u), ap (λ y. (length (start .args .weights .now)) * y) (at-cell-count .cell-count .ensures .0), ready-sizes (start .args .first) (start .args .weights .now) (start .args .costs .now) (start .pre .0), past-first (at-loop .loop .i) (at-cell-count .cell-count .result) (λ (z : (at-loop .loop .i) ≡ 0). omega (arith, at-loop .loop .inv .0)))
+mul-copy c = omega (arith, within c, whole c, ready-sizes (first c) (ws c) (cs c) (ready c), past c)
 
 sub-copy : tie.Need-sub-copy Inv-loop μ-loop
 sub-copy c = search needs
@@ -93,30 +117,12 @@ part-copy-start : tie.Need-part-copy-start Inv-loop μ-loop
 part-copy-start c = search needs
 
 part-copy-end : tie.Need-part-copy-end Inv-loop μ-loop
-part-copy-end c =
-    let at-loop-test = c .before in
-    let at-loop = at-loop-test .before in
-    let at-cell-count = at-loop .before .before .before .before .before in
-    let start = at-cell-count .before .before .before .before .before in
-    omega (arith, part-room (at-loop .loop .i) (length (start .args .weights .now)) (at-cell-count .cell-count .result) (let u : (at-loop .loop .i) < (length (start .args .weights .now)) = omega (arith, at-loop-test .loop-test .taken, at-loop .loop .inv .1 .1 .0 .0) in u), ap (λ y. (length (start .args .weights .now)) * y) (at-cell-count .cell-count .ensures .0), ready-sizes (start .args .first) (start .args .weights .now) (start .args .costs .now) (start .pre .0), at-loop .loop .inv .1 .1 .1 .1 .0)
+part-copy-end c = omega (arith, in-table (c .before))
 
 copy-requires : tie.Need-copy-requires Inv-loop μ-loop
 copy-requires c κs =
-    let at-loop-test = c .before .before .before in
-    let at-loop = at-loop-test .before in
-    let at-cell-count = at-loop .before .before .before .before .before in
-    let start = at-cell-count .before .before .before .before .before in
-    let f : ℕ = start .args .first in
-    let ws : List ℕ = start .args .weights .now in
-    let w : ℕ = at-cell-count .cell-count .result in
-    let we : w ≡ cellCount f = at-cell-count .cell-count .ensures .0 in
-    let i : ℕ = at-loop .loop .i in
-    let t : List ℕ = at-loop .loop .table in
-    let inv = at-loop .loop .inv .1 .1 in
-    let l : i < length ws = omega (arith, at-loop-test .loop-test .taken, inv .0 .0) in
-    let r : i * w + w ≤ length ws * w = part-room i (length ws) w l in
-    let p : w ≤ i * w = past-first i w (λ (z : i ≡ 0). omega (arith, at-loop .loop .inv .0)) in
-    below-length t (i * w) w p (omega (arith, r, inv .1 .1 .0)) ∙ we ∙ sym (inv .1 .0)
+    let o = c .before .before .before in
+    below-length (o .before .loop .table) (i o * w o) (w o) (past o) (omega (arith, in-table o)) ∙ count o ∙ sym (o .before .loop .inv .1 .1 .1 .0)
 
 sub-order : tie.Need-sub-order Inv-loop μ-loop
 sub-order c =
@@ -125,17 +131,13 @@ sub-order c =
 
 order-requires : tie.Need-order-requires Inv-loop μ-loop
 order-requires c κs =
-    let at-loop-test = c .before .before .before .before .before .before in
-    let at-loop = at-loop-test .before in
-    omega (arith, at-loop .loop .inv .0, at-loop-test .loop-test .taken)
+    let o = c .before .before .before .before .before .before in
+    omega (arith, o .before .loop .inv .0, o .loop-test .taken)
 
 mul-turn : tie.Need-mul-turn Inv-loop μ-loop
 mul-turn c =
-    let at-loop-test = c .before .before .before .before .before .before .before .before in
-    let at-loop = at-loop-test .before in
-    let at-cell-count = at-loop .before .before .before .before .before in
-    let start = at-cell-count .before .before .before .before .before in
-    omega (arith, part-room (at-loop .loop .i) (length (start .args .weights .now)) (at-cell-count .cell-count .result) (let u : (at-loop .loop .i) < (length (start .args .weights .now)) = omega (arith, at-loop-test .loop-test .taken, at-loop .loop .inv .1 .1 .0 .0) in u), ap (λ y. (length (start .args .weights .now)) * y) (at-cell-count .cell-count .ensures .0), ready-sizes (start .args .first) (start .args .weights .now) (start .args .costs .now) (start .pre .0))
+    let o = c .before .before .before .before .before .before .before .before in
+    omega (arith, within o, whole o, ready-sizes (first o) (ws o) (cs o) (ready o))
 
 sub-turn : tie.Need-sub-turn Inv-loop μ-loop
 sub-turn c = search needs
@@ -145,38 +147,21 @@ part-turn-start c = search needs
 
 part-turn-end : tie.Need-part-turn-end Inv-loop μ-loop
 part-turn-end c =
-    let at-loop-test = c .before .before .before .before .before .before .before .before in
-    let at-loop = at-loop-test .before in
-    let at-cell-count = at-loop .before .before .before .before .before in
-    let start = at-cell-count .before .before .before .before .before in
-    omega (arith, part-room (at-loop .loop .i) (length (start .args .weights .now)) (at-cell-count .cell-count .result) (let u : (at-loop .loop .i) < (length (start .args .weights .now)) = omega (arith, at-loop-test .loop-test .taken, at-loop .loop .inv .1 .1 .0 .0) in u), ap (λ y. (length (start .args .weights .now)) * y) (at-cell-count .cell-count .ensures .0), ready-sizes (start .args .first) (start .args .weights .now) (start .args .costs .now) (start .pre .0), at-loop .loop .inv .1 .1 .1 .1 .0)
+    let o = c .before .before .before .before .before .before .before .before in
+    omega (arith, in-table o)
 
 turn-requires : tie.Need-turn-requires Inv-loop μ-loop
 turn-requires c κs =
     let at-order = c .before .before in
     let at-copy = at-order .before .before .before in
-    let at-loop-test = at-copy .before .before .before .before in
-    let at-loop = at-loop-test .before in
-    let at-cell-count = at-loop .before .before .before .before .before in
-    let start = at-cell-count .before .before .before .before .before in
-    let f : ℕ = start .args .first in
-    let ws : List ℕ = start .args .weights .now in
-    let D = start .pre .0 in
-    let w : ℕ = at-cell-count .cell-count .result in
-    let we : w ≡ cellCount f = at-cell-count .cell-count .ensures .0 in
-    let i : ℕ = at-loop .loop .i in
-    let t : List ℕ = at-loop .loop .table in
-    let inv = at-loop .loop .inv .1 .1 in
-    let l : i < length ws = omega (arith, at-loop-test .loop-test .taken, inv .0 .0) in
-    let r : i * w + w ≤ length ws * w = part-room i (length ws) w l in
-    (D, (omega (arith, at-order .order .ensures .1, inv .0 .0), (omega (arith, at-copy .copy .kept, inv .1 .0), part-length t (i * w) w (omega (arith, r, inv .1 .1 .0)) ∙ we)))
+    let o = at-copy .before .before .before .before in
+    let inv = o .before .loop .inv .1 .1 in
+    (ready o, (omega (arith, at-order .order .ensures .1, inv .0 .0), (omega (arith, at-copy .copy .kept, inv .1 .0), part-length (o .before .loop .table) (i o * w o) (w o) (in-table o) ∙ count o)))
 
 add-i : tie.Need-add-i Inv-loop μ-loop
 add-i c =
-    let at-loop-test = c .before .before .before .before .before .before .before .before .before .before .before .before in
-    let at-loop = at-loop-test .before in
-    let start = at-loop .before .before .before .before .before .before .before .before .before .before in
-    omega (arith, start .pre .0 .few, at-loop-test .loop-test .taken, at-loop .loop .inv .1 .1 .0 .0)
+    let o = c .before .before .before .before .before .before .before .before .before .before .before .before in
+    omega (arith, ready o .few, below o)
 
 loop-less : tie.Need-loop-less Inv-loop μ-loop
 loop-less c = search needs
@@ -186,27 +171,16 @@ loop-again c =
     let at-turn = c .before .before in
     let at-order = at-turn .before .before .before in
     let at-copy = at-order .before .before .before in
-    let at-loop-test = at-copy .before .before .before .before in
-    let at-loop = at-loop-test .before in
-    let at-cell-count = at-loop .before .before .before .before .before in
-    let start = at-cell-count .before .before .before .before .before in
-    let f : ℕ = start .args .first in
-    let ws : List ℕ = start .args .weights .now in
-    let cs : List ℕ = start .args .costs .now in
-    let D = start .pre .0 in
-    let w : ℕ = at-cell-count .cell-count .result in
-    let we : w ≡ cellCount f = at-cell-count .cell-count .ensures .0 in
-    let i : ℕ = at-loop .loop .i in
-    let t : List ℕ = at-loop .loop .table in
-    let inv = at-loop .loop .inv .1 .1 in
-    let l : i < length ws = omega (arith, at-loop-test .loop-test .taken, inv .0 .0) in
-    let r : i * w + w ≤ length ws * w = part-room i (length ws) w l in
-    let back : Bool = start .args .back in
-    let c = table-copied f ws cs D back i (at-loop .loop .inv .0) w we t (inv .1 .1 .1) (at-copy .copy .ensures) in
-    let n = at-order .order .ensures .0 ∙ ap (λ y. orderOf back y (i - 1)) (inv .0 .0) in
-    let k = table-turn f ws cs D back i (at-loop .loop .inv .0) w we (at-order .order .result) l n (omega (arith, at-order .order .ensures .1, inv .0 .0)) c (at-turn .turn .ensures) in
-    let m = next-length f ws cs D back i (at-loop .loop .inv .0) w we t (omega (arith, r, inv .1 .1 .0)) k in
-    (omega arith, (omega (arith, l), (inv .0, (omega (arith, at-copy .copy .kept, inv .1 .0), (m ∙ inv .1 .1 .0, table-next f ws cs D back i (at-loop .loop .inv .0) w we t (inv .1 .1 .1) k)))))
+    let o = at-copy .before .before .before .before in
+    let some : 1 ≤ i o = o .before .loop .inv .0 in
+    let t : List ℕ = o .before .loop .table in
+    let inv = o .before .loop .inv .1 .1 in
+    let back : Bool = o .before .before .before .before .before .before .before .before .before .before .before .args .back in
+    let copied = table-copied (first o) (ws o) (cs o) (ready o) back (i o) some (w o) (count o) t (inv .1 .1 .1) (at-copy .copy .ensures) in
+    let n = at-order .order .ensures .0 ∙ ap (λ y. orderOf back y (i o - 1)) (inv .0 .0) in
+    let k = table-turn (first o) (ws o) (cs o) (ready o) back (i o) some (w o) (count o) (at-order .order .result) (below o) n (omega (arith, at-order .order .ensures .1, inv .0 .0)) copied (at-turn .turn .ensures) in
+    let m = next-length (first o) (ws o) (cs o) (ready o) back (i o) some (w o) (count o) t (in-table o) k in
+    (omega arith, (omega (arith, below o), (inv .0, (omega (arith, at-copy .copy .kept, inv .1 .0), (m ∙ inv .1 .1 .0, table-next (first o) (ws o) (cs o) (ready o) back (i o) some (w o) (count o) t (inv .1 .1 .1) k)))))
 
 same-length : tie.Need-same-length Inv-loop μ-loop
 same-length c = search needs
