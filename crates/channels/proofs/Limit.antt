@@ -1,6 +1,6 @@
 -- The code line with j in byte 5 is read as the same code with iteration limit j, and the machine of such a code is the same but for its limit.
 use mathlib.Core.Path.{_≡_, refl, sym, ap, _∙_}
-use mathlib.Core.Bool.{Bool, not}
+use mathlib.Core.Bool.{not}
 use mathlib.Core.List.{List, [], _∷_}
 use Prim.Native.Nat.{ℕ, zero, suc, _+_, _*_, _≤_}
 use native.Mathlib.Omega.{arith}
@@ -8,7 +8,6 @@ use lib.Dec.{ltb}
 use lib.ListN.{length, getD, set, length-set}
 use lib.Seq.{getD-set-same, getD-set-other}
 use borrow.Author.Tests.{ltb-false, le-ltb}
-use Rattle.trellis.specs.Lists.{pick}
 use Rattle.trellis.specs.Refusals.{when}
 use Rattle.trellis.specs.Rules.{sizeOf, firstOk}
 use Rattle.machine.specs.CodeLine.{Read, good, bad, then, Edge, Code, wordAt, readEdge, edges, checkAt, checks, headTests, parse, frameFault}

@@ -1,11 +1,11 @@
 -- What code_tables leaves says the line's code: the numbers and tables of an accepted line, read back, are what was parsed.
-use mathlib.Core.Path.{_≡_, refl, sym, ap, _∙_}
+use mathlib.Core.Path.{_≡_, sym, ap, _∙_}
 use mathlib.Core.List.{List}
-use Prim.Native.Nat.{ℕ, _≤_}
+use Prim.Native.Nat.{ℕ}
 use native.Mathlib.Omega.{arith}
 use lib.ListN.{length, length-map}
-use Rattle.machine.specs.CodeLine.{Read, good, bad, Edge, Code, numbersOf, parse}
-use Rattle.machine.specs.inner.Tables.{tablesOf, edgesBefore, checksFrom, Tabled}
+use Rattle.machine.specs.CodeLine.{good, Edge, Code, numbersOf, parse}
+use Rattle.machine.specs.inner.Tables.{edgesBefore, checksFrom, Tabled}
 use Rattle.machine.specs.inner.Accepted.{GoodCode}
 use Rattle.machine.proofs.Lines.{parse-good}
 use Rattle.machine.proofs.Places.{start-length}

@@ -7,14 +7,14 @@ use native.Mathlib.Nat.{add-sub-cancel-left}
 use native.Mathlib.Numerals.{add-one}
 use native.Mathlib.Omega.{arith}
 use lib.Dec.{eqb, ltb}
-use borrow.Author.Tests.{eqb-true, eq-eqb, ne-eqb, lt-ltb, le-ltb}
+use borrow.Author.Tests.{eqb-true, eq-eqb, ne-eqb}
 use lib.ListN.{length}
 use Rattle.trellis.specs.Lists.{part, allTo, pick}
 use Rattle.trellis.specs.Check.{firstZero}
 use Rattle.trellis.specs.Refusals.{faultBy}
 use Rattle.trellis.specs.Rules.{sizeOf}
 use Rattle.trellis.proofs.Refusals.{in-order, by-number, Numbered}
-use Rattle.machine.specs.CodeLine.{columnOf, zeroIn, frameTests}
+use Rattle.machine.specs.CodeLine.{zeroIn, frameTests}
 use Rattle.machine.specs.Decoding.{roomTests, decodeTests}
 use Rattle.machine.specs.inner.Tables.{bytesBefore}
 use Rattle.machine.proofs.Faults.{frame-numbered}

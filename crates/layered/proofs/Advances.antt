@@ -3,7 +3,7 @@
 use mathlib.Core.Path.{_≡_, refl, sym, ap, ap₂, _∙_}
 use mathlib.Core.Bool.{Bool, true, false}
 use mathlib.Core.List.{List}
-use Prim.Native.Nat.{ℕ, zero, suc, _+_, _-_, _*_, _%_, _≤_, _<_}
+use Prim.Native.Nat.{ℕ, zero, suc, _+_, _-_, _%_, _<_}
 use native.Mathlib.Nat.{mod-eq-of-lt}
 use native.Mathlib.Numerals.{add-one}
 use native.Mathlib.Omega.{arith}
@@ -12,7 +12,6 @@ use lib.ListN.{length, getD, set}
 use borrow.Author.Tests.{eq-eqb, ne-eqb}
 use Rattle.trellis.specs.Lists.{pick, upto, tab}
 use Rattle.trellis.specs.Check.{decide}
-use Rattle.trellis.specs.Rules.{sizeOf}
 use Rattle.machine.specs.CodeLine.{Code, size, check, edgeAt, columnOf}
 use Rattle.machine.specs.Machine.{found, notFound, symbols, settled}
 use Rattle.machine.specs.Lent.{Lent, lent, ended, updateLent}

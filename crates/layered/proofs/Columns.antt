@@ -1,19 +1,16 @@
 -- The loops over a check's columns: each least is that of document 01, each loop fills its list from the front (trellis, proofs/Loops.antt), and the
 -- columns' parts of the buffers do not meet.
-use mathlib.Core.Path.{_≡_, refl, sym, ap, _∙_}
-use mathlib.Core.Logic.{_⊎_, inl, inr}
-use mathlib.Core.List.{List, _++_, map, append-assoc, Memᴰ·map, Memᴰ·of-map}
+use mathlib.Core.Path.{_≡_, sym, ap, _∙_}
+use mathlib.Core.List.{List, _++_, map, append-assoc}
 use Prim.Native.Nat.{ℕ, zero, suc, _+_, _-_, _*_, _≤_, _<_, min}
-use native.Mathlib.Nat.{mul-le-mul, le-of-suc-le-suc, mul-zero, zero-add, suc-mul, add-sub-cancel-left}
-use native.Mathlib.Decide.{decLe, ℕ-discrete}
+use native.Mathlib.Nat.{mul-le-mul, le-of-suc-le-suc, mul-zero, suc-mul, add-sub-cancel-left}
 use native.Mathlib.Numerals.{add-one}
 use native.Mathlib.Omega.{arith}
-use lib.ListN.{length, take, drop, getD, length-append, length-take, length-drop, List·getD-map}
+use lib.ListN.{length, take, drop, getD, length-append, length-drop, List·getD-map}
 use lib.Seq.{take-at, drop-at, drop-drop, length-take-le}
-use Rattle.trellis.specs.Lists.{upTo, smallest, upto, tab, part, patch, blocks}
-use Rattle.trellis.proofs.Lists.{in-upTo, of-upTo, smallest-in, smallest-le}
+use Rattle.trellis.specs.Lists.{upTo, upto, tab, part, patch, blocks}
 use Rattle.trellis.proofs.Places.{map-ext}
-use Rattle.trellis.proofs.Loops.{tab-ext, map-tab, tab-whole}
+use Rattle.trellis.proofs.Loops.{tab-whole}
 use Rattle.machine.specs.Machine.{scaled, incoming, outgoing}
 use Rattle.machine.proofs.Lists.{map-after}
 use Rattle.machine.proofs.Leasts.{least-le, smallest-loop, upTo-tab}

@@ -2,29 +2,23 @@
 use mathlib.Core.Path.{_≡_, refl, sym, ap, ap₂, _∙_}
 use mathlib.Core.Bool.{Bool, true, false, true≢false}
 use mathlib.Core.List.{List, _++_}
-use Prim.Native.Nat.{ℕ, _+_, _-_, _*_, _≤_, _<_, min}
-use native.Mathlib.Nat.{add-sub-cancel-left}
-use native.Mathlib.Numerals.{add-one}
+use Prim.Native.Nat.{ℕ, _+_, _-_, _*_, _≤_, min}
 use native.Mathlib.Omega.{arith}
-use lib.Dec.{eqb, ltb}
-use borrow.Author.Tests.{eqb-true, eqb-false, ltb-false, eq-eqb, ne-eqb, lt-ltb, le-ltb}
-use lib.ListN.{length, getD, take, drop}
-use lib.Seq.{ext-getD, take-at, drop-at}
-use Rattle.trellis.specs.Lists.{tab, part, allTo, pick}
-use Rattle.trellis.specs.Check.{firstZero}
-use Rattle.trellis.specs.Rules.{sizeOf}
-use Rattle.trellis.proofs.Margins.{first-most}
-use Rattle.trellis.proofs.Loops.{tab-whole, length-tab, getD-tab}
+use lib.Dec.{eqb}
+use borrow.Author.Tests.{eqb-true, eqb-false, eq-eqb, ne-eqb}
+use lib.ListN.{length, take, drop}
+use lib.Seq.{take-at, drop-at}
+use Rattle.trellis.specs.Lists.{pick}
 use Rattle.trellis.specs.Refusals.{Test, faultBy}
 use Rattle.trellis.proofs.Refusals.{then-ends, by-number}
 use Rattle.trellis.specs.Reply.{Reply, refusal}
-use Rattle.machine.specs.CodeLine.{Read, good, bad, Code, numbersOf, parse, size, columnOf, zeroIn, frameFault}
-use Rattle.machine.specs.Machine.{Status, symbols, margins, run, place, used}
+use Rattle.machine.specs.CodeLine.{Read, good, bad, Code, numbersOf, parse, size, frameFault}
+use Rattle.machine.specs.Machine.{Status, symbols, margins, place, used}
 use Rattle.machine.specs.Lent.{Lent, lent, Ended, ended, goLent}
 use Rattle.machine.specs.Early.{mostUpdates, decodingEarly}
 use Rattle.machine.specs.inner.LentEarly.{stopLent}
 use Rattle.machine.proofs.EarlyLent.{early-stands}
-use Rattle.machine.specs.Decoding.{Buffers, After, lending, outcome, holding, storeOf, decodeTests, admittedUnder, admitted, decoding, Leaves, Room}
+use Rattle.machine.specs.Decoding.{Buffers, After, lending, outcome, holding, decodeTests, admittedUnder, admitted, decoding, Leaves, Room}
 use Rattle.machine.specs.inner.Faults.{roomFault}
 use Rattle.machine.specs.inner.Tables.{bytesBefore}
 use Rattle.machine.proofs.Ranges.{frame-ranged}
@@ -46,8 +40,6 @@ use Rattle.layered.specs.inner.Iterations.{endedIn, RunRoom}
 use Rattle.layered.specs.inner.Calls.{runLent, callUnder, decodingOf, called}
 use Rattle.frame.specs.Answers.{frameFaultOf, faultOf}
 use Rattle.frame.proofs.Frames.{decode-numbered, decode-parts, frame-counted}
-use Rattle.machine.proofs.Places.{length-part}
-use Rattle.machine.proofs.Lists.{all-not}
 use Rattle.layered.proofs.Runs.{checks-count}
 
 -- what decoding's refusals lead to, by the number of the refusal, 0 for none

@@ -1,7 +1,7 @@
 -- A check that may be updated: its parts of the tables, of the store and of the lists to work in are inside, what its update asks is there, and what it
 -- leaves is the machine's update.
 use mathlib.Core.Path.{_≡_, refl, sym, ap, ap₂, _∙_}
-use mathlib.Core.Bool.{Bool, false}
+use mathlib.Core.Bool.{Bool}
 use mathlib.Core.List.{List}
 use Prim.Native.Nat.{ℕ, suc, _+_, _-_, _*_, _≤_, _<_}
 use native.Mathlib.Nat.{mul-le-mul, add-sub-cancel-left}
@@ -20,7 +20,7 @@ use Rattle.machine.specs.inner.Accepted.{GoodCheck}
 use Rattle.machine.proofs.Ranges.{column-room}
 use Rattle.machine.proofs.Lent.{place-suc, place-mono}
 use Rattle.machine.proofs.Rooms.{used-high}
-use Rattle.machine.proofs.InTables.{count, in-columns, in-weights, check-is, columns-length, weights-length, same-length, degree-is, column-part, weight-part, place-is}
+use Rattle.machine.proofs.InTables.{count, in-columns, in-weights, check-is, weights-length, same-length, degree-is, column-part, weight-part, place-is}
 use Rattle.codeline.specs.declared.answers.Numbers.{Numbers}
 use Rattle.codeline.specs.Answers.{numbersIn}
 use Rattle.codeline.specs.inner.Coding.{codeOf}

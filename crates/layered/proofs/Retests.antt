@@ -1,14 +1,11 @@
 -- Deciding the columns of an updated check again gives the decisions after it, and the test from a check on is the whole test.
 use mathlib.Core.Path.{_≡_, refl, sym, ap, ap₂, _∙_}
-use mathlib.Core.Bool.{Bool, false}
-use mathlib.Core.Logic.{_≢_}
 use mathlib.Core.List.{List}
 use Prim.Native.Nat.{ℕ, _+_, _-_, _*_, _≤_, _<_}
 use native.Mathlib.Nat.{add-sub-cancel-left}
 use native.Mathlib.Decide.{ℕ-discrete, decLt}
 use native.Mathlib.Numerals.{add-one}
 use native.Mathlib.Omega.{arith}
-use lib.Dec.{eqb}
 use lib.ListN.{length, getD, set, drop, length-set}
 use lib.Seq.{ext-getD, getD-set-same, getD-set-other, getD-take, getD-drop}
 use borrow.Author.Tests.{eq-eqb, ne-eqb}
@@ -17,7 +14,7 @@ use Rattle.trellis.specs.Check.{decide}
 use Rattle.trellis.specs.Rules.{powerOf, sizeOf}
 use Rattle.trellis.proofs.Recurrence.{size-64}
 use Rattle.machine.specs.CodeLine.{Code, check, edgeAt, columnOf}
-use Rattle.machine.specs.Machine.{symbols, settled}
+use Rattle.machine.specs.Machine.{symbols}
 use Rattle.machine.specs.inner.Tables.{edgesBefore, tableAt}
 use Rattle.machine.proofs.Ranges.{column-room}
 use Rattle.machine.proofs.InTables.{in-columns, column-in, degree-is}

@@ -7,15 +7,15 @@ use Prim.Native.Nat.{ℕ, zero, suc, _+_, _*_, _≤_, _<_, min}
 use native.Mathlib.Omega.{arith}
 use lib.Dec.{eqb, leb}
 use borrow.Author.Tests.{eq-eqb, ne-eqb, lt-leb, le-leb}
-use lib.ListN.{length, getD, take, drop}
-use Rattle.trellis.specs.Lists.{pick, allTo, part}
+use lib.ListN.{length, take, drop}
+use Rattle.trellis.specs.Lists.{pick, allTo}
 use Rattle.trellis.specs.Rules.{sizeOf}
-use Rattle.machine.specs.CodeLine.{Read, good, bad, Code, numbersOf, parse, size, check, edgeAt}
-use Rattle.machine.specs.Machine.{symbols, margins, settled, place, used}
+use Rattle.machine.specs.CodeLine.{Read, good, bad, Code, numbersOf, parse, size}
+use Rattle.machine.specs.Machine.{symbols, margins, settled}
 use Rattle.machine.specs.Lent.{lent, iterationLent}
 use Rattle.machine.specs.Decoding.{Buffers, lending, holding, admittedUnder, admitted, Room}
 use Rattle.machine.specs.Moments.{Stage as Ends, moment, Moves, loadingUnder, loading, costsOk, storeOk, resumableUnder, resumable, iteratingUnder, iterating, further}
-use Rattle.machine.specs.inner.Tables.{edgesBefore, bytesBefore, tableAt}
+use Rattle.machine.specs.inner.Tables.{edgesBefore}
 use Rattle.machine.specs.inner.InRange.{Below}
 use Rattle.machine.proofs.Ranges.{frame-ranged}
 use Rattle.machine.proofs.InTables.{degree-is, place-is}

@@ -3,8 +3,6 @@ use crate::update;
 use codeline::answers::Numbers;
 ghost use mathlib.Core.Path.{_≡_};
 ghost use Prim.Native.Nat.{_+_};
-ghost use lib.Dec.{eqb};
-ghost use Rattle.trellis.specs.Lists.{pick};
 ghost use Rattle.machine.specs.Lent.{lent, updateLent};
 ghost use Rattle.codeline.specs.inner.Coding.{codeOf};
 ghost use Rattle.layered.specs.inner.Places.{Stands, Around, PlaceRoom};

@@ -1,11 +1,11 @@
 -- Room in the four buffers, what filling them keeps, and when decoding refuses.
 use mathlib.Core.Path.{_≡_, refl, sym, ap, _∙_}
 use mathlib.Core.Bool.{Bool, true, false}
-use mathlib.Core.List.{List, _++_}
-use Prim.Native.Nat.{ℕ, _*_, _≤_, _<_}
+use mathlib.Core.List.{List}
+use Prim.Native.Nat.{ℕ, _*_}
 use native.Mathlib.Omega.{arith}
 use lib.Dec.{eqb, ltb}
-use lib.ListN.{length, drop, length-map, length-append, length-drop}
+use lib.ListN.{length, drop, length-map, length-append}
 use lib.Seq.{drop-at}
 use borrow.Author.Tests.{ltb-false, le-ltb, eqb-true}
 use Rattle.trellis.specs.Lists.{upTo, pick}

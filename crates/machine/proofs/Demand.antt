@@ -3,21 +3,18 @@
 use mathlib.Core.Path.{_≡_, refl, sym, ap, _∙_}
 use mathlib.Core.Bool.{false}
 use mathlib.Core.Logic.{_↔_}
-use mathlib.Core.List.{List, _++_}
-use Prim.Native.Nat.{ℕ, _+_, _*_, _-_, _<_}
+use mathlib.Core.List.{List}
+use Prim.Native.Nat.{ℕ, _-_, _<_}
 use native.Mathlib.Omega.{arith}
-use lib.Dec.{eqb}
 use lib.ListN.{length, take, drop}
 use lib.Seq.{take-at}
-use borrow.Author.Tests.{le-ltb, ne-eqb}
-use Rattle.trellis.specs.Lists.{pick}
+use borrow.Author.Tests.{ne-eqb}
 use Rattle.trellis.specs.Check.{shift, sent}
 use Rattle.trellis.specs.Record.{recordOf, recordLength}
 use Rattle.trellis.specs.Reply.{Reply}
-use Rattle.machine.specs.CodeLine.{good, Code, size, rule, check}
+use Rattle.machine.specs.CodeLine.{Code, size, rule, check}
 use Rattle.machine.specs.Machine.{Last, none, made, State, lastOf, columnsIn, Status, found, notFound, run, records, used, recordIn}
-use Rattle.machine.specs.Decoding.{Buffers, storeOf, admitted, decodingUnder, decoding, Decodes, Accepts, Room, lastUpdate, outcome, LeastSent, Kept, Agree, Demand-3}
-use Rattle.machine.specs.inner.Faults.{roomFault}
+use Rattle.machine.specs.Decoding.{Buffers, storeOf, Decodes, Accepts, Room, lastUpdate, outcome, LeastSent, Kept, Agree, Demand-3}
 use Rattle.trellis.proofs.Records.{records-equal}
 use Rattle.trellis.proofs.Loops.{blocks-same, blocks-ext}
 use Rattle.machine.specs.inner.Accepted.{GoodCode}

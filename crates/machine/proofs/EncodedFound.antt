@@ -1,21 +1,20 @@
 -- The two calls together: what is encoded, and arrives undisturbed, is found at t = 0.
 use mathlib.Core.Path.{_≡_, refl, sym, ap, _∙_}
 use mathlib.Core.Bool.{true}
-use mathlib.Core.Logic.{_≢_}
 use mathlib.Core.List.{List, [], _∷_, _++_}
 use Prim.Native.Nat.{ℕ, zero, suc, _+_, _*_, _<_, _≤_}
 use native.Mathlib.Nat.{not-suc-le-zero, suc-mul, mul-le-mul-right}
 use native.Mathlib.Omega.{arith}
-use lib.Dec.{T, eqb, lt→ltb}
+use lib.Dec.{lt→ltb}
 use lib.ListN.{length, getD, take, drop, length-map, length-take, length-drop}
 use lib.Seq.{ext-getD}
-use borrow.Author.Tests.{eq-eqb, le-ltb, lt-ltb, eqb-true}
-use Rattle.trellis.specs.Lists.{pick, upTo, allTo}
+use borrow.Author.Tests.{eq-eqb}
+use Rattle.trellis.specs.Lists.{upTo, allTo}
 use Rattle.trellis.specs.Check.{firstZero}
 use Rattle.trellis.proofs.Tests.{all-of, of-true, to-true}
 use Rattle.trellis.proofs.Places.{length-count}
-use Rattle.machine.specs.CodeLine.{good, Code, size, check, columnOf, zeroIn, parse, frameFault}
-use Rattle.machine.specs.Machine.{symbols, satisfied, settled, start, found, notFound, result, go, run, used}
+use Rattle.machine.specs.CodeLine.{good, Code, size, columnOf, zeroIn, parse, frameFault}
+use Rattle.machine.specs.Machine.{symbols, settled, start, found, result, go, run}
 use Rattle.machine.specs.Decoding.{Buffers, Room, decoding}
 use Rattle.machine.specs.Encoding.{encodeFault, encoding, Codeword, Undisturbed, FoundAtOnce}
 use Rattle.machine.proofs.Lists.{at-upTo}

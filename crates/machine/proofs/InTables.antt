@@ -2,18 +2,17 @@
 -- a code's own say this code.
 use mathlib.Core.Path.{_≡_, refl, sym, ap, ap₂, _∙_}
 use mathlib.Core.List.{List, [], map}
-use Prim.Native.Nat.{ℕ, zero, suc, _+_, _*_, _≤_, _<_}
-use native.Mathlib.Numerals.{add-one}
+use Prim.Native.Nat.{ℕ, zero, suc, _+_, _≤_, _<_}
 use native.Mathlib.Omega.{arith}
 use lib.ListN.{length, take, getD, length-map}
 use lib.Seq.{getD-take, getD-drop, ext-getD}
 use Rattle.trellis.specs.Lists.{upTo, part}
-use Rattle.trellis.specs.Field.{xor, product}
+use Rattle.trellis.specs.Field.{product}
 use Rattle.trellis.specs.Record.{recordLength}
 use Rattle.trellis.specs.Rules.{ruleFor}
 use Rattle.trellis.proofs.Places.{length-count}
 use Rattle.machine.specs.CodeLine.{Edge, Code, Numbers, rule, check, edgeAt}
-use Rattle.machine.specs.Machine.{paritySum, place}
+use Rattle.machine.specs.Machine.{place}
 use Rattle.machine.specs.Lent.{weightsOf}
 use Rattle.machine.specs.inner.Tables.{tablesOf, edgesOf, edgesBefore, bytesBefore, tableAt, checksFrom, codeIn, term, Tabled}
 use Rattle.machine.proofs.Lists.{at-upTo}

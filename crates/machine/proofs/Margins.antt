@@ -5,7 +5,7 @@ use Prim.Native.Nat.{ℕ, zero, suc, _+_, _*_, _≤_, _<_}
 use native.Mathlib.Omega.{arith}
 use lib.Pow.{pow-mono}
 use lib.ListN.{length, getD, take, drop, length-map, length-take, length-drop, List·getD-append}
-use lib.Seq.{getD-take, getD-drop, take-all}
+use lib.Seq.{getD-take, getD-drop}
 use Rattle.trellis.specs.Lists.{upTo}
 use Rattle.trellis.specs.Check.{firstZero, marginOf}
 use Rattle.trellis.proofs.Places.{length-count}

@@ -9,9 +9,9 @@ use lib.ListN.{length, getD, length-replicate, getD-replicate}
 use borrow.Author.Tests.{leb-true, leb-false}
 use Rattle.trellis.specs.Lists.{pick}
 use Rattle.machine.specs.CodeLine.{good, Code, parse, frameFault}
-use Rattle.machine.specs.Machine.{none, State, lastOf, start, iteration, settled, Status, found, notFound, Result, result, go, run, held}
-use Rattle.machine.specs.Decoding.{Buffers, Room, Accepts, holding, admitted, storeOf, decodingUnder, decoding}
-use Rattle.machine.specs.Moments.{Moment, moment, loadingUnder, loading, stateAfter, stateFor, iterating, onward, Load-then-steps}
+use Rattle.machine.specs.Machine.{none, State, lastOf, start, iteration, settled, Status, found, notFound, Result, result, go, run}
+use Rattle.machine.specs.Decoding.{Buffers, Room, holding, storeOf}
+use Rattle.machine.specs.Moments.{Moment, moment, loadingUnder, loading, stateFor, onward, Load-then-steps}
 use Rattle.machine.specs.inner.Accepted.{GoodCode}
 use Rattle.machine.proofs.Lines.{parse-good}
 use Rattle.machine.proofs.Ranges.{frame-ranged}

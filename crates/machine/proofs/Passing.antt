@@ -1,22 +1,21 @@
 -- One iteration from any costs in range and any records of accepted form, not only those of a run: what each update needs is there, and what it
 -- leaves is in range and of accepted form.
-use mathlib.Core.Path.{_≡_, refl, sym, ap, ap₂, _∙_}
-use mathlib.Core.Bool.{Bool, true, false}
+use mathlib.Core.Path.{_≡_, refl, ap, _∙_}
+use mathlib.Core.Bool.{Bool, false}
 use mathlib.Core.Logic.{_≢_}
-use mathlib.Core.List.{List, _++_}
-use Prim.Native.Nat.{ℕ, zero, suc, _+_, _*_, _-_, _≤_, _<_}
+use mathlib.Core.List.{List}
+use Prim.Native.Nat.{ℕ, zero, suc, _+_, _-_, _≤_, _<_}
 use native.Mathlib.Nat.{not-suc-le-zero}
 use native.Mathlib.Decide.{ℕ-discrete, decLt}
 use native.Mathlib.Omega.{arith}
-use lib.ListN.{length, take, drop, length-append, length-take, length-drop, take-append-drop}
-use lib.Seq.{take-at, drop-at, drop-append-add, drop-drop, length-take-le}
-use Rattle.trellis.specs.Lists.{pick, upto, part, patch}
+use lib.ListN.{length}
+use Rattle.trellis.specs.Lists.{upto, patch}
 use Rattle.trellis.specs.Check.{Column}
-use Rattle.trellis.specs.Record.{recordLength, recordOf, recordOk}
+use Rattle.trellis.specs.Record.{recordLength, recordOf}
 use Rattle.trellis.proofs.Form.{record-length, record-ok}
 use Rattle.machine.specs.CodeLine.{Edge, Code, size, rule, check}
-use Rattle.machine.specs.Machine.{made, message, arriving, spread, place, used}
-use Rattle.machine.specs.Lent.{Lent, weightsOf, messageLent, arrivingLent, costsLent, recordLent, updateLent, iterationLent}
+use Rattle.machine.specs.Machine.{made, message, spread, place, used}
+use Rattle.machine.specs.Lent.{Lent, arrivingLent, costsLent, recordLent, updateLent, iterationLent}
 use Rattle.machine.specs.inner.Accepted.{GoodCheck, GoodCode}
 use Rattle.machine.specs.inner.InRange.{pieceIn, Formed, Passable, Ranged}
 use Rattle.machine.proofs.Updates.{Made, made-proper, arriving-made}

@@ -25,7 +25,7 @@ use Rattle.machine.specs.Decoding.{outcome}
 use Rattle.machine.proofs.Lines.{parse-good}
 use Rattle.machine.proofs.Ranges.{frame-fits}
 use Rattle.machine.specs.Program.{lastLine, linesAfter, refusedLine, readCode, afterCode, linesOutput, outputOf}
-use Rattle.machine.specs.inner.Blocks.{Session, first, later, ended, fresh, longer, fedByte, codeKept, codeOut, lineFinished, lineFinishedOut, fed, fedOut, closeOut, fedAll, fedAllOut, allBlocks}
+use Rattle.machine.specs.inner.Blocks.{Session, first, later, ended, fresh, fedByte, codeKept, codeOut, lineFinished, lineFinishedOut, fed, fedOut, closeOut, fedAll, fedAllOut, allBlocks}
 
 take-more : (n : ℕ) (l m : List ℕ) → take n (take n l ++ m) ≡ take n (l ++ m)
 take-more zero l m = refl

@@ -1,31 +1,29 @@
 -- Where the buffers hold a state of a run, an iteration's own tests pass, and it leaves them with the machine's next state.
 use mathlib.Core.Path.{_≡_, refl, sym, ap, _∙_}
 use mathlib.Core.Bool.{Bool, true, false, _||_}
-use mathlib.Core.Logic.{⊎-elim}
-use mathlib.Core.List.{List, [], _∷_, _++_, List·Memᴰ, List·Memᴰ·not-nil, List·Memᴰ·cases-cons}
-use Prim.Native.Nat.{ℕ, zero, suc, _+_, _*_, _≤_, _<_}
-use native.Mathlib.Nat.{not-suc-le-zero}
+use mathlib.Core.List.{List, _++_}
+use Prim.Native.Nat.{ℕ, _+_, _*_, _≤_, _<_}
 use native.Mathlib.Omega.{arith}
-use lib.Dec.{T, eqb, ltb, leb, lt→ltb, le→leb}
-use lib.ListN.{length, getD, drop, take, length-take, length-drop, List·getD-append}
+use lib.Dec.{eqb, ltb, leb, lt→ltb, le→leb}
+use lib.ListN.{length, getD, drop, length-take, length-drop, List·getD-append}
 use lib.Seq.{take-at}
-use Rattle.trellis.specs.Lists.{pick, part, allTo}
+use Rattle.trellis.specs.Lists.{part, allTo}
 use Rattle.trellis.specs.Check.{firstZero}
 use Rattle.trellis.specs.Record.{recordLength, recordOf, recordOk}
 use Rattle.trellis.proofs.Tests.{both, all-of, of-true, to-true}
 use Rattle.trellis.proofs.Form.{record-ok}
 use Rattle.trellis.proofs.Instances.{first-zero}
-use Rattle.machine.specs.CodeLine.{good, bad, Edge, Code, size, rule, check, columnOf, zeroIn, parse, frameFault}
-use Rattle.machine.specs.Machine.{Last, none, made, State, lastOf, iteration, settled, place, held, pieceOf}
-use Rattle.machine.specs.Lent.{Lent, iterationLent}
+use Rattle.machine.specs.CodeLine.{good, Code, size, rule, check, columnOf, zeroIn, parse, frameFault}
+use Rattle.machine.specs.Machine.{Last, none, made, State, lastOf, iteration, place, held, pieceOf}
+use Rattle.machine.specs.Lent.{iterationLent}
 use Rattle.machine.specs.inner.Accepted.{GoodCode}
 use Rattle.machine.proofs.Updates.{Fine, IsMade, made-proper}
 use Rattle.machine.specs.inner.InRange.{Ranged}
 use Rattle.machine.proofs.Ranges.{part-front, column-room, iteration-ranged}
-use Rattle.machine.proofs.Lent.{len, lentOf, When, length-held, held-part, iteration-stands, ReadyState, iteration-ready}
+use Rattle.machine.proofs.Lent.{lentOf, When, length-held, held-part, iteration-stands, ReadyState, iteration-ready}
 use Rattle.machine.specs.Decoding.{Buffers, holding, admitted, Room}
 use Rattle.machine.proofs.Buffers.{holding-again, holding-room, admits}
-use Rattle.machine.specs.Moments.{Moment, moment, costsOk, storeOk, resumable, further, stateAfter, gone, iteratingUnder, iterating}
+use Rattle.machine.specs.Moments.{moment, costsOk, storeOk, resumable, further, stateAfter, gone, iteratingUnder, iterating}
 
 -- costs in range pass the test, whatever follows them
 pub costs-pass : (C : Code) (P rest : List ℕ) → Ranged C P → costsOk C (P ++ rest) ≡ true

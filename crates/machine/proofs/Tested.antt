@@ -1,7 +1,7 @@
 -- What an iteration's own tests say: after them it may go on.
-use mathlib.Core.Path.{_≡_, refl, sym, ap, _∙_}
+use mathlib.Core.Path.{_≡_, sym, ap, _∙_}
 use mathlib.Core.Bool.{Bool, true, false, _&&_, _||_}
-use mathlib.Core.List.{List, _++_}
+use mathlib.Core.List.{List}
 use Prim.Native.Nat.{ℕ, _+_, _*_, _≤_, _<_}
 use native.Mathlib.Decide.{decLt}
 use native.Mathlib.Omega.{arith}
@@ -13,7 +13,6 @@ use Rattle.trellis.specs.Record.{recordLength, recordOk}
 use Rattle.trellis.proofs.Tests.{fst-T, snd-T, all-at, of-true, to-true}
 use Rattle.machine.specs.CodeLine.{Code, size, rule, check, columnOf, zeroIn}
 use Rattle.machine.specs.Machine.{place, used}
-use Rattle.machine.specs.Lent.{Lent}
 use Rattle.machine.specs.inner.Accepted.{GoodCode}
 use Rattle.machine.specs.inner.InRange.{Ranged, Formed, Passable}
 use Rattle.machine.proofs.Ranges.{part-front, column-room, zeros-in}

@@ -6,8 +6,6 @@ use native.Mathlib.Nat.{zero-add, suc-add}
 use native.Mathlib.Omega.{arith}
 use lib.Dec.{T, eqb, ltb, ltb→lt}
 use lib.Pow.{pow-mono}
-use borrow.Author.Tests.{eq-eqb, ne-eqb}
-use lib.Bits.{bitXor}
 use Rattle.trellis.specs.Lists.{allTo}
 use Rattle.trellis.specs.Field.{xor, doubled, productIn, product}
 use Rattle.trellis.proofs.Tests.{all-at, each-field}

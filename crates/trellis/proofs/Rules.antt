@@ -2,11 +2,9 @@
 -- 01's rule.
 use mathlib.Core.Path.{_≡_, refl}
 use mathlib.Core.Bool.{Bool, true, false, cond, _&&_}
-use Prim.Native.Nat.{ℕ, zero, suc, _+_, _*_, _/_, _%_, _^_, _≤_, _<_}
-use native.Mathlib.Decide.{ℕ-discrete}
+use Prim.Native.Nat.{ℕ, zero, suc, _+_, _/_, _≤_}
 use native.Mathlib.Omega.{arith}
-use lib.Dec.{T, leb, ltb, eqb, leb→le}
-use Rattle.trellis.specs.Check.{Rule}
+use lib.Dec.{leb, ltb, leb→le}
 use Rattle.trellis.specs.Rules.{ruleOf, ruleFor, joinOf, powerOf, mostOf, greatestOf, firstOk}
 use Rattle.trellis.proofs.Tests.{of-true}
 use Rattle.trellis.proofs.Sent.{Joins}

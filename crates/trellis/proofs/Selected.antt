@@ -1,30 +1,30 @@
 -- Selections of entries and choices: each selection in different columns is a choice of no less than the sent cost, and a cheapest choice is a
 -- selection of the k + 1 cheapest entries of each row. So the sent costs from these entries are the sent costs.
 use mathlib.Core.Path.{_≡_, refl, sym, ap, ap₂, _∙_, subst}
-use mathlib.Core.Bool.{Bool, true, false, cond, not, _&&_, _||_}
+use mathlib.Core.Bool.{Bool, true, false, not, _&&_}
 use mathlib.Core.Logic.{_≢_, ⊎-elim}
 use mathlib.Core.List.{List, [], _∷_, map, List·Memᴰ, List·Memᴰ·head, List·Memᴰ·tail, List·Memᴰ·not-nil, List·Memᴰ·cases-cons, List·Memᴰ·eq-of-singleton, Memᴰ·map, Memᴰ·of-map}
-use Prim.Native.Nat.{ℕ, zero, suc, _+_, _*_, _-_, _≤_, _<_, min}
-use native.Mathlib.Nat.{not-suc-le-zero, le-refl, mul-comm}
+use Prim.Native.Nat.{ℕ, zero, suc, _*_, _-_, _≤_, _<_, min}
+use native.Mathlib.Nat.{le-refl}
 use native.Mathlib.Decide.{ℕ-discrete}
 use native.Mathlib.Omega.{arith}
 use lib.Dec.{T, ltb, eqb, ltb→lt, eqb→eq, eqb-refl}
-use lib.ListN.{length, getD, set, take, length-append, length-map, length-take}
+use lib.ListN.{length, getD, set, length-append, length-map, length-take}
 use lib.Seq.{getD-set-other}
 use Rattle.trellis.specs.Lists.{each, keep, countFrom, upTo, others, put}
 use Rattle.trellis.specs.Field.{xor}
-use Rattle.trellis.specs.Check.{column, Rule, Column, Fits, none, more, Allowed, costOf, costAt, decision, decisions, decided, shift, sentAt, deviations, weightedSum}
+use Rattle.trellis.specs.Check.{column, Rule, Column, Fits, none, more, Allowed, costOf, costAt, decision, decisions, decided, sentAt, deviations, weightedSum}
 use Rattle.trellis.specs.Rows.{difference, symbolAt, entry, before, inOrder, cheapest, Entry, entryOf, kept, selections, among, apart, rowsOf, joinedCost, sentFrom}
 use Rattle.trellis.specs.Kept.{Kept-count}
 use Rattle.trellis.proofs.Lists.{in-upTo, of-upTo, in-count, of-count, in-each, of-each, in-keep, of-keep, smallest-in, smallest-le}
 use Rattle.trellis.proofs.Places.{length-count}
 use Rattle.trellis.proofs.Xor.{xor-assoc, xor-zero, xor-self, xor-right}
-use Rattle.trellis.proofs.Total.{fits-length, fits-below, fits-set, at-put, others-put}
+use Rattle.trellis.proofs.Total.{fits-below, fits-set, at-put, others-put}
 use Rattle.trellis.proofs.Sent.{Proper, deviates-small, goal, fits-decisions, decisions-cost, decisions-few, at-decisions, cost-others, put-in, sent-below, sent-is}
 use Rattle.trellis.proofs.Tests.{both, fst-T, snd-T, or-left, or-right, or-cases, all-or-one}
 use Rattle.trellis.proofs.Ranks.{placed}
 use Rattle.trellis.proofs.InOrder.{of-take, of-order, length-order, in-first}
-use Rattle.trellis.proofs.Kept.{rank, KeepsColumn, fine, improve, weightOf, difference-small, symbol-at, symbol-own, cost-set, few-set, sum-set, x-small, w₀, f₀, at₀, else₀, few₀, cost₀, sum₀, row-some}
+use Rattle.trellis.proofs.Kept.{rank, KeepsColumn, fine, improve, weightOf, difference-small, symbol-at, symbol-own, cost-set, few-set, sum-set, w₀, f₀, at₀, else₀, few₀, cost₀, sum₀, row-some}
 
 length-rows : (f : ℕ → List Entry) (w : ℕ) (l : List ℕ) → ((x : ℕ) → length (f x) ≡ w) → length (each f l) ≡ w * length l
 length-rows f w [] g = omega arith

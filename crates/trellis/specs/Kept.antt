@@ -1,7 +1,7 @@
 -- Document 02, §12, as claims: the k + 1 cheapest entries of each row give the sent costs of every accepted check, and k entries do not.
 use mathlib.Core.Path.{_≡_}
 use mathlib.Core.List.{List, [], _∷_}
-use Prim.Native.Nat.{ℕ, suc, _+_, _*_, _-_, _<_, min}
+use Prim.Native.Nat.{ℕ, suc, _*_, _-_, _<_, min}
 use lib.ListN.{length, getD}
 use Rattle.trellis.specs.Field.{xor}
 use Rattle.trellis.specs.Check.{Rule, Column, sent, shift}

@@ -1,28 +1,26 @@
 -- Every list of writes from idle: the numbers of refusals, then what each write keeps.
-use mathlib.Core.Path.{_≡_, refl, sym, ap, _∙_}
+use mathlib.Core.Path.{_≡_, refl, sym, _∙_}
 use mathlib.Core.Bool.{Bool, true, false, not, _&&_, _||_}
-use mathlib.Core.Logic.{_≢_, _⊎_, inl, inr, ⊎-elim}
+use mathlib.Core.Logic.{_≢_, _⊎_, inl, inr}
 use mathlib.Core.List.{List, [], _∷_}
-use Prim.Native.Nat.{ℕ, zero, suc, _+_, _*_, _-_, _^_, _≤_, _<_}
+use Prim.Native.Nat.{ℕ, zero, suc, _+_, _*_, _-_, _≤_, _<_}
 use native.Mathlib.Decide.{ℕ-discrete}
 use native.Mathlib.Omega.{arith}
-use lib.Bits.{bitOr, or-lt}
+use lib.Bits.{or-lt}
 use lib.Dec.{eqb, ltb, leb}
 use lib.ListN.{length, getD}
 use borrow.Author.Tests.{eqb-true, ne-eqb, leb-false}
 use Rattle.trellis.specs.Lists.{pick, allTo}
 use Rattle.trellis.specs.Refusals.{Test, when, unless, refusedBy}
-use Rattle.trellis.specs.Rules.{sizeOf, firstOk}
+use Rattle.trellis.specs.Rules.{sizeOf}
 use Rattle.machine.specs.CodeLine.{Read, good, bad, then, Edge, Code, edge, wordAt, edgeTests, readEdge, edges, checkTests, checkAt, checks, headTests, parse, size, zeroIn, frameFault}
 use Rattle.machine.specs.Machine.{settled, used}
-use Rattle.machine.specs.Lent.{Lent}
-use Rattle.machine.proofs.Lines.{then-good}
-use Rattle.machine.specs.Decoding.{Buffers, holding, admittedUnder, admitted}
+use Rattle.machine.specs.Decoding.{Buffers, admittedUnder, admitted}
 use Rattle.machine.specs.inner.Faults.{roomFault}
 use Rattle.machine.proofs.Faults.{admitted-by}
 use Rattle.machine.specs.Moments.{loadingUnder, loading, costsOk, storeOk, resumableUnder, resumable, further, stateAfter, iteratingUnder, iterating}
 use Rattle.window.specs.Window.{Registers, idle, read, Window, bitFor, setting, entering, taking, load, iterate, masked, cleared, second, command, write}
-use Rattle.window.specs.Writes.{Bytes, Lending, lentTo, step, since, RegistersShow, acts, Changes, Every-list}
+use Rattle.window.specs.Writes.{Bytes, Lending, step, since, RegistersShow, Changes, Every-list}
 use Rattle.machine.proofs.Early.{limit-read}
 
 -- the number of a refusal is one of the list's

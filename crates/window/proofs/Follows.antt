@@ -1,29 +1,27 @@
 -- A load that is not refused, and I commands 2: the outcome, t and buffers of one decode call.
 use mathlib.Core.Path.{_≡_, refl, sym, ap, _∙_}
-use mathlib.Core.Bool.{Bool, true, false, not, _&&_}
+use mathlib.Core.Bool.{Bool, true, false, _&&_}
 use mathlib.Core.Logic.{_⊎_, inl, inr, ⊎-elim}
-use mathlib.Core.List.{List, [], _∷_, _++_}
-use Prim.Native.Nat.{ℕ, zero, suc, _+_, _*_, _^_, _≤_, _<_}
+use mathlib.Core.List.{List, [], _∷_}
+use Prim.Native.Nat.{ℕ, zero, suc, _+_, _≤_}
 use native.Mathlib.Omega.{arith}
-use lib.Dec.{eqb, ltb, leb}
-use lib.ListN.{length, getD, drop, length-replicate, getD-replicate}
+use lib.Dec.{eqb, leb}
+use lib.ListN.{getD}
 use borrow.Author.Tests.{eqb-true, ne-eqb, eq-eqb, leb-true, leb-false}
 use Rattle.trellis.specs.Lists.{pick}
-use Rattle.trellis.specs.Reply.{Reply}
-use Rattle.machine.specs.CodeLine.{Read, good, bad, Code, parse, size, frameFault}
-use Rattle.machine.specs.Machine.{none, State, lastOf, start, iteration, settled, Status, found, notFound, Result, result, go, run, records, used, held}
+use Rattle.machine.specs.CodeLine.{good, Code, parse, frameFault}
+use Rattle.machine.specs.Machine.{State, start, iteration, settled, Status, found, notFound, Result, result, go, run}
 use Rattle.machine.specs.Decoding.{outcome}
 use Rattle.machine.specs.inner.Accepted.{GoodCode}
 use Rattle.machine.proofs.Lines.{parse-good}
 use Rattle.machine.proofs.Early.{limit-read}
-use Rattle.machine.proofs.Updates.{GoodUpdates}
 use Rattle.machine.proofs.Ranges.{frame-ranged}
-use Rattle.machine.proofs.Lent.{held-none, held-end, ReadyState, iteration-t, go-stands}
-use Rattle.machine.specs.Decoding.{Buffers, holding, admitted, decodingUnder, decoding, storeOf, Room}
-use Rattle.machine.proofs.Buffers.{Admits, admits, admits-of, decoding-good}
+use Rattle.machine.proofs.Lent.{iteration-t}
+use Rattle.machine.specs.Decoding.{Buffers, admitted, Room}
+use Rattle.machine.proofs.Buffers.{admits, admits-of, decoding-good}
 use Rattle.machine.specs.Moments.{stateFor, loadingUnder, loading, stateAfter, iterating}
 use Rattle.window.specs.Window.{Registers, Window, entering, taking, load, iterate, masked, cleared, second, command, write}
-use Rattle.window.specs.Writes.{Write, writes, commands, loadCommand, EndsAs, Bytes, Load-and-iterate}
+use Rattle.window.specs.Writes.{Write, writes, commands, Bytes, Load-and-iterate}
 use Rattle.machine.proofs.Onward.{go-open, go-found, go-missed, start-ready, start-at, end-at}
 use Rattle.machine.proofs.Resume.{at, SoundState, iteration-sound, iterating-at}
 

@@ -2,7 +2,7 @@
 -- Rests are never added, only taken from one another, and a least cost that is sent is at most 255, so 255 less the best rest is that
 -- cost. A table has, for each weighted difference from the decisions, the best rest over a part of the columns.
 use mathlib.Core.Bool.{Bool}
-use mathlib.Core.List.{List, [], map, foldr}
+use mathlib.Core.List.{List, map, foldr}
 use Prim.Native.Nat.{ℕ, zero, suc, _-_, min, max}
 use Rattle.trellis.specs.Lists.{keep, pick}
 use Rattle.trellis.specs.Field.{xor}

@@ -1,6 +1,4 @@
 -- Each return is one case of the definition.
-use mathlib.Core.Path.{sym, _∙_}
-use mathlib.Core.Bool.{cond}
 use native.Mathlib.Omega.{arith}
 use borrow.Author.Tests.{lt-ltb, le-ltb}
 use Rattle.rules.proofs.most.Statement.{statement}

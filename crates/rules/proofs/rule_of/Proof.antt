@@ -1,6 +1,5 @@
 -- The fields one by one.
 use borrow.Author.Needs.{needs}
-use Rattle.rules.specs.declared.Rule.{Rule}
 use Rattle.rules.proofs.rule_of.Statement.{statement}
 use Rattle.rules.proofs.rule_of.Tie as tie
 

@@ -1,7 +1,6 @@
 -- The definition's two cases.
 use borrow.Author.Needs.{needs}
 use borrow.Author.Tests.{lt-ltb, le-ltb}
-use native.Mathlib.Omega.{arith}
 use Rattle.trellis.specs.inner.Margins.{marginAt}
 use Rattle.decision.proofs.words.margin_at.Statement.{statement}
 use Rattle.decision.proofs.words.margin_at.Tie as tie

@@ -1,11 +1,10 @@
 -- Each refusal by its number; after them the run starts on the copied frame, and its equations give all five of the promise's.
-use mathlib.Core.Path.{refl, _∙_, sym}
+use mathlib.Core.Path.{_∙_, sym}
 use native.Mathlib.Omega.{arith}
 use borrow.Author.Needs.{needs}
 use lib.ListN.{length, take, length-take}
 use lib.Seq.{length-take-le}
 use Rattle.machine.specs.Machine.{symbols, margins}
-use Rattle.machine.specs.Decoding.{lending}
 use Rattle.layered.proofs.Columns.{front-room}
 use Rattle.slices.proofs.Copies.{copied-is}
 use Rattle.layered.proofs.Decoded.{fits, refused-leaves, copied-room, copied-leaves}

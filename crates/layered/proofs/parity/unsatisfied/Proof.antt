@@ -4,7 +4,6 @@ use mathlib.Core.Bool.{true}
 use Prim.Native.Nat.{ℕ, _-_, _≤_, _<_}
 use native.Mathlib.Omega.{arith}
 use borrow.Author.Needs.{needs}
-use lib.ListN.{length}
 use Rattle.machine.specs.CodeLine.{power, check}
 use Rattle.machine.specs.Machine.{paritySum}
 use Rattle.machine.specs.inner.Tables.{edgesBefore}

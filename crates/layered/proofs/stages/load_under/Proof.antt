@@ -1,5 +1,5 @@
 -- Each refusal by its number; after them the test on the copied frame gives all five of the promise's equations.
-use mathlib.Core.Path.{refl, sym}
+use mathlib.Core.Path.{sym}
 use native.Mathlib.Omega.{arith}
 use borrow.Author.Needs.{needs}
 use lib.ListN.{length, take, length-take}
