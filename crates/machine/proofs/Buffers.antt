@@ -4,15 +4,16 @@ use mathlib.Core.Bool.{Bool, true, false}
 use mathlib.Core.List.{List}
 use Prim.Native.Nat.{ℕ, _*_}
 use native.Mathlib.Omega.{arith}
-use lib.Dec.{eqb, ltb}
+use lib.Dec.{eqb}
 use lib.ListN.{length, drop, length-map, length-append}
 use lib.Seq.{drop-at}
 use borrow.Author.Tests.{ltb-false, le-ltb, eqb-true}
 use Rattle.trellis.specs.Lists.{upTo, pick}
 use Rattle.trellis.proofs.Places.{length-count}
+use Rattle.trellis.proofs.Refusals.{none-applies}
 use Rattle.machine.specs.CodeLine.{good, Code, size, parse, frameFault, bad}
 use Rattle.machine.specs.Machine.{decisionAt, symbols, margins, used}
-use Rattle.machine.specs.Decoding.{Buffers, holding, admitted, decodingUnder, decoding, Accepts, Room, admittedUnder}
+use Rattle.machine.specs.Decoding.{Buffers, holding, admitted, decodingUnder, decoding, Accepts, Room, roomTests, admittedUnder}
 use Rattle.machine.specs.inner.Faults.{roomFault}
 use Rattle.machine.proofs.Faults.{admitted-by}
 
@@ -36,7 +37,6 @@ pub accepted-call : (code f : List ℕ) (b : Buffers) (C : Code) → Accepts cod
 unfolding decoding
 accepted-call code f b C A M = rw (admits code f b C A M)
 
--- and where none applies there is room
 pub length-symbols : (C : Code) (P : List ℕ) → length (symbols C P) ≡ C .columns
 unfolding symbols
 length-symbols C P = length-map (upTo (C .columns)) (λ c. decisionAt C P c .symbol) ∙ length-count 0 (C .columns)
@@ -45,20 +45,13 @@ pub length-margins : (C : Code) (P : List ℕ) → length (margins C P) ≡ C .c
 unfolding margins
 length-margins C P = length-map (upTo (C .columns)) (λ c. decisionAt C P c .margin) ∙ length-count 0 (C .columns)
 
+-- where none of the buffers' tests applies there is room
 pub room-of : (C : Code) (b : Buffers) → roomFault C b ≡ 0 → Room C b
 unfolding roomFault
 room-of C b h =
-    go (ltb (length (b .symbols)) (C .columns)) refl (ltb (length (b .costs)) (C .columns * size C)) refl (ltb (length (b .store)) (used C)) refl (ltb (length (b .margins)) (C .columns)) refl h
-  where
-    go : (i : Bool) → ltb (length (b .symbols)) (C .columns) ≡ i → (j : Bool) → ltb (length (b .costs)) (C .columns * size C) ≡ j
-        → (k : Bool) → ltb (length (b .store)) (used C) ≡ k → (l : Bool) → ltb (length (b .margins)) (C .columns) ≡ l
-        → _≡_ {A = ℕ} (pick i 2 (pick j 3 (pick k 4 (pick l 19 0)))) 0 → Room C b
-    go true a j c k d l e h = absurd (omega arith)
-    go false a true c k d l e h = absurd (omega arith)
-    go false a false c true d l e h = absurd (omega arith)
-    go false a false c false d true e h = absurd (omega arith)
-    go false a false c false d false e h =
-        record { for-symbols = ltb-false _ _ a; for-costs = ltb-false _ _ c; for-store = ltb-false _ _ d; for-margins = ltb-false _ _ e }
+    let p = none-applies (roomTests (C .columns) (C .columns * size C) (used C) (length (b .symbols)) (length (b .costs)) (length (b .store)) (length (b .margins)))
+    ((λ e. omega arith), ((λ e. omega arith), ((λ e. omega arith), ((λ e. omega arith), tt)))) h in
+    record { for-symbols = ltb-false _ _ (p .0); for-costs = ltb-false _ _ (p .1 .0); for-store = ltb-false _ _ (p .1 .1 .0); for-margins = ltb-false _ _ (p .1 .1 .1 .0) }
 
 -- filled once more, only the last filling shows
 pub holding-again : (C : Code) (P P′ s s′ : List ℕ) (b : Buffers) → length P ≡ C .columns * size C

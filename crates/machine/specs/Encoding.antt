@@ -9,7 +9,7 @@ use lib.Dec.{eqb, ltb, leb}
 use lib.ListN.{length, getD, take, drop}
 use Rattle.trellis.specs.Lists.{pick, allTo}
 use Rattle.trellis.specs.Field.{quotient}
-use Rattle.trellis.specs.Refusals.{when, unless, faultBy}
+use Rattle.trellis.specs.Refusals.{Test, when, unless, faultBy}
 use Rattle.trellis.specs.Reply.{Reply, accepted, refusal, foundIn}
 use Rattle.machine.specs.CodeLine.{Read, good, bad, Edge, Code, power, size, check, edgeAt, columnOf, parse}
 use Rattle.machine.specs.Machine.{margins, paritySum, satisfied}
@@ -58,15 +58,18 @@ abbrev pub symbolsOk : ℕ → List ℕ → Bool
 symbolsOk q w = allTo (λ i. ltb (getD w i 0) q) (length w)
 
 -- the refusals after the code's: "17, the code line lacks this form ..; 18, message length is not N - M or a symbol is not below q, after
--- 17; then 2"; 0 for none (SPEC 8.9)
-unfoldable pub encodeFault : Code → List ℕ → ℕ → ℕ
-encodeFault C u room =
-    faultBy
-    (unless (encodable C) 17
+-- 17; then 2" (SPEC 8.9)
+abbrev pub encodeTests : Code → List ℕ → ℕ → List Test
+encodeTests C u room =
+    unless (encodable C) 17
     ∷ unless (eqb (length u) (messageLength C)) 18
     ∷ unless (symbolsOk (size C) u) 18
     ∷ when (ltb room (C .columns)) 2
-    ∷ [])
+    ∷ []
+
+-- the number, 0 for none
+unfoldable pub encodeFault : Code → List ℕ → ℕ → ℕ
+encodeFault C u room = faultBy (encodeTests C u room)
 
 pub record Wrote : Type 0 where
   pub reply : Reply
