@@ -70,8 +70,8 @@ module _ (f : ℕ) (ws r : List ℕ) where
     pub form : recordOk (ruleFor f) (length ws) r ≡ true
     pub enough : length ws ≤ room
 
-  pub passes : (room : ℕ) → displayFault f ws r room ≡ 0 → DisplayPassed room
-  passes room e =
+  pub display-passed : (room : ℕ) → displayFault f ws r room ≡ 0 → DisplayPassed room
+  display-passed room e =
       let p = passed-both (weightTests f ws) (drop 4 (tests room)) (none-applies (tests room) (numbered room) (sym (fault-is room) ∙ e)) in
       record { weighed = weights-passed f ws (p .0); form = p .1 .0; enough = ltb-false _ _ (p .1 .1 .0) }
 
@@ -91,7 +91,7 @@ module _ (f : ℕ) (ws r : List ℕ) where
       elim (ℕ-discrete (displayFault f ws r (length out)) 0) [
         | yes z ↦
             let u : displayReply f ws r out ≡ accepted (length ws) = by-fault (length out) (λ k. refusal k) (accepted (length ws)) ∙ rw (eq-eqb (displayFault f ws r (length out)) 0 z) in
-            rw u (passes (length out) z .weighed .few)
+            rw u (display-passed (length out) z .weighed .few)
         | no z ↦
             let u : displayReply f ws r out ≡ refusal (displayFault f ws r (length out)) = by-fault (length out) (λ k. refusal k) (accepted (length ws)) ∙ rw (ne-eqb (displayFault f ws r (length out)) 0 z) in
             rw u (omega arith)
@@ -106,7 +106,7 @@ module _ (f : ℕ) (ws r : List ℕ) where
 
     module _ (z : k ≡ 0) where
       pub room : DisplayPassed (length out)
-      room = passes (length out) (sym e ∙ z)
+      room = display-passed (length out) (sym e ∙ z)
 
       pub show-room : (p : ℕ) → p ≡ powerOf f → ShowRoom p ws r (take (length ws) out)
       show-room p i =

@@ -28,7 +28,7 @@ use Rattle.field.proofs.Weighed.{ready-weighed}
 use Rattle.display.proofs.CheckThenExpand.{demand-2-messages}
 use Rattle.display.specs.Answers.{displayFault, displayReply, displayLeaves}
 use Rattle.display.specs.Views.{Displays, Displays-equal, Display-refuses-alike, Two-views}
-use Rattle.display.proofs.Refusals.{passes, stored, by-fault, accepts}
+use Rattle.display.proofs.Refusals.{display-passed, stored, by-fault, accepts}
 
 -- a display that is not refused
 record Shown (f : ℕ) (ws r out : List ℕ) (n : ℕ) (o : List ℕ) : Type 0 where
@@ -45,7 +45,7 @@ shown f ws r out n o D =
           let u : accepted n ≡ accepted (length ws) = D .replies ∙ by-fault f ws r (length out) (λ k. refusal k) (accepted (length ws)) ∙ rw (eq-eqb k 0 z) in
           let w : o ≡ whole = D .out-then ∙ by-fault f ws r (length out) (λ k. out) whole ∙ rw (eq-eqb k 0 z) in
           record {
-            is-stored = stored f ws r (length out) (passes f ws r (length out) z);
+            is-stored = stored f ws r (length out) (display-passed f ws r (length out) z);
             bytes = ap (λ (a : Reply). a .value) u;
             front = ap (take (length ws)) w ∙ take-at (displayed (powerOf f) ws r) (drop (length ws) out) (length ws) (length-displayed (powerOf f) ws r);
             rest = ap (drop (length ws)) w ∙ drop-at (displayed (powerOf f) ws r) (drop (length ws) out) (length ws) (length-displayed (powerOf f) ws r);

@@ -93,15 +93,15 @@ pub none-applies : (l : List Test) → Numbered l → faultBy l ≡ 0 → Passed
 none-applies l n e = to-passed l (by-number l n (λ k. false) true ∙ rw (eq-eqb (faultBy l) 0 e))
 
 -- every line of a table has the number n
-abbrev pub All : ℕ → List Test → Type 0
-All n [] = Unit {0}
-All n (when b k ∷ l) = (k ≡ n) × All n l
-All n (unless b k ∷ l) = (k ≡ n) × All n l
+abbrev pub NumberedBy : ℕ → List Test → Type 0
+NumberedBy n [] = Unit {0}
+NumberedBy n (when b k ∷ l) = (k ≡ n) × NumberedBy n l
+NumberedBy n (unless b k ∷ l) = (k ≡ n) × NumberedBy n l
 
-pub alike : {A : Type 0} (n : ℕ) (l : List Test) → All n l → (bad : ℕ → A) (good : A) → refusedBy l bad good ≡ pick (passes l) good (bad n)
+pub alike : {A : Type 0} (n : ℕ) (l : List Test) → NumberedBy n l → (bad : ℕ → A) (good : A) → refusedBy l bad good ≡ pick (passes l) good (bad n)
 alike {A} n l a bad good = go l a ∙ sym (then-ends (λ b. pick b good (bad n)) l (λ k. false) true)
   where
-    go : (l : List Test) → All n l → refusedBy l bad good ≡ refusedBy l (λ k. bad n) good
+    go : (l : List Test) → NumberedBy n l → refusedBy l bad good ≡ refusedBy l (λ k. bad n) good
     go [] a = refl
     go (when b k ∷ l) a = ap₂ (λ (x y : A). pick b x y) (ap bad (a .0)) (go l (a .1))
     go (unless b k ∷ l) a = ap₂ (λ (x y : A). pick b x y) (go l (a .1)) (ap bad (a .0))
