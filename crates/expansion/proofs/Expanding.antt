@@ -119,9 +119,6 @@ module _ {p k : ℕ} {ws r : List ℕ} (X : ExpandRoom p k ws r) where
       ∙ ap (tab _) s
       ∙ sym (map-tab (expandAt (ruleOf p _+_ k) ws r n) 0 (2 ^ p))
 
-  pub bytes-full : (n : ℕ) → length (columnBytes p k ws r n) ≡ 2 ^ p
-  bytes-full n = ap length (map-tab (expandAt (ruleOf p _+_ k) ws r n) 0 (2 ^ p)) ∙ length-tab _ (2 ^ p)
-
   pub expansion-is : blocks (columnBytes p k ws r) (length ws) ≡ expansion (ruleOf p _+_ k) ws r
   unfolding expansion
   expansion-is = sym (each-blocks (columnBytes p k ws r) 0 (length ws) ∙ blocks-ext _ _ (length ws) (λ n l. ap (columnBytes p k ws r) (zero-add n)))

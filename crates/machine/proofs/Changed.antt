@@ -2,21 +2,19 @@
 use mathlib.Core.Path.{_≡_, refl, sym, ap, _∙_}
 use mathlib.Core.Logic.{_≢_}
 use mathlib.Core.Bool.{Bool}
-use mathlib.Core.List.{List, map}
+use mathlib.Core.List.{List}
 use Prim.Native.Nat.{ℕ, zero, suc, _+_, _*_, _≤_, _<_}
 use native.Mathlib.Nat.{not-suc-le-zero}
 use native.Mathlib.Decide.{ℕ-discrete, decLt}
 use native.Mathlib.Omega.{arith}
-use lib.ListN.{length, getD, set, length-set, length-map}
+use lib.ListN.{length, getD, set, length-set}
 use lib.Seq.{ext-getD, getD-set-same, getD-set-other}
-use Rattle.trellis.specs.Lists.{upTo, upto, tab, patch}
-use Rattle.trellis.specs.Check.{Column, column, decide}
-use Rattle.trellis.proofs.Places.{length-count}
+use Rattle.trellis.specs.Lists.{upto, tab, patch}
+use Rattle.trellis.specs.Check.{Column, column}
 use Rattle.trellis.proofs.Loops.{length-tab, getD-tab}
-use Rattle.machine.specs.CodeLine.{Edge, Code, size, rule, check, edgeAt, columnOf}
-use Rattle.machine.specs.Machine.{made, State, lastOf, decisionAt, symbols, margins, message, arriving, outgoing, spread, update, used}
+use Rattle.machine.specs.CodeLine.{Edge, Code, size, check, edgeAt, columnOf}
+use Rattle.machine.specs.Machine.{outgoing, spread, used}
 use Rattle.machine.specs.Lent.{Lent, updateLent}
-use Rattle.machine.proofs.Lists.{at-upTo}
 use Rattle.machine.specs.inner.Accepted.{GoodCheck, GoodCode}
 use Rattle.machine.proofs.Updates.{size-some}
 use Rattle.machine.specs.inner.InRange.{Ranged}
@@ -95,38 +93,8 @@ module _ (C : Code) (G : GoodCode C) (v : List ℕ → ℕ) (m : ℕ) (h : m < l
       redone-all _ _ (λ c. v (columnOf (size C) P c)) (C .columns) (length (check C m))
       (λ c i n. ap v (sym (ap (λ (Q : List ℕ). columnOf (size C) Q c) e ∙ spread-other C (check C m) (G .each-check m h) cs new P full c n)))
 
--- over the machine's update
-pub redecided : (C : Code) → GoodCode C → (v : List ℕ → ℕ) (m : ℕ) → m < length (C .checks) → (s : State) → length (s .costs) ≡ C .columns * size C
-    → redone (λ c. v (columnOf (size C) (update C m s .costs) c)) (λ k. edgeAt (check C m) k .column) (length (check C m)) (tab (λ c. v (columnOf (size C) (s .costs) c)) (C .columns))
-    ≡ tab (λ c. v (columnOf (size C) (update C m s .costs) c)) (C .columns)
-unfolding update
-redecided C G v m h s full =
-    let cs : List Column = arriving (size C) (check C m) (message (rule C) (C .scale) (lastOf s m)) (s .costs) in
-    respread C G v m h (s .costs) full cs (message (rule C) (C .scale) (made cs)) _ refl
-
--- and over the buffers'
+-- over the buffers' update
 pub redecided-lent : (C : Code) (G : GoodCode C) (v : List ℕ → ℕ) (start : Bool) (l : Lent) (R : Ranged C (l .costs)) → used C ≤ length (l .store) → (m : ℕ) → m < length (C .checks)
     → redone (λ c. v (columnOf (size C) (updateLent C start m l .costs) c)) (λ k. edgeAt (check C m) k .column) (length (check C m)) (tab (λ c. v (columnOf (size C) (l .costs) c)) (C .columns))
     ≡ tab (λ c. v (columnOf (size C) (updateLent C start m l .costs) c)) (C .columns)
 redecided-lent C G v start l R room m h = respread C G v m h (l .costs) (R .full) _ _ _ (update-costs C G start l R room m h)
-
--- the machine's own symbols and margins
-list-of : (f : ℕ → ℕ) (n : ℕ) → map f (upTo n) ≡ tab f n
-list-of f n =
-    ext-getD 0 (map f (upTo n)) (tab f n) (length-map (upTo n) f ∙ length-count 0 n ∙ sym (length-tab f n))
-    (λ i h. let k : i < n = omega (arith, length-map (upTo n) f, length-count 0 n) in at-upTo f n i 0 k ∙ sym (getD-tab f n i k))
-
-module _ (C : Code) (G : GoodCode C) (m : ℕ) (h : m < length (C .checks)) (s : State) (full : length (s .costs) ≡ C .columns * size C) where
-  pub symbols-again : redone (λ c. decisionAt C (update C m s .costs) c .symbol) (λ k. edgeAt (check C m) k .column) (length (check C m)) (symbols C (s .costs))
-      ≡ symbols C (update C m s .costs)
-  unfolding symbols
-  symbols-again =
-      rw (list-of (λ c. decisionAt C (s .costs) c .symbol) (C .columns), list-of (λ c. decisionAt C (update C m s .costs) c .symbol) (C .columns))
-      (redecided C G (λ (l : List ℕ). decide l .symbol) m h s full)
-
-  pub margins-again : redone (λ c. decisionAt C (update C m s .costs) c .margin) (λ k. edgeAt (check C m) k .column) (length (check C m)) (margins C (s .costs))
-      ≡ margins C (update C m s .costs)
-  unfolding margins
-  margins-again =
-      rw (list-of (λ c. decisionAt C (s .costs) c .margin) (C .columns), list-of (λ c. decisionAt C (update C m s .costs) c .margin) (C .columns))
-      (redecided C G (λ (l : List ℕ). decide l .margin) m h s full)

@@ -18,7 +18,7 @@ use Rattle.machine.specs.Early.{momentAfter, testAfter, firstFrom, mostU
 use Rattle.machine.specs.inner.Accepted.{GoodCode}
 use Rattle.machine.specs.inner.InRange.{Below, Ranged}
 use Rattle.machine.proofs.Ranges.{update-ranged, frame-ranged}
-use Rattle.machine.proofs.Lent.{lentOf, When, length-held, held-none, update-stands}
+use Rattle.machine.proofs.Lent.{lentOf, When, held-none, update-stands}
 use Rattle.machine.proofs.Early.{moment-suc, moment-start}
 use Rattle.machine.proofs.EarlyStores.{update-small, moment-kept, none-yet, made-then}
 
@@ -75,10 +75,6 @@ module _ (C : Code) (G : GoodCode C) (s₀ : List ℕ) (room : used C ≤ length
       ≡ ended (statusEarly C f) (updates C f) (record { costs = stateEarly C f .costs; store = held C s₀ (stateEarly C f) })
   unfolding updates lentAfter
   early-stands = ap (stopLent C (mostUpdates C) 0) (sym lent-start) ∙ stop-stands (mostUpdates C) 0
-
-  pub length-lent : (u : ℕ) → length (lentAfter u .store) ≡ length s₀
-  unfolding lentAfter
-  length-lent u = length-held C G s₀ room (momentAfter C f u) (moment-kept C G f u)
 
 -- costs stay in range
 pub moment-ranged : (C : Code) → GoodCode C → (f : List ℕ) → frameFault C f ≡ 0 → Below 255 f → (u : ℕ) → Ranged C (momentAfter C f u .costs)

@@ -13,10 +13,9 @@ use Rattle.trellis.specs.Rules.{ruleFor}
 use Rattle.trellis.proofs.Places.{length-count}
 use Rattle.machine.specs.CodeLine.{Edge, Code, Numbers, rule, check, edgeAt}
 use Rattle.machine.specs.Machine.{place}
-use Rattle.machine.specs.Lent.{weightsOf}
 use Rattle.machine.specs.inner.Tables.{tablesOf, edgesOf, edgesBefore, bytesBefore, tableAt, checksFrom, codeIn, term, Tabled}
 use Rattle.machine.proofs.Lists.{at-upTo}
-use Rattle.machine.proofs.Edges.{length-edges, column-edge, weight-edge, weights-edges}
+use Rattle.machine.proofs.Edges.{length-edges, column-edge, weight-edge}
 use Rattle.machine.proofs.Places.{before-mono, length-part, edges-at}
 
 module _ (k : Numbers) (ds cs ws : List ℕ) (hc : edgesBefore ds (k .checks) ≤ length cs) (hw : edgesBefore ds (k .checks) ≤ length ws) where
@@ -52,9 +51,6 @@ module _ (k : Numbers) (ds cs ws : List ℕ) (hc : edgesBefore ds (k .checks) �
 
     pub degree-is : length (check C m) ≡ getD ds m 0
     degree-is = ap length check-is ∙ length-edges (tableAt ds cs m) (tableAt ds ws m) same-length ∙ columns-length
-
-    pub weights-are : weightsOf (check C m) ≡ tableAt ds ws m
-    weights-are = ap weightsOf check-is ∙ weights-edges (tableAt ds cs m) (tableAt ds ws m) same-length
 
     pub column-part : (n : ℕ) → getD (tableAt ds cs m) n 0 ≡ edgeAt (check C m) n .column
     column-part n = sym (ap (λ es. edgeAt es n .column) check-is ∙ column-edge (tableAt ds cs m) (tableAt ds ws m) same-length n)

@@ -1,13 +1,12 @@
 -- A whole input through `feed` and `close`: from the first state, whatever the buffers hold, the outputs end to end are document 01's.
 use mathlib.Core.Path.{_≡_, refl, sym, ap, ap₂, _∙_}
 use mathlib.Core.List.{List, [], _∷_, _++_}
-use Prim.Native.Nat.{ℕ, _≤_}
-use native.Mathlib.Omega.{arith}
+use Prim.Native.Nat.{ℕ}
 use lib.ListN.{length, take, drop}
 use lib.Seq.{take-at}
 use Rattle.machine.specs.Program.{outputOf}
 use Rattle.machine.specs.inner.Blocks.{fedOut, closeOut, fedAll, fedAllOut, allBlocks}
-use Rattle.machine.proofs.Program.{blocks-output, fed-few}
+use Rattle.machine.proofs.Program.{blocks-output}
 use Rattle.text.specs.inner.Held.{Held, heldIn, keptOf, putAt, fedHeld}
 use Rattle.text.specs.Calls.{Call, Closes, Calls, heldAfter, blocksOf, printedBy, begin}
 use Rattle.text.proofs.Laws.{fed-stands, fed-line}
@@ -34,10 +33,6 @@ pub session : (input : List ℕ) (bs : List (List ℕ)) (line code : List ℕ) �
 session input bs line code h e =
     let a = all-stand (begin line code) bs h in
     ap₂ (λ x y. x ++ closeOut y) (a .1) (a .0) ∙ blocks-output input bs e
-
--- what one call of feed prints fits its buffer
-pub feed-fits : (h : Held) (s : List ℕ) → length s ≤ 65536 → length (fedOut (keptOf h) s) ≤ 328192
-feed-fits h s e = omega (arith, fed-few (keptOf h) s)
 
 front : (o out x : List ℕ) (n : ℕ) → n ≡ length x → out ≡ putAt o 0 x → take n out ≡ x
 front o out x n e h = rw h (take-at x (drop (length x) o) n (sym e))

@@ -251,10 +251,6 @@ module _ (R : Rule) (cs : List Column) (P : Proper R cs) (a : ℕ) where
           cost-others n l _ (h .fits) (at-put cs n (z n l) l (i .allowed .fits)) ∙ rw (others-put cs n (z n l) l (i .allowed .fits), i .attained) (r .2),
         )
 
-    -- a column that keeps its decision in a choice of cost E is not above E
-    pub extra-keeps : (w : List ℕ) → Allowed R cs goal w → costOf R cs w ≡ extra R cs a → (n : ℕ) (l : n < length cs) → getD w n 0 ≡ z n l → sentAt R cs n a ≡ extra R cs a
-    extra-keeps w h c n l e = omega (arith, extra-le n l, sent-below n l w h e)
-
     -- "Never more than two are needed": at most k columns have S above E
     pub above-few : length (above R cs a) ≤ R .most
     unfolding above
