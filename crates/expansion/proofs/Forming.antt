@@ -1,6 +1,6 @@
 -- The tests of a record's form in their order: of a pair, of the pairs of a group one after the other, of a record.
 use mathlib.Core.Path.{_≡_, refl, _∙_, sym}
-use mathlib.Core.Bool.{Bool, true, false}
+use mathlib.Core.Bool.{Bool, true, false, _&&_}
 use mathlib.Core.Logic.{_≢_}
 use mathlib.Core.List.{List}
 use Prim.Native.Nat.{ℕ, zero, suc, _+_, _-_, _*_, _≤_, _<_}
@@ -27,18 +27,13 @@ above-test s e =
       | no h ↦ rw (lt-ltb e s (omega arith), lt-leb s e (omega arith))
     ]
 
--- the first of the pairs that are left, with column c
-pub pairs-fault : (k : ℕ) (r : List ℕ) (at e d low : ℕ) {c : ℕ} {b : Bool} → 0 < k → c ≡ getD r at 0 → b ≡ passes (pairTests c (getD r (at + 1) 0) e d low) → b ≡ false
-    → false ≡ pairsOk k r at e d low
+-- the first of the pairs that are left, with column c, and those after it
+pub pairs-more : (k : ℕ) (r : List ℕ) (at e d low : ℕ) {c : ℕ} (ok : Bool) {b : Bool} → 0 < k → c ≡ getD r at 0 → b ≡ passes (pairTests c (getD r (at + 1) 0) e d low)
+    → pick ok (pairsOk k r at e d low) false ≡ pick (ok && b) (pairsOk (k - 1) r (at + 2) e d (c + 1)) false
 unfolding pairsOk
-pairs-fault zero r at e d low h i o f = absurd (omega arith)
-pairs-fault (suc k) r at e d low h i o f = rw (← i, ← o, f)
-
-pub pairs-more : (k : ℕ) (r : List ℕ) (at e d low : ℕ) {c : ℕ} {b : Bool} → 0 < k → c ≡ getD r at 0 → b ≡ passes (pairTests c (getD r (at + 1) 0) e d low) → b ≡ true
-    → pairsOk k r at e d low ≡ pairsOk (k - 1) r (at + 2) e d (c + 1)
-unfolding pairsOk
-pairs-more zero r at e d low h i o t = absurd (omega arith)
-pairs-more (suc k) r at e d low h i o t = let z : suc k - 1 ≡ k = omega arith in rw (← i, ← o, t, z)
+pairs-more zero r at e d low ok h i o = absurd (omega arith)
+pairs-more (suc k) r at e d low true h i o = let z : suc k - 1 ≡ k = omega arith in rw (← i, ← o, z)
+pairs-more (suc k) r at e d low false h i o = refl
 
 pub pairs-none : (k : ℕ) (r : List ℕ) (at e d low : ℕ) → k ≡ 0 → pairsOk k r at e d low ≡ true
 unfolding pairsOk

@@ -24,25 +24,25 @@ fn pair_ok(c: usize, s: u8, e: u8, d: usize, low: usize) -> bool
     e < s
 }
 
-// The k pairs of the group that starts at place at.
+// The k pairs of the group that starts at place at. Whether a pair is used varies from group to group, so no test ends the loop: a
+// mispredicted branch would cost more than the tests that are left.
 fn pairs_ok(r: &[u8], at: usize, d: usize, k: usize) -> bool
     requires { ⌜ at + (1 + 2 * k) ≤ length (now r) ⌝ }
     ensures { λ b. ⌜ b ≡ pairsOk k (now (r .entry)) (at + 1) (getD (now (r .entry)) at 0) d 0 ⌝ }
 {
     let e = r[at];
+    let mut ok = true;
     let mut low = 0;
     let mut next = at + 1;
     let mut j = 0;
     while j < k {
         let column = scalar::u8_to_usize(r[next]);
-        if !pair_ok(column, r[next + 1], e, d, low) {
-            return false;
-        }
+        ok = scalar::both(ok, pair_ok(column, r[next + 1], e, d, low));
         low = column + 1;
         next += 2;
         j += 1;
     }
-    true
+    ok
 }
 
 fn groups_ok(r: &[u8], d: usize, n: usize, k: usize) -> bool

@@ -1,20 +1,21 @@
--- After j pairs, those that are left decide; the next one may have no column below low.
-use mathlib.Core.Path.{_≡_, refl, sym, _∙_}
+-- After j pairs, where these pass, those that are left decide; the next one may have no column below low.
+use mathlib.Core.Path.{_≡_, refl, sym, ap, _∙_}
 use Prim.Native.Nat.{_+_, _-_, _*_, _≤_}
 use native.Mathlib.Omega.{arith}
 use borrow.Author.Needs.{needs}
-use borrow.Author.Tests.{not-true, not-false}
 use lib.ListN.{getD}
+use mathlib.Core.Bool.{false}
+use Rattle.trellis.specs.Lists.{pick}
 use Rattle.trellis.specs.Record.{pairsOk}
-use Rattle.expansion.proofs.Forming.{pairs-fault, pairs-more, pairs-none}
+use Rattle.expansion.proofs.Forming.{last-test, pairs-more, pairs-none}
 use Rattle.expansion.proofs.form.pairs_ok.Statement.{statement}
 use Rattle.expansion.proofs.form.pairs_ok.Tie as tie
 
 abbrev Inv-loop : tie.InvT-loop
-Inv-loop r at d k e low₀ next₀ j₀ low next j = (j ≤ k) × ((next ≡ at + 1 + 2 * j) × (pairsOk k r (at + 1) e d 0 ≡ pairsOk (k - j) r next e d low))
+Inv-loop r at d k e ok₀ low₀ next₀ j₀ ok low next j = (j ≤ k) × ((next ≡ at + 1 + 2 * j) × (pairsOk k r (at + 1) e d 0 ≡ pick ok (pairsOk (k - j) r next e d low) false))
 
 abbrev μ-loop : tie.MeasureT-loop
-μ-loop r at d k e low₀ next₀ j₀ low next j = k - j
+μ-loop r at d k e ok₀ low₀ next₀ j₀ ok low next j = k - j
 
 shared-slice-read-e : tie.Need-shared-slice-read-e Inv-loop μ-loop
 shared-slice-read-e c = search needs
@@ -40,13 +41,8 @@ shared-slice-read-pair-ok c = search needs
 pair-ok-requires : tie.Need-pair-ok-requires Inv-loop μ-loop
 pair-ok-requires c κs = search needs
 
-returns : tie.Need-returns Inv-loop μ-loop
-returns c =
-    let at-column = c .before .before .before in
-    let l = at-column .before .before .before in
-    let a = l .before .before .before .args in
-    pairs-fault _ (a .r .now) (l .loop .next) (getD (a .r .now) (a .at) 0) (a .d) (l .loop .low) (omega arith) (at-column .u8-to-usize .ensures .0) (c .before .pair-ok .ensures) (not-true _ (c .if1 .taken))
-    ∙ sym (l .loop .inv .1 .1)
+both-requires : tie.Need-both-requires Inv-loop μ-loop
+both-requires c κs = search needs
 
 add-low : tie.Need-add-low Inv-loop μ-loop
 add-low c = search needs
@@ -62,7 +58,8 @@ loop-less c = search needs
 
 loop-again : tie.Need-loop-again Inv-loop μ-loop
 loop-again c =
-    let at-column = c .before .before .before in
+    let at-pair = c .before in
+    let at-column = at-pair .before .before in
     let l = at-column .before .before .before in
     let a = l .before .before .before .args in
     let n : a .k - l .loop .j - 1 ≡ a .k - (l .loop .j + 1) = omega arith in (
@@ -70,13 +67,16 @@ loop-again c =
       (
         omega arith,
         l .loop .inv .1 .1
-            ∙ pairs-more _ (a .r .now) (l .loop .next) (getD (a .r .now) (a .at) 0) (a .d) (l .loop .low) (omega arith) (at-column .u8-to-usize .ensures .0) (c .before .pair-ok .ensures) (not-false _ (c .if1 .left))
-            ∙ rw n refl,
+            ∙ pairs-more _ (a .r .now) (l .loop .next) (getD (a .r .now) (a .at) 0) (a .d) (l .loop .low) (l .loop .ok) (omega arith) (at-column .u8-to-usize .ensures .0) (at-pair .pair-ok .ensures)
+            ∙ rw (n, c .both .ensures) refl,
       ),
     )
 
-returns-2 : tie.Need-returns-2 Inv-loop μ-loop
-returns-2 c = let l = c .before in sym (l .loop .inv .1 .1 ∙ pairs-none _ _ _ _ _ _ (omega arith))
+returns : tie.Need-returns Inv-loop μ-loop
+returns c =
+    let l = c .before in
+    let z : l .before .before .before .args .k - l .loop .j ≡ 0 = omega arith in
+    last-test (l .loop .ok) ∙ sym (l .loop .inv .1 .1 ∙ ap (λ b. pick (l .loop .ok) b false) (pairs-none _ _ _ _ _ _ z))
 
 pub pairs-ok-spec : {M : Type 1} → statement M
 pairs-ok-spec =
@@ -92,10 +92,10 @@ pairs-ok-spec =
     add-pair-ok
     shared-slice-read-pair-ok
     pair-ok-requires
-    returns
+    both-requires
     add-low
     add-next-2
     add-j
     loop-less
     loop-again
-    returns-2)
+    returns)
