@@ -9,19 +9,19 @@ use native.Mathlib.Omega.{arith}
 use lib.Dec.{eqb}
 use lib.ListN.{length, drop}
 use Rattle.trellis.specs.Lists.{pick, upto}
-use Rattle.trellis.specs.Reply.{Reply, foundIn, notFoundIn}
-use Rattle.machine.specs.CodeLine.{good, Code, parse, frameFault}
-use Rattle.machine.specs.Machine.{State, update, iteration, settled, found, notFound, Result, result, go, run, records, used}
+use Rattle.trellis.specs.Reply.{Reply, found_in, not_found_in}
+use Rattle.machine.specs.CodeLine.{good, Code, parse, frame_fault}
+use Rattle.machine.specs.Machine.{State, update, iteration, settled, found, not_found, Result, result, go, run, records, used}
 use Rattle.machine.specs.Decoding.{Buffers, holding, Room, outcome, decoding, store_of}
 use Rattle.machine.proofs.Buffers.{Admits, decoding-good}
-use Rattle.channels.specs.Channels.{after, finished, spentIn, answer, received}
+use Rattle.channels.specs.Channels.{after, finished, spent_in, answer, received}
 use Rattle.channels.specs.Claims.{limited, Alone}
-use Rattle.channels.proofs.Limit.{withLimit, limited-parse, run-limit, fault-limit, used-limit, records-limit, symbols-limit, margins-limit}
+use Rattle.channels.proofs.Limit.{with_limit, limited-parse, run-limit, fault_limit, used-limit, records-limit, symbols-limit, margins-limit}
 
-holding-limit : (C : Code) (j : ℕ) (P s : List ℕ) (b : Buffers) → holding (withLimit j C) P s b ≡ holding C P s b
+holding-limit : (C : Code) (j : ℕ) (P s : List ℕ) (b : Buffers) → holding (with_limit j C) P s b ≡ holding C P s b
 holding-limit C j P s b = rw (symbols-limit C j P, margins-limit C j P)
 
-store-limit : (C : Code) (j : ℕ) (end : State) (s : List ℕ) → store_of (withLimit j C) end s ≡ store_of C end s
+store-limit : (C : Code) (j : ℕ) (end : State) (s : List ℕ) → store_of (with_limit j C) end s ≡ store_of C end s
 store-limit C j end s = rw (records-limit C j end, used-limit C j)
 
 module _ (C : Code) (f : List ℕ) where
@@ -44,13 +44,13 @@ module _ (C : Code) (f : List ℕ) where
 
   -- how a run with limit j ends, where the machine is unsettled before
   abbrev ending : ℕ → Result
-  ending j = result (pick (settled C (after C f j).costs) found notFound) (after C f j)
+  ending j = result (pick (settled C (after C f j).costs) found not_found) (after C f j)
 
   go-after : (n i : ℕ) → ((x : ℕ) → x < i + n → settled C (after C f x).costs ≡ false) → go C n (after C f i) ≡ ending (i + n)
   unfolding go
   go-after zero i h = rw (add-zero i) (at (settled C (after C f i).costs))
     where
-      at : (b : Bool) → pick b (result found (after C f i)) (result notFound (after C f i)) ≡ result (pick b found notFound) (after C f i)
+      at : (b : Bool) → pick b (result found (after C f i)) (result not_found (after C f i)) ≡ result (pick b found not_found) (after C f i)
       at true = refl
       at false = refl
   go-after (suc n) i h = rw (h i (omega arith), ← after-suc i, go-after n (suc i) (λ x l. h x (omega arith))) (ap ending (omega arith))
@@ -58,7 +58,7 @@ module _ (C : Code) (f : List ℕ) where
   -- a settled machine is finished
   settled-finished : (x : ℕ) → settled C (after C f x).costs ≡ true → finished C f x ≡ true
   unfolding finished
-  settled-finished x e = rw e (either (not (eqb (frameFault C f) 0)))
+  settled-finished x e = rw e (either (not (eqb (frame_fault C f) 0)))
     where
       either : (a : Bool) → (a || true) ≡ true
       either true = refl
@@ -72,20 +72,20 @@ module _ (C : Code) (f : List ℕ) where
       go false e = refl
 
   module _ (j : ℕ) (h : (i : ℕ) → i < j → finished C f i ≡ false) where
-    run_ends : run (withLimit j C) f ≡ ending j
+    run_ends : run (with_limit j C) f ≡ ending j
     unfolding after
     run_ends = let e : 0 + j ≡ j = omega arith in run-limit C j f ∙ go-after j 0 (λ x l. unsettled j h x (omega arith)) ∙ ap ending e
 
-  pub received_is : (j : ℕ) (b : Buffers) → frameFault C f ≡ 0
+  pub received_is : (j : ℕ) (b : Buffers) → frame_fault C f ≡ 0
       → received C f j b ≡ holding C (after C f j).costs (pick (eqb j 0) b.store (records C (after C f j) ++ drop (used C) b.store)) b
   unfolding received
   received_is j b e = rw e
 
-  answer-is : (j : ℕ) → frameFault C f ≡ 0 → answer C f j ≡ pick (settled C (after C f j).costs) (foundIn j) (pick (eqb j C.limit) (notFoundIn j) (spentIn j))
+  answer-is : (j : ℕ) → frame_fault C f ≡ 0 → answer C f j ≡ pick (settled C (after C f j).costs) (found_in j) (pick (eqb j C.limit) (not_found_in j) (spent_in j))
   unfolding answer
   answer-is j e = rw e
 
-pub alone : (code f : List ℕ) (C : Code) (j : ℕ) (own : Buffers) → parse code ≡ good C → frameFault C f ≡ 0 → Room C own
+pub alone : (code f : List ℕ) (C : Code) (j : ℕ) (own : Buffers) → parse code ≡ good C → frame_fault C f ≡ 0 → Room C own
     → ((i : ℕ) → i < j → finished C f i ≡ false) → Alone code C f j own (received C f j own) (answer C f j)
 alone code f C j own line fits room h =
     record {
@@ -104,20 +104,20 @@ alone code f C j own line fits room h =
     first = ap (λ P. holding C P own.store own) (after_none C f)
 
     said : Bool → Reply
-    said b = outcome (pick b found notFound) j
+    said b = outcome (pick b found not_found) j
 
     there : 0 < j → decoding (limited code j) f own
         ≡ record { reply = said (settled C (after C f j).costs); buffers = holding C (after C f j).costs (pick (eqb j 0) own.store (records C (after C f j) ++ drop (used C) own.store)) own }
     there k =
-        let A : Admits (limited code j) f own (withLimit j C) = record {
+        let A : Admits (limited code j) f own (with_limit j C) = record {
           line = limited-parse code C j line k;
-          fits = fault-limit C j f ∙ fits;
-          room = record { for-symbols = room.for-symbols; for-costs = room.for-costs; for-store = rw (used-limit C j) room.for-store; for-margins = room.for-margins };
+          fits = fault_limit C j f ∙ fits;
+          room = record { for_symbols = room.for_symbols; for_costs = room.for_costs; for_store = rw (used-limit C j) room.for_store; for_margins = room.for_margins };
         } in
-        decoding-good (limited code j) f own (withLimit j C) A
-        ∙ ap (λ r. record { reply = outcome r.status r.end.t; buffers = holding (withLimit j C) r.end.costs (store_of (withLimit j C) r.end own.store) own }) (run_ends C f j h)
+        decoding-good (limited code j) f own (with_limit j C) A
+        ∙ ap (λ r. record { reply = outcome r.status r.end.t; buffers = holding (with_limit j C) r.end.costs (store_of (with_limit j C) r.end own.store) own }) (run_ends C f j h)
         ∙ ap₂ (λ x b. record { reply = x; buffers = b })
-        (ap (outcome (pick (settled C (after C f j).costs) found notFound)) (after-t C f j))
+        (ap (outcome (pick (settled C (after C f j).costs) found not_found)) (after-t C f j))
         (holding-limit C j (after C f j).costs _ own
         ∙ ap (λ s. holding C (after C f j).costs s own)
         (store-limit C j (after C f j) own.store ∙ ap (λ t. pick (eqb t 0) own.store (records C (after C f j) ++ drop (used C) own.store)) (after-t C f j)))
@@ -126,12 +126,12 @@ alone code f C j own line fits room h =
     never true = refl
     never false = refl
 
-    counts : (a b : Bool) → (pick a (foundIn j) (pick b (notFoundIn j) (spentIn j))).value ≡ (said a).value
+    counts : (a b : Bool) → (pick a (found_in j) (pick b (not_found_in j) (spent_in j))).value ≡ (said a).value
     counts true b = refl
     counts false true = refl
     counts false false = refl
 
-    same : (a b : Bool) → (pick a (foundIn j) (pick b (notFoundIn j) (spentIn j))).number ≢ 20 → pick a (foundIn j) (pick b (notFoundIn j) (spentIn j)) ≡ said a
+    same : (a b : Bool) → (pick a (found_in j) (pick b (not_found_in j) (spent_in j))).number ≢ 20 → pick a (found_in j) (pick b (not_found_in j) (spent_in j)) ≡ said a
     same true b n = refl
     same false true n = refl
     same false false n = absurd (n refl)

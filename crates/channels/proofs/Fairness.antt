@@ -8,9 +8,9 @@ use native.Mathlib.Nat.{not-suc-le-zero, add-zero, add-suc, mul-suc, mod-lt, mod
 use native.Mathlib.Decide.{dec_le}
 use native.Mathlib.Omega.{arith}
 use lib.ListN.{length, get_or}
-use Rattle.trellis.specs.Lists.{countFrom, keep}
+use Rattle.trellis.specs.Lists.{count_from, keep}
 use Rattle.channels.specs.Serving.{Served, count_of, servings, sum, unfinished, Next, Fair}
-use Rattle.channels.proofs.Servings.{CountRises, length-counts, sum_left, one-serving, own-serving, left-falls, was-unfinished, spent-left}
+use Rattle.channels.proofs.Servings.{CountRises, length-counts, sum_left, one-serving, own_serving, left_falls, was_unfinished, spent-left}
 
 -- sums of two lists, the second above the first by at most 1 where a test holds
 abbrev one : Bool → ℕ
@@ -18,13 +18,13 @@ one b = cond b 1 0
 
 module _ (g : ℕ → Bool) where
   tests : ℕ → ℕ → ℕ
-  tests i n = length (keep g (countFrom i n))
+  tests i n = length (keep g (count_from i n))
 
   tests-suc : (i n : ℕ) → tests i (suc n) ≡ one (g i) + tests (suc i) n
   unfolding tests
   tests-suc i n = go (g i)
     where
-      go : (b : Bool) → length (cond b (i ∷ keep g (countFrom (suc i) n)) (keep g (countFrom (suc i) n))) ≡ one b + tests (suc i) n
+      go : (b : Bool) → length (cond b (i ∷ keep g (count_from (suc i) n)) (keep g (count_from (suc i) n))) ≡ one b + tests (suc i) n
       go true = omega arith
       go false = omega arith
 
@@ -63,8 +63,8 @@ distinct n x y h k e =
           omega (arith, div-add-mod x n, div-add-mod y n, mul-le-mul_left n m, mul-suc n (x / n))
     ]
 
-its-serving : (n : ℕ) → 0 < n → (k c : ℕ) → c < n → (j : ℕ) × (j < n) × ((k + j) % n ≡ c)
-its-serving n some k c h =
+its_serving : (n : ℕ) → 0 < n → (k c : ℕ) → c < n → (j : ℕ) × (j < n) × ((k + j) % n ≡ c)
+its_serving n some k c h =
     elim (dec_le (k % n) c) [
       | yes l ↦
           let e : k + (c - k % n) ≡ n * (k / n) + c = omega (arith, div-add-mod k n) in
@@ -97,10 +97,10 @@ module _ (fin : ℕ → ℕ → Bool) (n A : ℕ) (some : 0 < n) (k : ℕ) where
           → (count_of (S (k + suc j)) c ≡ count_of (S k) c) ⊎ Went (suc j) c
       go (inl a) (inl b) = inl (ap (λ s. count_of s c) next ∙ b ∙ a)
       go (inl a) (inr M) =
-          inr (record { serving = j; among = omega arith; its = sym M.its-serving; unfinished = ap (fin c) (sym a) ∙ M.unfinished; one_more = ap (λ s. count_of s c) next ∙ M.one_more ∙ ap suc a })
+          inr (record { serving = j; among = omega arith; its = sym M.its_serving; unfinished = ap (fin c) (sym a) ∙ M.unfinished; one_more = ap (λ s. count_of s c) next ∙ M.one_more ∙ ap suc a })
       go (inr W) (inl b) =
           inr (record { serving = W.serving; among = omega (arith, W.among); its = W.its; unfinished = W.unfinished; one_more = ap (λ s. count_of s c) next ∙ b ∙ W.one_more })
-      go (inr W) (inr M) = absurd (distinct n (k + W.serving) (k + j) (omega (arith, W.among)) (omega arith) (W.its ∙ M.its-serving))
+      go (inr W) (inr M) = absurd (distinct n (k + W.serving) (k + j) (omega (arith, W.among)) (omega arith) (W.its ∙ M.its_serving))
 
   abbrev open? : ℕ → Bool
   open? c = not (fin c (count_of (S k) c))
@@ -139,24 +139,24 @@ module _ (fin : ℕ → ℕ → Bool) (n A : ℕ) (some : 0 < n) (k : ℕ) where
   before-end i c h f left = elim (dec_le (n * A) i) [
     | yes l ↦
         let e : n * A + (i - n * A) ≡ i = omega arith in
-        let u : fin c (count_of (S (n * A)) c) ≡ false = was-unfinished fin n A some (n * A) (i - n * A) c (ap (λ x. fin c (count_of (S x) c)) e ∙ f) in
-        let z : (S i).left ≤ (S (n * A)).left = rw e at (left-falls fin n A some (n * A) (i - n * A)) in
+        let u : fin c (count_of (S (n * A)) c) ≡ false = was_unfinished fin n A some (n * A) (i - n * A) c (ap (λ x. fin c (count_of (S x) c)) e ∙ f) in
+        let z : (S i).left ≤ (S (n * A)).left = rw e at (left_falls fin n A some (n * A) (i - n * A)) in
         absurd (omega (arith, spent-left fin n A some c h u))
     | no l ↦ omega arith
   ]
 
   gets-next : (c : ℕ) → c < n → fin c (count_of (S k) c) ≡ false → u ≤ (S k).left → Next fin n A k c
   gets-next c h f enough =
-      let t = its-serving n some k c h in
+      let t = its_serving n some k c h in
       let j : ℕ = t.0 in
       let same : count_of (S (k + j)) c ≡ count_of (S k) c =
       ⊎_elim (λ e. e) (λ (W : Went j c). absurd (distinct n (k + W.serving) (k + j) (omega (arith, W.among)) (omega (arith, t.1)) (W.its ∙ sym t.2))) (during j c (omega (arith, t.1))) in
       let left : 0 < (S (k + j)).left =
       omega (arith, spent-less j c (omega (arith, t.1)) h f same, sum_left fin n A some (k + j), sum_left fin n A some k) in
-      let own = own-serving fin n A some (k + j) c t.2 (ap (fin c) same ∙ f) left in
+      let own = own_serving fin n A some (k + j) c t.2 (ap (fin c) same ∙ f) left in
       record {
         more = suc j;
-        in-time = rw (add-suc k j) (before-end (k + j) c h (ap (fin c) same ∙ f) left);
+        in_time = rw (add-suc k j) (before-end (k + j) c h (ap (fin c) same ∙ f) left);
         next = rw (add-suc k j) (own ∙ omega arith);
         within = omega (arith, spent-most (suc j) t.1, sum_left fin n A some (k + suc j), sum_left fin n A some k);
       }

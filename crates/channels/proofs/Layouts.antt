@@ -9,25 +9,25 @@ use borrow.Author.Tests.{eq-eqb, ne_eqb, lt-leb}
 use lib.ListN.{length, drop}
 use lib.Seq.{drop-length}
 use Rattle.trellis.specs.Lists.{pick, part, patch}
-use Rattle.machine.specs.CodeLine.{Code, size, frameFault}
+use Rattle.machine.specs.CodeLine.{Code, size, frame_fault}
 use Rattle.machine.specs.Machine.{symbols, margins, settled, used}
-use Rattle.machine.specs.Lent.{Lent, lent, iterationLent}
+use Rattle.machine.specs.Lent.{Lent, lent, iteration_lent}
 use Rattle.machine.specs.Decoding.{Buffers, lending, holding}
 use Rattle.machine.specs.Moments.{Stage, moment, further}
 use Rattle.machine.specs.inner.InRange.{Below, Ranged, Passable}
 use Rattle.machine.proofs.Ranges.{part-patch, below-take, below-drop, frame-ranged}
-use Rattle.frame.specs.Answers.{frameFaultOf}
+use Rattle.frame.specs.Answers.{frame_fault_of}
 use Rattle.layered.specs.Answers.{ends}
-use Rattle.layered.specs.inner.Stages.{stageAfter, TestRoom}
+use Rattle.layered.specs.inner.Stages.{stage_after, TestRoom}
 use Rattle.layered.specs.inner.Stages.{StepRoom as IterateRoom}
 use Rattle.channels.specs.declared.layout.Layout.{Layout}
 use Rattle.channels.specs.Channels.{frame_of, own_of}
-use Rattle.channels.specs.inner.Rounds.{lentIn, statusOf, patchAt, loadAt, stepAt}
-use Rattle.channels.specs.inner.Layouts.{codeFor, Fitted, Puts}
+use Rattle.channels.specs.inner.Rounds.{lent_in, status_of, patch_at, load_at, step_at}
+use Rattle.channels.specs.inner.Layouts.{code_for, Fitted, Puts}
 use Rattle.machine.proofs.Places.{length_part}
 use Rattle.channels.proofs.Parts.{Exact}
 use Rattle.channels.proofs.Patches.{patch-same}
-use Rattle.channels.proofs.Serves.{further-own}
+use Rattle.channels.proofs.Serves.{further_own}
 
 -- a part between two places
 between : (l : List ℕ) (w k : ℕ) → w ≡ k → (c : ℕ) → part l (c * w) (c * w + w - c * w) ≡ part l (c * k) k
@@ -38,7 +38,7 @@ put-between l x w k e c = rw (add-sub_cancel_left (c * w) w, e)
 
 module _ (z : Layout) (ds cs ws : List ℕ) (H : Fitted z ds cs ws) where
   abbrev C : Code
-  C = codeFor z ds cs ws
+  C = code_for z ds cs ws
 
   -- what costs P leave in parts that they fill
   holds_exact : (P s : List ℕ) (own : Buffers) → length own.symbols ≡ C.columns → length own.costs ≡ C.columns * size C
@@ -51,51 +51,51 @@ module _ (z : Layout) (ds cs ws : List ℕ) (H : Fitted z ds cs ws) where
 
   -- where an iteration ends
   ends_there : (found : Bool) (t : ℕ) (P : List ℕ) → found ≡ settled C P
-      → stageAfter found t z.numbers.limit ≡ ends (pick (settled C P) 2 (pick (leb C.limit t) 3 1)) 0
-  unfolding stageAfter
+      → stage_after found t z.numbers.limit ≡ ends (pick (settled C P) 2 (pick (leb C.limit t) 3 1)) 0
+  unfolding stage_after
   ends_there found t P e = rw e refl
 
   -- the parts of channel c, of the three buffers that a load is lent
-  module _ (c : ℕ) (b : Buffers) (for-symbols : c * z.columns + z.columns ≤ length b.symbols) (for-costs : c * z.costs + z.costs ≤ length b.costs)
-      (for-margins : c * z.columns + z.columns ≤ length b.margins) where
+  module _ (c : ℕ) (b : Buffers) (for_symbols : c * z.columns + z.columns ≤ length b.symbols) (for_costs : c * z.costs + z.costs ≤ length b.costs)
+      (for_margins : c * z.columns + z.columns ≤ length b.margins) where
     abbrev own : Buffers
     own = own_of C b c
 
     -- the same parts by the layout
-    abbrev pub symbolsPart : List ℕ
-    symbolsPart = part b.symbols (c * z.columns) (c * z.columns + z.columns - c * z.columns)
+    abbrev pub symbols_part : List ℕ
+    symbols_part = part b.symbols (c * z.columns) (c * z.columns + z.columns - c * z.columns)
 
-    abbrev pub costsPart : List ℕ
-    costsPart = part b.costs (c * z.costs) (c * z.costs + z.costs - c * z.costs)
+    abbrev pub costs_part : List ℕ
+    costs_part = part b.costs (c * z.costs) (c * z.costs + z.costs - c * z.costs)
 
-    abbrev pub marginsPart : List ℕ
-    marginsPart = part b.margins (c * z.columns) (c * z.columns + z.columns - c * z.columns)
+    abbrev pub margins_part : List ℕ
+    margins_part = part b.margins (c * z.columns) (c * z.columns + z.columns - c * z.columns)
 
-    symbols-own : symbolsPart ≡ own.symbols
-    symbols-own = between b.symbols z.columns C.columns H.columns-is c
+    symbols-own : symbols_part ≡ own.symbols
+    symbols-own = between b.symbols z.columns C.columns H.columns_is c
 
-    costs-own : costsPart ≡ own.costs
-    costs-own = between b.costs z.costs (C.columns * size C) H.costs-is c
+    costs-own : costs_part ≡ own.costs
+    costs-own = between b.costs z.costs (C.columns * size C) H.costs_is c
 
-    margins-own : marginsPart ≡ own.margins
-    margins-own = between b.margins z.columns C.columns H.columns-is c
+    margins-own : margins_part ≡ own.margins
+    margins-own = between b.margins z.columns C.columns H.columns_is c
 
     full-symbols : length own.symbols ≡ C.columns
-    full-symbols = length_part b.symbols (c * C.columns) C.columns (rw H.columns-is at for-symbols)
+    full-symbols = length_part b.symbols (c * C.columns) C.columns (rw H.columns_is at for_symbols)
 
     full-costs : length own.costs ≡ C.columns * size C
-    full-costs = length_part b.costs (c * (C.columns * size C)) (C.columns * size C) (rw H.costs-is at for-costs)
+    full-costs = length_part b.costs (c * (C.columns * size C)) (C.columns * size C) (rw H.costs_is at for_costs)
 
     full-margins : length own.margins ≡ C.columns
-    full-margins = length_part b.margins (c * C.columns) C.columns (rw H.columns-is at for-margins)
+    full-margins = length_part b.margins (c * C.columns) C.columns (rw H.columns_is at for_margins)
 
-    count-symbols : length symbolsPart ≡ C.columns
+    count-symbols : length symbols_part ≡ C.columns
     count-symbols = ap length symbols-own ∙ full-symbols
 
-    count-margins : length marginsPart ≡ C.columns
+    count-margins : length margins_part ≡ C.columns
     count-margins = ap length margins-own ∙ full-margins
 
-    put_same : b ≡ patchAt C c b own
+    put_same : b ≡ patch_at C c b own
     put_same =
         rw (
           patch-same b.symbols (c * C.columns) C.columns,
@@ -105,20 +105,20 @@ module _ (z : Layout) (ds cs ws : List ℕ) (H : Fitted z ds cs ws) where
         )
 
     -- an iteration, after t
-    module _ (for-store : c * z.store + z.store ≤ length b.store) (t : ℕ) where
+    module _ (for_store : c * z.store + z.store ≤ length b.store) (t : ℕ) where
       E : Exact C (own_of C b c)
       E =
           record {
             symbols = full-symbols;
             margins = full-margins;
             costs = full-costs;
-            store = length_part b.store (c * used C) (used C) (rw H.Store-is at for-store);
+            store = length_part b.store (c * used C) (used C) (rw H.Store-is at for_store);
           }
 
-      abbrev pub storePart : List ℕ
-      storePart = part b.store (c * z.store) (c * z.store + z.store - c * z.store)
+      abbrev pub store_part : List ℕ
+      store_part = part b.store (c * z.store) (c * z.store + z.store - c * z.store)
 
-      store-own : storePart ≡ own.store
+      store-own : store_part ≡ own.store
       store-own = between b.store z.store (used C) H.Store-is c
 
       -- put back
@@ -130,19 +130,19 @@ module _ (z : Layout) (ds cs ws : List ℕ) (H : Fitted z ds cs ws) where
           (patch b.store (c * z.store) (c * z.store + z.store - c * z.store) u)
           (patch b.margins (c * z.columns) (c * z.columns + z.columns - c * z.columns) x')
 
-      put-there : (x P u x' : List ℕ) → put_back x P u x' ≡ patchAt C c b (lending x P u x')
+      put-there : (x P u x' : List ℕ) → put_back x P u x' ≡ patch_at C c b (lending x P u x')
       put-there x P u x' =
           rw (
-            put-between b.symbols x z.columns C.columns H.columns-is c,
-            put-between b.costs P z.costs (C.columns * size C) H.costs-is c,
+            put-between b.symbols x z.columns C.columns H.columns_is c,
+            put-between b.costs P z.costs (C.columns * size C) H.costs_is c,
             put-between b.store u z.store (used C) H.Store-is c,
-            put-between b.margins x' z.columns C.columns H.columns-is c,
+            put-between b.margins x' z.columns C.columns H.columns_is c,
           )
 
       -- it may be made
-      pub step-asks : Passable C H.coded.good (eqb t 0) (lentIn (own_of C b c)) → (A S : List ℕ) → 2048 ≤ length A → 2048 ≤ length S
-          → IterateRoom z.numbers ds cs ws (eqb t 0) costsPart storePart symbolsPart marginsPart A S
-      step-asks Q A S i j =
+      pub step_asks : Passable C H.coded.good (eqb t 0) (lent_in (own_of C b c)) → (A S : List ℕ) → 2048 ≤ length A → 2048 ≤ length S
+          → IterateRoom z.numbers ds cs ws (eqb t 0) costs_part store_part symbols_part margins_part A S
+      step_asks Q A S i j =
           record {
             iterate = record {
               running = record {
@@ -157,16 +157,16 @@ module _ (z : Layout) (ds cs ws : List ℕ) (H : Fitted z ds cs ws) where
           }
 
       -- and what it leaves
-      pub step-puts : (found : Bool) (P u x x' : List ℕ) → found ≡ settled C P → lent P u ≡ iterationLent C (eqb t 0) (lent costsPart storePart)
-          → x ≡ symbols C P → x' ≡ margins C P → (e : Stage) → e ≡ stageAfter found (t + 1) z.numbers.limit → (r : ℕ) → r ≡ statusOf e
-          → Puts C c b (stepAt C c t b) r (put_back x P u x')
-      unfolding stepAt
-      step-puts found P u x x' i p q q' e j r k =
+      pub step_puts : (found : Bool) (P u x x' : List ℕ) → found ≡ settled C P → lent P u ≡ iteration_lent C (eqb t 0) (lent costs_part store_part)
+          → x ≡ symbols C P → x' ≡ margins C P → (e : Stage) → e ≡ stage_after found (t + 1) z.numbers.limit → (r : ℕ) → r ≡ status_of e
+          → Puts C c b (step_at C c t b) r (put_back x P u x')
+      unfolding step_at
+      step_puts found P u x x' i p q q' e j r k =
           let l₁ : lent P u ≡ further C t own =
-          p ∙ ap₂ (λ a s. iterationLent C (eqb t 0) (lent a s)) costs-own store-own ∙ sym (further-own C H.coded.good t own E) in
-          let m₁ : stepAt C c t b ≡ moment (pick (settled C P) 2 (pick (leb C.limit (t + 1)) 3 1)) 0 (t + 1) (lending (symbols C P) P u (margins C P)) =
+          p ∙ ap₂ (λ a s. iteration_lent C (eqb t 0) (lent a s)) costs-own store-own ∙ sym (further_own C H.coded.good t own E) in
+          let m₁ : step_at C c t b ≡ moment (pick (settled C P) 2 (pick (leb C.limit (t + 1)) 3 1)) 0 (t + 1) (lending (symbols C P) P u (margins C P)) =
           rw (← l₁) (ap (moment (pick (settled C P) 2 (pick (leb C.limit (t + 1)) 3 1)) 0 (t + 1)) (holds_exact P u own full-symbols full-costs full-margins)) in
-          rw m₁ record { status-is = k ∙ ap statusOf (j ∙ ends_there found (t + 1) P i); buffers-are = put-there x P u x' ∙ ap₂ (λ a d. patchAt C c b (lending a P u d)) q q' }
+          rw m₁ record { status_is = k ∙ ap status_of (j ∙ ends_there found (t + 1) P i); buffers_are = put-there x P u x' ∙ ap₂ (λ a d. patch_at C c b (lending a P u d)) q q' }
 
     -- a load
     module _ (fs : List ℕ) (room : c * z.costs + z.costs ≤ length fs) where
@@ -174,72 +174,72 @@ module _ (z : Layout) (ds cs ws : List ℕ) (H : Fitted z ds cs ws) where
       frame_at = part fs (c * z.costs) (c * z.costs + z.costs - c * z.costs)
 
       frame-own : frame_at ≡ frame_of C fs c
-      frame-own = between fs z.costs (C.columns * size C) H.costs-is c
+      frame-own = between fs z.costs (C.columns * size C) H.costs_is c
 
-      fault-there : (f : List ℕ) → frameFaultOf z.numbers.first z.numbers.columns f ≡ frameFault C f
-      unfolding frameFaultOf frameFault
+      fault-there : (f : List ℕ) → frame_fault_of z.numbers.first z.numbers.columns f ≡ frame_fault C f
+      unfolding frame_fault_of frame_fault
       fault-there f = refl
 
-      module _ (k : ℕ) (e : k ≡ frameFaultOf z.numbers.first z.numbers.columns frame_at) where
-        fault-own : k ≡ frameFault C (frame_of C fs c)
-        fault-own = e ∙ fault-there frame_at ∙ ap (frameFault C) frame-own
+      module _ (k : ℕ) (e : k ≡ frame_fault_of z.numbers.first z.numbers.columns frame_at) where
+        fault-own : k ≡ frame_fault C (frame_of C fs c)
+        fault-own = e ∙ fault-there frame_at ∙ ap (frame_fault C) frame-own
 
         -- refused
-        pub load-refused : (k ≡ 0 → ⊥) → Puts C c b (loadAt C fs c b) k b
-        unfolding loadAt statusOf
+        pub load-refused : (k ≡ 0 → ⊥) → Puts C c b (load_at C fs c b) k b
+        unfolding load_at status_of
         load-refused h =
-            let m₁ : loadAt C fs c b ≡ moment 4 k 0 own = rw (← fault-own, ne_eqb k 0 h) in
-            rw m₁ record { status-is = refl; buffers-are = put_same }
+            let m₁ : load_at C fs c b ≡ moment 4 k 0 own = rw (← fault-own, ne_eqb k 0 h) in
+            rw m₁ record { status_is = refl; buffers_are = put_same }
 
         module _ (h : k ≡ 0) (f' : List ℕ) (i : f' ≡ frame_at) where
           -- the costs with the frame in channel c's part
-          abbrev pub copiedCosts : List ℕ
-          copiedCosts = patch b.costs (c * z.costs) (c * z.costs + z.costs - c * z.costs) f'
+          abbrev pub copied_costs : List ℕ
+          copied_costs = patch b.costs (c * z.costs) (c * z.costs + z.costs - c * z.costs) f'
 
-          abbrev pub copiedAt : List ℕ
-          copiedAt = part copiedCosts (c * z.costs) (c * z.costs + z.costs - c * z.costs)
+          abbrev pub copied_at : List ℕ
+          copied_at = part copied_costs (c * z.costs) (c * z.costs + z.costs - c * z.costs)
 
           frame-full : length f' ≡ z.costs
           frame-full =
               ap length (i ∙ frame-own)
-              ∙ length_part fs (c * (C.columns * size C)) (C.columns * size C) (rw H.costs-is at room)
-              ∙ sym H.costs-is
+              ∙ length_part fs (c * (C.columns * size C)) (C.columns * size C) (rw H.costs_is at room)
+              ∙ sym H.costs_is
 
-          copied_is : copiedAt ≡ frame_of C fs c
+          copied_is : copied_at ≡ frame_of C fs c
           copied_is =
               let d : c * z.costs + z.costs - c * z.costs ≡ z.costs = add-sub_cancel_left (c * z.costs) z.costs in
-              rw (d, part-patch b.costs f' (c * z.costs) z.costs for-costs frame-full) (i ∙ frame-own)
+              rw (d, part-patch b.costs f' (c * z.costs) z.costs for_costs frame-full) (i ∙ frame-own)
 
           -- the test may be made
-          pub load_asks : Below 255 fs → TestRoom z.numbers ds cs ws copiedAt symbolsPart marginsPart
+          pub load_asks : Below 255 fs → TestRoom z.numbers ds cs ws copied_at symbols_part margins_part
           load_asks bytes =
-              let R : Ranged C copiedAt =
+              let R : Ranged C copied_at =
               rw copied_is (frame-ranged C (frame_of C fs c) (sym fault-own ∙ h) (below-take 255 (C.columns * size C) _ (below-drop 255 (c * (C.columns * size C)) fs bytes))) in
               record { settled = record { coded = H.coded; ranged = R; symbols = count-symbols }; margins = count-margins }
 
-          pub load-puts : (found : Bool) (x x' : List ℕ) → found ≡ settled C copiedAt → x ≡ symbols C copiedAt → x' ≡ margins C copiedAt
-              → (e : Stage) → e ≡ stageAfter found 0 z.numbers.limit → (r : ℕ) → r ≡ statusOf e
-              → Puts C c b (loadAt C fs c b) r
-              (lending (patch b.symbols (c * z.columns) (c * z.columns + z.columns - c * z.columns) x) copiedCosts b.store
+          pub load_puts : (found : Bool) (x x' : List ℕ) → found ≡ settled C copied_at → x ≡ symbols C copied_at → x' ≡ margins C copied_at
+              → (e : Stage) → e ≡ stage_after found 0 z.numbers.limit → (r : ℕ) → r ≡ status_of e
+              → Puts C c b (load_at C fs c b) r
+              (lending (patch b.symbols (c * z.columns) (c * z.columns + z.columns - c * z.columns) x) copied_costs b.store
               (patch b.margins (c * z.columns) (c * z.columns + z.columns - c * z.columns) x'))
-          unfolding loadAt
-          load-puts found x x' o q q' e j r l =
+          unfolding load_at
+          load_puts found x x' o q q' e j r l =
               let f : List ℕ = frame_of C fs c in
               let s₁ : found ≡ settled C f = o ∙ ap (settled C) copied_is in
               let u : leb C.limit 0 ≡ false = lt-leb C.limit 0 H.coded.good.limit-low in
-              let st : stageAfter found 0 z.numbers.limit ≡ ends (pick (settled C f) 2 1) 0 = ends_there found 0 f s₁ ∙ rw u in
-              let m₁ : loadAt C fs c b ≡ moment (pick (settled C f) 2 1) 0 0 (lending (symbols C f) f own.store (margins C f)) =
+              let st : stage_after found 0 z.numbers.limit ≡ ends (pick (settled C f) 2 1) 0 = ends_there found 0 f s₁ ∙ rw u in
+              let m₁ : load_at C fs c b ≡ moment (pick (settled C f) 2 1) 0 0 (lending (symbols C f) f own.store (margins C f)) =
               rw (← fault-own, eq-eqb k 0 h) (ap (moment (pick (settled C f) 2 1) 0 0) (holds_exact f own.store own full-symbols full-costs full-margins)) in
               let x₁ : x ≡ symbols C f = q ∙ ap (symbols C) copied_is in
               let x₂ : x' ≡ margins C f = q' ∙ ap (margins C) copied_is in
               let y : b.store ≡ patch b.store (c * used C) (used C) own.store = sym (patch-same b.store (c * used C) (used C)) in
               rw m₁
               record {
-                status-is = l ∙ ap statusOf (j ∙ st);
-                buffers-are = rw (
-                  put-between b.symbols x z.columns C.columns H.columns-is c,
-                  put-between b.costs f' z.costs (C.columns * size C) H.costs-is c,
-                  put-between b.margins x' z.columns C.columns H.columns-is c,
+                status_is = l ∙ ap status_of (j ∙ st);
+                buffers_are = rw (
+                  put-between b.symbols x z.columns C.columns H.columns_is c,
+                  put-between b.costs f' z.costs (C.columns * size C) H.costs_is c,
+                  put-between b.margins x' z.columns C.columns H.columns_is c,
                   x₁,
                   x₂,
                   i,

@@ -12,43 +12,43 @@ use Rattle.machine.specs.Machine.{used}
 use Rattle.machine.specs.Decoding.{Buffers}
 use Rattle.machine.proofs.Ranges.{column-room}
 use Rattle.channels.specs.declared.layout.Layout.{Layout}
-use Rattle.channels.specs.inner.Rounds.{Standing, standing, statusAt, countAt, stepAt, loadAt, loaded_at, loadedTo, movedAt, servingAt, roundAt, RoomFor}
-use Rattle.channels.specs.inner.Layouts.{codeFor, Fitted, Puts, LoadsRoom, LoadRoom, PartRoom, NextRoom, RoundRoom}
-use Rattle.channels.proofs.Serves.{serving-serves, round-serves}
-use Rattle.channels.proofs.Quiet.{less-law}
+use Rattle.channels.specs.inner.Rounds.{Standing, standing, status_at, count_at, step_at, load_at, loaded_at, loaded_to, moved_at, serving_at, round_at, RoomFor}
+use Rattle.channels.specs.inner.Layouts.{code_for, Fitted, Puts, LoadsRoom, LoadRoom, PartRoom, NextRoom, RoundRoom}
+use Rattle.channels.proofs.Serves.{serving-serves, round_serves}
+use Rattle.channels.proofs.Quiet.{less_law}
 
 -- room for n channels is room for each of them
-pub one-room : (z : Layout) (ds cs ws : List ℕ) → Fitted z ds cs ws → (n : ℕ) (b : Buffers) → RoomFor (codeFor z ds cs ws) n b → (c : ℕ) → c < n → PartRoom z c b
+pub one-room : (z : Layout) (ds cs ws : List ℕ) → Fitted z ds cs ws → (n : ℕ) (b : Buffers) → RoomFor (code_for z ds cs ws) n b → (c : ℕ) → c < n → PartRoom z c b
 one-room z ds cs ws H n b W c h =
-    let C : Code = codeFor z ds cs ws in
+    let C : Code = code_for z ds cs ws in
     record {
-      for-symbols = rw H.columns-is (omega (arith, W.for-symbols, column-room c n C.columns h));
-      for-costs = rw H.costs-is (omega (arith, W.for-costs, column-room c n (C.columns * size C) h));
-      for-store = rw H.Store-is (omega (arith, W.for-store, column-room c n (used C) h));
-      for-margins = rw H.columns-is (omega (arith, W.for-margins, column-room c n C.columns h));
+      for_symbols = rw H.columns_is (omega (arith, W.for_symbols, column-room c n C.columns h));
+      for_costs = rw H.costs_is (omega (arith, W.for_costs, column-room c n (C.columns * size C) h));
+      for_store = rw H.Store-is (omega (arith, W.for_store, column-room c n (used C) h));
+      for_margins = rw H.columns_is (omega (arith, W.for_margins, column-room c n C.columns h));
     }
 
 module _ (C : Code) (c : ℕ) (l : Standing) where
   -- skipped
-  pub serve-skips : (statusAt l c ≡ 20 → ⊥) → l ≡ servingAt C c l
-  unfolding servingAt
-  serve-skips h = rw (ne_eqb (statusAt l c) 20 h)
+  pub serve_skips : (status_at l c ≡ 20 → ⊥) → l ≡ serving_at C c l
+  unfolding serving_at
+  serve_skips h = rw (ne_eqb (status_at l c) 20 h)
 
-  pub serve-spent : statusAt l c ≡ 20 → l.left ≡ 0 → l ≡ servingAt C c l
-  unfolding servingAt
-  serve-spent h e = rw (eq-eqb (statusAt l c) 20 h, eq-eqb l.left 0 e)
+  pub serve-spent : status_at l c ≡ 20 → l.left ≡ 0 → l ≡ serving_at C c l
+  unfolding serving_at
+  serve-spent h e = rw (eq-eqb (status_at l c) 20 h, eq-eqb l.left 0 e)
 
   -- or moved
-  pub serve-moves : statusAt l c ≡ 20 → (l.left ≡ 0 → ⊥) → (r : ℕ) (b' : Buffers) → Puts C c l.buffers (stepAt C c (countAt l c) l.buffers) r b'
-      → standing (set l.status c r) (set l.counts c (countAt l c + 1)) (l.left - 1) b' ≡ servingAt C c l
-  unfolding servingAt movedAt
-  serve-moves h e r b' P = rw (eq-eqb (statusAt l c) 20 h, ne_eqb l.left 0 e, P.status-is, P.buffers-are)
+  pub serve_moves : status_at l c ≡ 20 → (l.left ≡ 0 → ⊥) → (r : ℕ) (b' : Buffers) → Puts C c l.buffers (step_at C c (count_at l c) l.buffers) r b'
+      → standing (set l.status c r) (set l.counts c (count_at l c + 1)) (l.left - 1) b' ≡ serving_at C c l
+  unfolding serving_at moved_at
+  serve_moves h e r b' P = rw (eq-eqb (status_at l c) 20 h, ne_eqb l.left 0 e, P.status_is, P.buffers_are)
 
   -- loaded
-  pub load_moves : (fs : List ℕ) (r : ℕ) (b' : Buffers) → Puts C c l.buffers (loadAt C fs c l.buffers) r b'
+  pub load_moves : (fs : List ℕ) (r : ℕ) (b' : Buffers) → Puts C c l.buffers (load_at C fs c l.buffers) r b'
       → standing (set l.status c r) l.counts l.left b' ≡ loaded_at C fs c l
   unfolding loaded_at
-  load_moves fs r b' P = rw (P.status-is, P.buffers-are)
+  load_moves fs r b' P = rw (P.status_is, P.buffers_are)
 
 -- a load is lent its part of each buffer
 pub load-room : (n : ℕ) (z : Layout) (ds cs ws fs y p v st : List ℕ) → LoadsRoom n z ds cs ws fs y p v st → (c : ℕ) → c < n → (y' p' v' : List ℕ)
@@ -63,8 +63,8 @@ load-room n z ds cs ws fs y p v st R c h y' p' v' i j k =
     }
 
 -- what an iteration of a running channel asks
-module _ (n : ℕ) (z : Layout) (ds cs ws : List ℕ) (l : Standing) (A S : List ℕ) (R : RoundRoom n z ds cs ws l A S) (c : ℕ) (h : c < n) (e : statusAt l c ≡ 20) where
-  pub step_room : NextRoom c (countAt l c) z ds cs ws l.buffers A S
+module _ (n : ℕ) (z : Layout) (ds cs ws : List ℕ) (l : Standing) (A S : List ℕ) (R : RoundRoom n z ds cs ws l A S) (c : ℕ) (h : c < n) (e : status_at l c ≡ 20) where
+  pub step_room : NextRoom c (count_at l c) z ds cs ws l.buffers A S
   step_room =
       record {
         fitted = R.serve.fitted;
@@ -75,47 +75,47 @@ module _ (n : ℕ) (z : Layout) (ds cs ws : List ℕ) (l : Standing) (A S : List
       }
 
   -- its count has room for one more
-  pub count_low : countAt l c + 1 ≤ z.numbers.limit
+  pub count_low : count_at l c + 1 ≤ z.numbers.limit
   count_low = omega (arith, R.serve.serves.below c h e)
 
 -- after a serving there is room for the next one
 pub serve-next : (n : ℕ) (z : Layout) (ds cs ws : List ℕ) (l : Standing) (A S : List ℕ) → RoundRoom n z ds cs ws l A S → (c : ℕ) → c < n
-    → (l' : Standing) (A' S' : List ℕ) → l' ≡ servingAt (codeFor z ds cs ws) c l → length A' ≡ length A → length S' ≡ length S
+    → (l' : Standing) (A' S' : List ℕ) → l' ≡ serving_at (code_for z ds cs ws) c l → length A' ≡ length A → length S' ≡ length S
     → RoundRoom n z ds cs ws l' A' S'
 serve-next n z ds cs ws l A S R c h l' A' S' e i j =
     record {
-      serve = record { fitted = R.serve.fitted; serves = rw e (serving-serves (codeFor z ds cs ws) R.serve.fitted.coded.good n l R.serve.serves c h) };
+      serve = record { fitted = R.serve.fitted; serves = rw e (serving-serves (code_for z ds cs ws) R.serve.fitted.coded.good n l R.serve.serves c h) };
       arrived = omega (arith, R.arrived);
       sent = omega (arith, R.sent);
     }
 
 -- and after a round
-pub round-next : (n : ℕ) (z : Layout) (ds cs ws : List ℕ) (l : Standing) (A S : List ℕ) → RoundRoom n z ds cs ws l A S
-    → (l' : Standing) (A' S' : List ℕ) → l' ≡ roundAt (codeFor z ds cs ws) n l → length A' ≡ length A → length S' ≡ length S
+pub round_next : (n : ℕ) (z : Layout) (ds cs ws : List ℕ) (l : Standing) (A S : List ℕ) → RoundRoom n z ds cs ws l A S
+    → (l' : Standing) (A' S' : List ℕ) → l' ≡ round_at (code_for z ds cs ws) n l → length A' ≡ length A → length S' ≡ length S
     → RoundRoom n z ds cs ws l' A' S'
-round-next n z ds cs ws l A S R l' A' S' e i j =
+round_next n z ds cs ws l A S R l' A' S' e i j =
     record {
-      serve = record { fitted = R.serve.fitted; serves = rw e (round-serves (codeFor z ds cs ws) R.serve.fitted.coded.good n l R.serve.serves) };
+      serve = record { fitted = R.serve.fitted; serves = rw e (round_serves (code_for z ds cs ws) R.serve.fitted.coded.good n l R.serve.serves) };
       arrived = omega (arith, R.arrived);
       sent = omega (arith, R.sent);
     }
 
 -- servings one after the other
-pub round-more : (C : Code) (c : ℕ) (l₀ l l' : Standing) → l' ≡ servingAt C c l → l ≡ upto (servingAt C) c l₀ → l' ≡ upto (servingAt C) (c + 1) l₀
-round-more C c l₀ l l' e i = e ∙ rw (add-one c) (ap (servingAt C c) i)
+pub round_more : (C : Code) (c : ℕ) (l₀ l l' : Standing) → l' ≡ serving_at C c l → l ≡ upto (serving_at C) c l₀ → l' ≡ upto (serving_at C) (c + 1) l₀
+round_more C c l₀ l l' e i = e ∙ rw (add-one c) (ap (serving_at C c) i)
 
-pub round-done : (C : Code) (n c : ℕ) (l₀ l : Standing) → c ≡ n → l ≡ upto (servingAt C) c l₀ → l ≡ roundAt C n l₀
-unfolding roundAt
-round-done C n c l₀ l e i = i ∙ ap (λ k. upto (servingAt C) k l₀) e
+pub round_done : (C : Code) (n c : ℕ) (l₀ l : Standing) → c ≡ n → l ≡ upto (serving_at C) c l₀ → l ≡ round_at C n l₀
+unfolding round_at
+round_done C n c l₀ l e i = i ∙ ap (λ k. upto (serving_at C) k l₀) e
 
 -- loads one after the other
-pub loads-more : (C : Code) (fs : List ℕ) (c : ℕ) (l₀ l l' : Standing) → l' ≡ loaded_at C fs c l → l ≡ upto (loaded_at C fs) c l₀ → l' ≡ upto (loaded_at C fs) (c + 1) l₀
-loads-more C fs c l₀ l l' e i = e ∙ rw (add-one c) (ap (loaded_at C fs c) i)
+pub loads_more : (C : Code) (fs : List ℕ) (c : ℕ) (l₀ l l' : Standing) → l' ≡ loaded_at C fs c l → l ≡ upto (loaded_at C fs) c l₀ → l' ≡ upto (loaded_at C fs) (c + 1) l₀
+loads_more C fs c l₀ l l' e i = e ∙ rw (add-one c) (ap (loaded_at C fs c) i)
 
-pub loads-done : (C : Code) (fs : List ℕ) (n c : ℕ) (l₀ l : Standing) → c ≡ n → l ≡ upto (loaded_at C fs) c l₀ → l ≡ loadedTo C fs n l₀
-unfolding loadedTo
-loads-done C fs n c l₀ l e i = i ∙ ap (λ k. upto (loaded_at C fs) k l₀) e
+pub loads_done : (C : Code) (fs : List ℕ) (n c : ℕ) (l₀ l : Standing) → c ≡ n → l ≡ upto (loaded_at C fs) c l₀ → l ≡ loaded_to C fs n l₀
+unfolding loaded_to
+loads_done C fs n c l₀ l e i = i ∙ ap (λ k. upto (loaded_at C fs) k l₀) e
 
 -- a round that spends something leaves less
-pub round-less : (C : Code) (n : ℕ) (l l' : Standing) → l' ≡ roundAt C n l → (l'.left ≡ l.left → ⊥) → l'.left < l.left
-round-less C n l l' e h = less-law C n l l' l e h
+pub round_less : (C : Code) (n : ℕ) (l l' : Standing) → l' ≡ round_at C n l → (l'.left ≡ l.left → ⊥) → l'.left < l.left
+round_less C n l l' e h = less_law C n l l' l e h

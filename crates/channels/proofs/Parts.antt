@@ -12,7 +12,7 @@ use lib.ListN.{length, drop, length-append, length-take, length-drop, length-rep
 use lib.Seq.{take_at, drop_at}
 use borrow.Author.Tests.{eqb-true, eqb-false, ne_eqb}
 use Rattle.trellis.specs.Lists.{pick, part, blocks}
-use Rattle.machine.specs.CodeLine.{Code, size, frameFault}
+use Rattle.machine.specs.CodeLine.{Code, size, frame_fault}
 use Rattle.machine.specs.Machine.{none, records, used}
 use Rattle.machine.specs.inner.Accepted.{GoodCode}
 use Rattle.machine.specs.inner.InRange.{Below, Ranged}
@@ -37,7 +37,7 @@ module _ (C : Code) (G : GoodCode C) (f : List ℕ) where
       let r = iteration-kept C G (after C f j) (after-reached j).kept in
       record { kept = r.0; after = λ h. r.1 }
 
-  pub after-ranged : frameFault C f ≡ 0 → Below 255 f → (j : ℕ) → Ranged C (after C f j).costs
+  pub after-ranged : frame_fault C f ≡ 0 → Below 255 f → (j : ℕ) → Ranged C (after C f j).costs
   unfolding after
   after-ranged h b zero = frame-ranged C f h b
   after-ranged h b (suc j) = iteration-ranged C G (after C f j) (after-ranged h b j)
@@ -68,21 +68,21 @@ pub record Exact (C : Code) (b : Buffers) : Type 0 where
   pub costs : length b.costs ≡ C.columns * size C
   pub store : length b.store ≡ used C
 
-pub exact-room : (C : Code) (b : Buffers) → Exact C b → Room C b
-exact-room C b E = record { for-symbols = omega (arith, E.symbols); for-costs = omega (arith, E.costs); for-store = omega (arith, E.store); for-margins = omega (arith, E.margins) }
+pub exact_room : (C : Code) (b : Buffers) → Exact C b → Room C b
+exact_room C b E = record { for_symbols = omega (arith, E.symbols); for_costs = omega (arith, E.costs); for_store = omega (arith, E.store); for_margins = omega (arith, E.margins) }
 
-pub own-exact : (C : Code) (n : ℕ) (b : Buffers) → RoomFor C n b → (c : ℕ) → c < n → Exact C (own_of C b c)
-own-exact C n b R c h =
+pub own_exact : (C : Code) (n : ℕ) (b : Buffers) → RoomFor C n b → (c : ℕ) → c < n → Exact C (own_of C b c)
+own_exact C n b R c h =
     record {
-      symbols = length_part b.symbols n C.columns c R.for-symbols h;
-      margins = length_part b.margins n C.columns c R.for-margins h;
-      costs = length_part b.costs n (C.columns * size C) c R.for-costs h;
-      store = length_part b.store n (used C) c R.for-store h;
+      symbols = length_part b.symbols n C.columns c R.for_symbols h;
+      margins = length_part b.margins n C.columns c R.for_margins h;
+      costs = length_part b.costs n (C.columns * size C) c R.for_costs h;
+      store = length_part b.store n (used C) c R.for_store h;
     }
 
 -- the parts of buffers made of parts
-pub own-together : (C : Code) (n : ℕ) (own : ℕ → Buffers) (b : Buffers) → ((c : ℕ) → c < n → Exact C (own c)) → (c : ℕ) → c < n → own_of C (together C n own b) c ≡ own c
-own-together C n own b E c h =
+pub own_together : (C : Code) (n : ℕ) (own : ℕ → Buffers) (b : Buffers) → ((c : ℕ) → c < n → Exact C (own c)) → (c : ℕ) → c < n → own_of C (together C n own b) c ≡ own c
+own_together C n own b E c h =
     rw (
       part-blocks (λ c. (own c).symbols) C.columns n (λ m i. (E m i).symbols) (drop (n * C.columns) b.symbols) c h,
       part-blocks (λ c. (own c).margins) C.columns n (λ m i. (E m i).margins) (drop (n * C.columns) b.margins) c h,
@@ -90,9 +90,9 @@ own-together C n own b E c h =
       part-blocks (λ c. (own c).store) (used C) n (λ m i. (E m i).store) (drop (n * used C) b.store) c h,
     )
 
-pub received-exact : (C : Code) → GoodCode C → (f : List ℕ) → Below 255 f → (j : ℕ) (own : Buffers) → Exact C own → Exact C (received C f j own)
+pub received_exact : (C : Code) → GoodCode C → (f : List ℕ) → Below 255 f → (j : ℕ) (own : Buffers) → Exact C own → Exact C (received C f j own)
 unfolding received
-received-exact C G f b j own E = go (eqb (frameFault C f) 0) refl
+received_exact C G f b j own E = go (eqb (frame_fault C f) 0) refl
   where
     positive : (j : ℕ) → j ≢ 0 → 0 < (after C f j).t
     positive zero n = absurd (n refl)
@@ -104,7 +104,7 @@ received-exact C G f b j own E = go (eqb (frameFault C f) 0) refl
         let k = length-records C G (after C f j) (after-reached C G f j) (positive j (eqb-false j 0 e)) in
         simp (length-append, length-drop) (omega (arith, E.store))
 
-    go : (i : Bool) → eqb (frameFault C f) 0 ≡ i
+    go : (i : Bool) → eqb (frame_fault C f) 0 ≡ i
         → Exact C (pick i (holding C (after C f j).costs (pick (eqb j 0) own.store (records C (after C f j) ++ drop (used C) own.store)) own) own)
     go false e = E
     go true e =
@@ -116,6 +116,6 @@ received-exact C G f b j own E = go (eqb (frameFault C f) 0) refl
           store = store_long (eqb j 0) refl;
         }
 
-pub received-refused : (C : Code) (f : List ℕ) (j : ℕ) (own : Buffers) → frameFault C f ≢ 0 → received C f j own ≡ own
+pub received-refused : (C : Code) (f : List ℕ) (j : ℕ) (own : Buffers) → frame_fault C f ≢ 0 → received C f j own ≡ own
 unfolding received
-received-refused C f j own x = rw (ne_eqb (frameFault C f) 0 x)
+received-refused C f j own x = rw (ne_eqb (frame_fault C f) 0 x)

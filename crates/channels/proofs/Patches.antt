@@ -9,13 +9,13 @@ use native.Mathlib.Omega.{arith}
 use lib.ListN.{length, take, drop, take-append-drop}
 use lib.Seq.{length-take-le, drop-append-add, drop-drop, take-add}
 use Rattle.trellis.specs.Lists.{part, patch, blocks}
-use Rattle.trellis.proofs.Loops.{blocks-ext}
+use Rattle.trellis.proofs.Loops.{blocks_ext}
 use Rattle.machine.specs.CodeLine.{Code, size}
 use Rattle.machine.specs.Machine.{used}
 use Rattle.machine.specs.Decoding.{Buffers, lending}
 use Rattle.machine.proofs.Ranges.{length-patch, part-patch, part-before, part-after, column-room}
 use Rattle.channels.specs.Channels.{own_of, together}
-use Rattle.channels.specs.inner.Rounds.{patchAt, RoomFor}
+use Rattle.channels.specs.inner.Rounds.{patch_at, RoomFor}
 use Rattle.channels.proofs.Parts.{Exact}
 
 -- a part of width w at one place, where another is patched
@@ -56,7 +56,7 @@ front-blocks l w (suc n) = ap (λ x. x ++ part l (n * w) w) (front-blocks l w n)
 by_parts : (l l₀ : List ℕ) (g : ℕ → List ℕ) (w n : ℕ) → ((c : ℕ) → c < n → part l (c * w) w ≡ g c) → drop (n * w) l ≡ drop (n * w) l₀ → l ≡ blocks g n ++ drop (n * w) l₀
 by_parts l l₀ g w n h e =
     sym (take-append-drop (n * w) l)
-    ∙ ap₂ (λ x y. x ++ y) (sym (front-blocks l w n) ∙ blocks-ext (λ c. part l (c * w) w) g n h) e
+    ∙ ap₂ (λ x y. x ++ y) (sym (front-blocks l w n) ∙ blocks_ext (λ c. part l (c * w) w) g n h) e
 
 -- a part put back where it stood
 pub patch-same : (l : List ℕ) (a n : ℕ) → patch l a n (part l a n) ≡ l
@@ -69,8 +69,8 @@ pub record Beyond (C : Code) (n : ℕ) (b₀ b : Buffers) : Type 0 where
   pub store : drop (n * used C) b.store ≡ drop (n * used C) b₀.store
   pub margins : drop (n * C.columns) b.margins ≡ drop (n * C.columns) b₀.margins
 
-pub all-parts : (C : Code) (n : ℕ) (b₀ b : Buffers) (own : ℕ → Buffers) → Beyond C n b₀ b → ((c : ℕ) → c < n → own_of C b c ≡ own c) → b ≡ together C n own b₀
-all-parts C n b₀ b own B h =
+pub all_parts : (C : Code) (n : ℕ) (b₀ b : Buffers) (own : ℕ → Buffers) → Beyond C n b₀ b → ((c : ℕ) → c < n → own_of C b c ≡ own c) → b ≡ together C n own b₀
+all_parts C n b₀ b own B h =
     four (by_parts b.symbols b₀.symbols (λ c. (own c).symbols) C.columns n (λ c i. ap (λ (o : Buffers). o.symbols) (h c i)) B.symbols)
     (by_parts b.costs b₀.costs (λ c. (own c).costs) (C.columns * size C) n (λ c i. ap (λ (o : Buffers). o.costs) (h c i)) B.costs)
     (by_parts b.store b₀.store (λ c. (own c).store) (used C) n (λ c i. ap (λ (o : Buffers). o.store) (h c i)) B.store)
@@ -83,50 +83,50 @@ module _ (C : Code) (n : ℕ) (b o : Buffers) (W : RoomFor C n b) (E : Exact C o
   fits : (l : List ℕ) (w : ℕ) → n * w ≤ length l → c * w + w ≤ length l
   fits l w g = omega (arith, column-room c n w h)
 
-  in-symbols : c * C.columns + C.columns ≤ length b.symbols
-  in-symbols = fits b.symbols C.columns W.for-symbols
+  in_symbols : c * C.columns + C.columns ≤ length b.symbols
+  in_symbols = fits b.symbols C.columns W.for_symbols
 
-  in-costs : c * (C.columns * size C) + C.columns * size C ≤ length b.costs
-  in-costs = fits b.costs (C.columns * size C) W.for-costs
+  in_costs : c * (C.columns * size C) + C.columns * size C ≤ length b.costs
+  in_costs = fits b.costs (C.columns * size C) W.for_costs
 
   in-store : c * used C + used C ≤ length b.store
-  in-store = fits b.store (used C) W.for-store
+  in-store = fits b.store (used C) W.for_store
 
   in-margins : c * C.columns + C.columns ≤ length b.margins
-  in-margins = fits b.margins C.columns W.for-margins
+  in-margins = fits b.margins C.columns W.for_margins
 
-  pub patch-room : RoomFor C n (patchAt C c b o)
+  pub patch-room : RoomFor C n (patch_at C c b o)
   patch-room =
       record {
-        for-symbols = rw (length-patch b.symbols o.symbols (c * C.columns) C.columns in-symbols E.symbols) W.for-symbols;
-        for-costs = rw (length-patch b.costs o.costs (c * (C.columns * size C)) (C.columns * size C) in-costs E.costs) W.for-costs;
-        for-store = rw (length-patch b.store o.store (c * used C) (used C) in-store E.store) W.for-store;
-        for-margins = rw (length-patch b.margins o.margins (c * C.columns) C.columns in-margins E.margins) W.for-margins;
+        for_symbols = rw (length-patch b.symbols o.symbols (c * C.columns) C.columns in_symbols E.symbols) W.for_symbols;
+        for_costs = rw (length-patch b.costs o.costs (c * (C.columns * size C)) (C.columns * size C) in_costs E.costs) W.for_costs;
+        for_store = rw (length-patch b.store o.store (c * used C) (used C) in-store E.store) W.for_store;
+        for_margins = rw (length-patch b.margins o.margins (c * C.columns) C.columns in-margins E.margins) W.for_margins;
       }
 
-  pub patch-own : own_of C (patchAt C c b o) c ≡ o
-  patch-own =
+  pub patch_own : own_of C (patch_at C c b o) c ≡ o
+  patch_own =
       rw (
-        part-patch b.symbols o.symbols (c * C.columns) C.columns in-symbols E.symbols,
-        part-patch b.costs o.costs (c * (C.columns * size C)) (C.columns * size C) in-costs E.costs,
+        part-patch b.symbols o.symbols (c * C.columns) C.columns in_symbols E.symbols,
+        part-patch b.costs o.costs (c * (C.columns * size C)) (C.columns * size C) in_costs E.costs,
         part-patch b.store o.store (c * used C) (used C) in-store E.store,
         part-patch b.margins o.margins (c * C.columns) C.columns in-margins E.margins,
       )
 
-  pub patch-other : (d : ℕ) → d < n → d ≢ c → own_of C (patchAt C c b o) d ≡ own_of C b d
+  pub patch-other : (d : ℕ) → d < n → d ≢ c → own_of C (patch_at C c b o) d ≡ own_of C b d
   patch-other d i k =
       rw (
-        patched b.symbols o.symbols c d C.columns n W.for-symbols h i k E.symbols,
-        patched b.costs o.costs c d (C.columns * size C) n W.for-costs h i k E.costs,
-        patched b.store o.store c d (used C) n W.for-store h i k E.store,
-        patched b.margins o.margins c d C.columns n W.for-margins h i k E.margins,
+        patched b.symbols o.symbols c d C.columns n W.for_symbols h i k E.symbols,
+        patched b.costs o.costs c d (C.columns * size C) n W.for_costs h i k E.costs,
+        patched b.store o.store c d (used C) n W.for_store h i k E.store,
+        patched b.margins o.margins c d C.columns n W.for_margins h i k E.margins,
       )
 
-  pub patch-beyond : (b₀ : Buffers) → Beyond C n b₀ b → Beyond C n b₀ (patchAt C c b o)
-  patch-beyond b₀ B =
+  pub patch_beyond : (b₀ : Buffers) → Beyond C n b₀ b → Beyond C n b₀ (patch_at C c b o)
+  patch_beyond b₀ B =
       record {
-        symbols = drop-patch b.symbols o.symbols (c * C.columns) C.columns (n * C.columns) in-symbols E.symbols (column-room c n C.columns h) ∙ B.symbols;
-        costs = drop-patch b.costs o.costs (c * (C.columns * size C)) (C.columns * size C) (n * (C.columns * size C)) in-costs E.costs (column-room c n (C.columns * size C) h) ∙ B.costs;
+        symbols = drop-patch b.symbols o.symbols (c * C.columns) C.columns (n * C.columns) in_symbols E.symbols (column-room c n C.columns h) ∙ B.symbols;
+        costs = drop-patch b.costs o.costs (c * (C.columns * size C)) (C.columns * size C) (n * (C.columns * size C)) in_costs E.costs (column-room c n (C.columns * size C) h) ∙ B.costs;
         store = drop-patch b.store o.store (c * used C) (used C) (n * used C) in-store E.store (column-room c n (used C) h) ∙ B.store;
         margins = drop-patch b.margins o.margins (c * C.columns) C.columns (n * C.columns) in-margins E.margins (column-room c n C.columns h) ∙ B.margins;
       }

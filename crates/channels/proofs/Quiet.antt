@@ -8,14 +8,14 @@ use lib.Dec.{eqb}
 use borrow.Author.Tests.{eqb-false}
 use Rattle.trellis.specs.Lists.{pick, upto}
 use Rattle.machine.specs.CodeLine.{Code}
-use Rattle.channels.specs.inner.Rounds.{Standing, statusAt, movedAt, servingAt, roundAt, roundsAt}
+use Rattle.channels.specs.inner.Rounds.{Standing, status_at, moved_at, serving_at, round_at, rounds_at}
 
 module _ (C : Code) (n : ℕ) where
-  serving-left : (c : ℕ) (l : Standing) → (servingAt C c l ≡ l) ⊎ ((servingAt C c l).left < l.left)
-  unfolding servingAt movedAt
-  serving-left c l = go (not (eqb (statusAt l c) 20)) (eqb l.left 0) refl
+  serving-left : (c : ℕ) (l : Standing) → (serving_at C c l ≡ l) ⊎ ((serving_at C c l).left < l.left)
+  unfolding serving_at moved_at
+  serving-left c l = go (not (eqb (status_at l c) 20)) (eqb l.left 0) refl
     where
-      go : (i j : Bool) → eqb l.left 0 ≡ j → (pick (i || j) l (movedAt C c l) ≡ l) ⊎ ((pick (i || j) l (movedAt C c l)).left < l.left)
+      go : (i j : Bool) → eqb l.left 0 ≡ j → (pick (i || j) l (moved_at C c l) ≡ l) ⊎ ((pick (i || j) l (moved_at C c l)).left < l.left)
       go true j e = inl refl
       go false true e = inl refl
       go false false e = inr (less l.left (eqb-false l.left 0 e))
@@ -24,65 +24,65 @@ module _ (C : Code) (n : ℕ) where
           less zero h = absurd (h refl)
           less (suc x) h = omega arith
 
-  servings-left : (k : ℕ) (l : Standing) → (upto (servingAt C) k l ≡ l) ⊎ ((upto (servingAt C) k l).left < l.left)
+  servings-left : (k : ℕ) (l : Standing) → (upto (serving_at C) k l ≡ l) ⊎ ((upto (serving_at C) k l).left < l.left)
   servings-left zero l = inl refl
-  servings-left (suc k) l = go (servings-left k l) (serving-left k (upto (servingAt C) k l))
+  servings-left (suc k) l = go (servings-left k l) (serving-left k (upto (serving_at C) k l))
     where
       m : Standing
-      m = upto (servingAt C) k l
+      m = upto (serving_at C) k l
 
-      go : (m ≡ l) ⊎ (m.left < l.left) → (servingAt C k m ≡ m) ⊎ ((servingAt C k m).left < m.left) → (servingAt C k m ≡ l) ⊎ ((servingAt C k m).left < l.left)
+      go : (m ≡ l) ⊎ (m.left < l.left) → (serving_at C k m ≡ m) ⊎ ((serving_at C k m).left < m.left) → (serving_at C k m ≡ l) ⊎ ((serving_at C k m).left < l.left)
       go (inl a) (inl b) = inl (b ∙ a)
       go (inl a) (inr b) = let e : m.left ≡ l.left = ap (λ (x : Standing). x.left) a in inr (omega arith)
-      go (inr a) (inl b) = let e : (servingAt C k m).left ≡ m.left = ap (λ (x : Standing). x.left) b in inr (omega arith)
+      go (inr a) (inl b) = let e : (serving_at C k m).left ≡ m.left = ap (λ (x : Standing). x.left) b in inr (omega arith)
       go (inr a) (inr b) = inr (omega arith)
 
-  pub round-left : (l : Standing) → (roundAt C n l ≡ l) ⊎ ((roundAt C n l).left < l.left)
-  unfolding roundAt
-  round-left l = servings-left n l
+  pub round_left : (l : Standing) → (round_at C n l ≡ l) ⊎ ((round_at C n l).left < l.left)
+  unfolding round_at
+  round_left l = servings-left n l
 
   abbrev R : Standing → Standing
-  R = roundAt C n
+  R = round_at C n
 
-  rounds-first : (k : ℕ) (l : Standing) → roundsAt C n (suc k) l ≡ roundsAt C n k (R l)
-  rounds-first zero l = refl
-  rounds-first (suc k) l = ap R (rounds-first k l)
+  rounds_first : (k : ℕ) (l : Standing) → rounds_at C n (suc k) l ≡ rounds_at C n k (R l)
+  rounds_first zero l = refl
+  rounds_first (suc k) l = ap R (rounds_first k l)
 
   -- a round that changes nothing is followed by such rounds only
-  pub quiet : (k : ℕ) (l : Standing) → R l ≡ l → roundsAt C n k l ≡ l
+  pub quiet : (k : ℕ) (l : Standing) → R l ≡ l → rounds_at C n k l ≡ l
   quiet zero l e = refl
   quiet (suc k) l e = ap R (quiet k l e) ∙ e
 
   -- as many rounds as iterations are left are enough
-  pub enough : (a : ℕ) (l : Standing) → l.left ≤ a → (k : ℕ) → l.left ≤ k → roundsAt C n k l ≡ roundsAt C n l.left l
-  enough zero l h k i = ⊎_elim (λ e. quiet k l e ∙ sym (quiet l.left l e)) (λ s. absurd (omega arith)) (round-left l)
+  pub enough : (a : ℕ) (l : Standing) → l.left ≤ a → (k : ℕ) → l.left ≤ k → rounds_at C n k l ≡ rounds_at C n l.left l
+  enough zero l h k i = ⊎_elim (λ e. quiet k l e ∙ sym (quiet l.left l e)) (λ s. absurd (omega arith)) (round_left l)
   enough (suc a) l h k i =
-      ⊎_elim (λ e. quiet k l e ∙ sym (quiet l.left l e)) (λ s. more k l.left refl i s (λ m g. enough a (R l) (omega arith) m g)) (round-left l)
+      ⊎_elim (λ e. quiet k l e ∙ sym (quiet l.left l e)) (λ s. more k l.left refl i s (λ m g. enough a (R l) (omega arith) m g)) (round_left l)
     where
-      more : (k x : ℕ) → l.left ≡ x → l.left ≤ k → (R l).left < l.left → ((m : ℕ) → (R l).left ≤ m → roundsAt C n m (R l) ≡ roundsAt C n (R l).left (R l))
-          → roundsAt C n k l ≡ roundsAt C n x l
+      more : (k x : ℕ) → l.left ≡ x → l.left ≤ k → (R l).left < l.left → ((m : ℕ) → (R l).left ≤ m → rounds_at C n m (R l) ≡ rounds_at C n (R l).left (R l))
+          → rounds_at C n k l ≡ rounds_at C n x l
       more zero x e i s f = absurd (omega arith)
       more (suc k) zero e i s f = absurd (omega arith)
-      more (suc k) (suc x) e i s f = rounds-first k l ∙ f k (omega arith) ∙ sym (rounds-first x l ∙ f x (omega arith))
+      more (suc k) (suc x) e i s f = rounds_first k l ∙ f k (omega arith) ∙ sym (rounds_first x l ∙ f x (omega arith))
 
-  round-more : (l : Standing) (x : ℕ) → l.left ≡ x → ((R l).left ≡ l.left → ⊥) → roundsAt C n (R l).left (R l) ≡ roundsAt C n x l
-  round-more l x e h = ⊎_elim (λ s. absurd (h (ap (λ (x : Standing). x.left) s))) (λ s. go x e s) (round-left l)
+  round_more : (l : Standing) (x : ℕ) → l.left ≡ x → ((R l).left ≡ l.left → ⊥) → rounds_at C n (R l).left (R l) ≡ rounds_at C n x l
+  round_more l x e h = ⊎_elim (λ s. absurd (h (ap (λ (x : Standing). x.left) s))) (λ s. go x e s) (round_left l)
     where
-      go : (x : ℕ) → l.left ≡ x → (R l).left < l.left → roundsAt C n (R l).left (R l) ≡ roundsAt C n x l
+      go : (x : ℕ) → l.left ≡ x → (R l).left < l.left → rounds_at C n (R l).left (R l) ≡ rounds_at C n x l
       go zero e s = absurd (omega arith)
-      go (suc x) e s = sym (rounds-first x l ∙ enough x (R l) (omega arith) x (omega arith))
+      go (suc x) e s = sym (rounds_first x l ∙ enough x (R l) (omega arith) x (omega arith))
 
   -- one pass of the loop, where l' is what a round leaves of l and T is where the rounds end: with nothing spent l' is the end, with something
   -- spent as many rounds as are left give the same end, and fewer are left
-  module _ (l l' T : Standing) (is : l' ≡ roundAt C n l) where
+  module _ (l l' T : Standing) (is : l' ≡ round_at C n l) where
     left_is : l'.left ≡ (R l).left
     left_is = ap (λ (x : Standing). x.left) is
 
-    pub end-law : l'.left ≡ l.left → roundsAt C n l.left l ≡ T → l' ≡ T
-    end-law e h = ⊎_elim (λ s. is ∙ s ∙ sym (quiet l.left l s) ∙ h) (λ s. absurd (omega (arith, left_is))) (round-left l)
+    pub end_law : l'.left ≡ l.left → rounds_at C n l.left l ≡ T → l' ≡ T
+    end_law e h = ⊎_elim (λ s. is ∙ s ∙ sym (quiet l.left l s) ∙ h) (λ s. absurd (omega (arith, left_is))) (round_left l)
 
-    pub more-law : (l'.left ≡ l.left → ⊥) → roundsAt C n l.left l ≡ T → roundsAt C n l'.left l' ≡ T
-    more-law e h = ap (λ (x : Standing). roundsAt C n x.left x) is ∙ round-more l l.left refl (λ g. e (left_is ∙ g)) ∙ h
+    pub more_law : (l'.left ≡ l.left → ⊥) → rounds_at C n l.left l ≡ T → rounds_at C n l'.left l' ≡ T
+    more_law e h = ap (λ (x : Standing). rounds_at C n x.left x) is ∙ round_more l l.left refl (λ g. e (left_is ∙ g)) ∙ h
 
-    pub less-law : (l'.left ≡ l.left → ⊥) → l'.left < l.left
-    less-law e = ⊎_elim (λ s. absurd (e (left_is ∙ ap (λ (x : Standing). x.left) s))) (λ s. omega (arith, left_is)) (round-left l)
+    pub less_law : (l'.left ≡ l.left → ⊥) → l'.left < l.left
+    less_law e = ⊎_elim (λ s. absurd (e (left_is ∙ ap (λ (x : Standing). x.left) s))) (λ s. omega (arith, left_is)) (round_left l)

@@ -8,7 +8,7 @@ use native.Mathlib.Omega.{arith}
 use lib.ListN.{replicate}
 use Rattle.trellis.specs.Lists.{upto}
 use Rattle.channels.specs.Serving.{Served, serving, servings, serve}
-use Rattle.channels.proofs.Servings.{Iterates, Skips, serving-cases}
+use Rattle.channels.proofs.Servings.{Iterates, Skips, serving_cases}
 
 module _ (fin : ℕ → ℕ → Bool) (n A : ℕ) where
   -- one round: each channel's serving, by number
@@ -41,32 +41,32 @@ module _ (fin : ℕ → ℕ → Bool) (n A : ℕ) where
   after-rounds zero = ap (servings fin n A) (mul-zero n) ∙ first
   after-rounds (suc r) = ap (servings fin n A) (mul-suc n r) ∙ within-round r (rounds r unserved) (after-rounds r) n (omega arith)
 
-  pub serve-rounds : serve fin n A ≡ rounds A unserved
-  serve-rounds = after-rounds A
+  pub serve_rounds : serve fin n A ≡ rounds A unserved
+  serve_rounds = after-rounds A
 
   -- the first of some rounds, and then the others
-  pub rounds-first : (k : ℕ) (s : Served) → rounds (suc k) s ≡ rounds k (round s)
-  rounds-first zero s = refl
-  rounds-first (suc k) s = ap round (rounds-first k s)
+  pub rounds_first : (k : ℕ) (s : Served) → rounds (suc k) s ≡ rounds k (round s)
+  rounds_first zero s = refl
+  rounds_first (suc k) s = ap round (rounds_first k s)
 
   -- a round that leaves as much as it found has served nobody, and so do those after it
   falls : (c : ℕ) (s : Served) → (upto (serving fin) c s).left ≤ s.left
   falls zero s = omega arith
   falls (suc c) s =
       ⊎_elim (λ (M : Iterates fin c (upto (serving fin) c s) (serving fin c (upto (serving fin) c s))). omega (arith, M.left, falls c s))
-      (λ (K : Skips fin c (upto (serving fin) c s) (serving fin c (upto (serving fin) c s))). rw K.same (falls c s)) (serving-cases fin c (upto (serving fin) c s))
+      (λ (K : Skips fin c (upto (serving fin) c s) (serving fin c (upto (serving fin) c s))). rw K.same (falls c s)) (serving_cases fin c (upto (serving fin) c s))
 
   nobody : (c : ℕ) (s : Served) → (upto (serving fin) c s).left ≡ s.left → upto (serving fin) c s ≡ s
   nobody zero s e = refl
   nobody (suc c) s e =
       ⊎_elim (λ (M : Iterates fin c (upto (serving fin) c s) (serving fin c (upto (serving fin) c s))). absurd (omega (arith, M.left, M.some, falls c s)))
       (λ (K : Skips fin c (upto (serving fin) c s) (serving fin c (upto (serving fin) c s))).
-      K.same ∙ nobody c s (ap (λ (s : Served). s.left) (sym K.same) ∙ e)) (serving-cases fin c (upto (serving fin) c s))
+      K.same ∙ nobody c s (ap (λ (s : Served). s.left) (sym K.same) ∙ e)) (serving_cases fin c (upto (serving fin) c s))
 
-  pub quiet-round : (s : Served) → (round s).left ≡ s.left → round s ≡ s
+  pub quiet_round : (s : Served) → (round s).left ≡ s.left → round s ≡ s
   unfolding round
-  quiet-round s e = nobody n s e
+  quiet_round s e = nobody n s e
 
-  pub quiet-rounds : (k : ℕ) (s : Served) → (round s).left ≡ s.left → rounds k s ≡ s
-  quiet-rounds zero s e = refl
-  quiet-rounds (suc k) s e = ap round (quiet-rounds k s e) ∙ quiet-round s e
+  pub quiet_rounds : (k : ℕ) (s : Served) → (round s).left ≡ s.left → rounds k s ≡ s
+  quiet_rounds zero s e = refl
+  quiet_rounds (suc k) s e = ap round (quiet_rounds k s e) ∙ quiet_round s e

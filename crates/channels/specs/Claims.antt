@@ -1,7 +1,7 @@
 -- What is claimed of the channels of a call that is not refused.
 use Rattle.std.specs.Prelude.{◌≡◌, ◌≢◌, true, false, List, [], map, ℕ, ◌≤◌, ◌<◌, get_or, set}
-use Rattle.trellis.specs.Reply.{Reply, refusal, foundIn}
-use Rattle.machine.specs.CodeLine.{good, Code, parse, frameFault}
+use Rattle.trellis.specs.Reply.{Reply, refusal, found_in}
+use Rattle.machine.specs.CodeLine.{good, Code, parse, frame_fault}
 use Rattle.machine.specs.Machine.{settled}
 use Rattle.machine.specs.Decoding.{Buffers, holding, decoding}
 use Rattle.channels.specs.Serving.{Fair, sum}
@@ -14,8 +14,8 @@ pub record IsServed (n A : ℕ) (code fs : List ℕ) (b : Buffers) (C : Code) : 
   pub served : (channels n A code fs b).number ≡ 0
 
 -- "refuse the whole call": a refusal reports no iterations and no results, and changes no lent byte
-abbrev pub Channels-whole : Type 0
-Channels-whole =
+abbrev pub ChannelsWhole : Type 0
+ChannelsWhole =
     (n A : ℕ) (code fs : List ℕ) (b : Buffers) → (channels n A code fs b).number ≢ 0
     → ((channels n A code fs b).spent ≡ 0) × ((channels n A code fs b).answers ≡ []) × ((channels n A code fs b).buffers ≡ b)
 
@@ -23,28 +23,28 @@ Channels-whole =
 abbrev pub nothing : Reply
 nothing = record { refused = false; number = 0; value = 0 }
 
-abbrev pub answerAt : Results → ℕ → Reply
-answerAt r c = get_or r.answers c nothing
+abbrev pub answer_at : Results → ℕ → Reply
+answer_at r c = get_or r.answers c nothing
 
 -- "a frame found at t = 0 costs nothing"
-abbrev pub Channels-found-first : Type 0
-Channels-found-first =
+abbrev pub ChannelsFoundFirst : Type 0
+ChannelsFoundFirst =
     (n A : ℕ) (code fs : List ℕ) (b : Buffers) (C : Code) → IsServed n A code fs b C → (c : ℕ) → c < n
-    → frameFault C (frame_of C fs c) ≡ 0 → settled C (frame_of C fs c) ≡ true
-    → answerAt (channels n A code fs b) c ≡ foundIn 0
+    → frame_fault C (frame_of C fs c) ≡ 0 → settled C (frame_of C fs c) ≡ true
+    → answer_at (channels n A code fs b) c ≡ found_in 0
 
 -- "With u channels unfinished and at least u iterations of A left, each unfinished one gets its next iteration within u."
-abbrev pub Channels-fair : Type 0
-Channels-fair =
+abbrev pub ChannelsFair : Type 0
+ChannelsFair =
     (n A : ℕ) (code fs : List ℕ) (b : Buffers) (C : Code) → IsServed n A code fs b C → Fair (λ c. finished C (frame_of C fs c)) n A
 
 -- "The iterations of all results add up to at most A, and to exactly A if any channel is spent."
-abbrev pub Channels-sum : Type 0
-Channels-sum =
+abbrev pub ChannelsSum : Type 0
+ChannelsSum =
     (n A : ℕ) (code fs : List ℕ) (b : Buffers) (C : Code) → IsServed n A code fs b C
     → ((channels n A code fs b).spent ≡ sum (map (λ a. a.value) (channels n A code fs b).answers))
     × ((channels n A code fs b).spent ≤ A)
-    × ((c : ℕ) → c < n → (answerAt (channels n A code fs b) c).number ≡ 20 → (channels n A code fs b).spent ≡ A)
+    × ((c : ℕ) → c < n → (answer_at (channels n A code fs b) c).number ≡ 20 → (channels n A code fs b).spent ≡ A)
 
 -- "decoding it alone with iteration limit j": the code line with j in byte 5
 abbrev pub limited : List ℕ → ℕ → List ℕ
@@ -67,16 +67,16 @@ pub record Alone (code : List ℕ) (C : Code) (f : List ℕ) (j : ℕ) (own own'
   pub none : j ≡ 0 → AtNone C f own own'
 
 -- each channel that is not refused
-abbrev pub Channels-alone : Type 0
-Channels-alone =
+abbrev pub ChannelsAlone : Type 0
+ChannelsAlone =
     (n A : ℕ) (code fs : List ℕ) (b : Buffers) (C : Code) → IsServed n A code fs b C → (c : ℕ) → c < n
-    → (answerAt (channels n A code fs b) c).refused ≡ false
-    → Alone code C (frame_of C fs c) (answerAt (channels n A code fs b) c).value
-    (own_of C b c) (own_of C (channels n A code fs b).buffers c) (answerAt (channels n A code fs b) c)
+    → (answer_at (channels n A code fs b) c).refused ≡ false
+    → Alone code C (frame_of C fs c) (answer_at (channels n A code fs b) c).value
+    (own_of C b c) (own_of C (channels n A code fs b).buffers c) (answer_at (channels n A code fs b) c)
 
 -- "Only 13 is a channel's own: its parts of the buffers are unchanged and the others are served as before."
-abbrev pub Channels-refused : Type 0
-Channels-refused =
+abbrev pub ChannelsRefused : Type 0
+ChannelsRefused =
     (n A : ℕ) (code fs : List ℕ) (b : Buffers) (C : Code) → IsServed n A code fs b C → (c : ℕ) → c < n
-    → (answerAt (channels n A code fs b) c).refused ≡ true
-    → (answerAt (channels n A code fs b) c ≡ refusal 13) × (own_of C (channels n A code fs b).buffers c ≡ own_of C b c)
+    → (answer_at (channels n A code fs b) c).refused ≡ true
+    → (answer_at (channels n A code fs b) c ≡ refusal 13) × (own_of C (channels n A code fs b).buffers c ≡ own_of C b c)

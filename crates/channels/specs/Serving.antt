@@ -34,7 +34,7 @@ unfinished finished n s = length (keep (λ c. not (finished c (count_of s c))) (
 -- made, by all channels together
 pub record Next (finished : ℕ → ℕ → Bool) (n A k c : ℕ) : Type 0 where
   pub more : ℕ
-  pub in-time : k + more ≤ n * A
+  pub in_time : k + more ≤ n * A
   pub next : count_of (servings finished n A (k + more)) c ≡ count_of (servings finished n A k) c + 1
   pub within : (servings finished n A k).left ≤ (servings finished n A (k + more)).left + unfinished finished n (servings finished n A k)
 

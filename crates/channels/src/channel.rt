@@ -1,9 +1,9 @@
 // One channel in its parts of the buffers: its load and its next iteration.
 ghost use Rattle.std.specs.Prelude.{◌≡◌};
 ghost use Rattle.machine.specs.Decoding.{lending};
-ghost use Rattle.layered.specs.Answers.{stageOf};
-ghost use Rattle.channels.specs.inner.Rounds.{statusOf, loadAt, stepAt, unstored};
-ghost use Rattle.channels.specs.inner.Layouts.{codeFor, LoadRoom, NextRoom, Puts};
+ghost use Rattle.layered.specs.Answers.{stage_of};
+ghost use Rattle.channels.specs.inner.Rounds.{status_of, load_at, step_at, unstored};
+ghost use Rattle.channels.specs.inner.Layouts.{code_for, LoadRoom, NextRoom, Puts};
 
 use crate::layout::Layout;
 use layered::answers::Stage;
@@ -11,7 +11,7 @@ use layered::stages;
 
 // 20 while running: at the end it is the channel's status.
 fn status_of(s: Stage) -> u8
-    ensures { result ≡ statusOf (stageOf s) }
+    ensures { result ≡ status_of (stage_of s) }
 {
     match s {
         Stage::Running => 20,
@@ -35,9 +35,9 @@ pub fn load_at(
     margins: &mut [u16],
 ) -> u8
     requires { LoadRoom c layout degrees.now columns.now weights.now frames.now symbols.old costs.old margins.old }
-    ensures { Puts (codeFor layout degrees.now columns.now weights.now) c
+    ensures { Puts (code_for layout degrees.now columns.now weights.now) c
         (unstored symbols.old costs.old margins.old)
-        (loadAt (codeFor layout degrees.now columns.now weights.now) frames.now c
+        (load_at (code_for layout degrees.now columns.now weights.now) frames.now c
         (unstored symbols.old costs.old margins.old)) result
         (unstored symbols.new costs.new margins.new) }
 {
@@ -79,9 +79,9 @@ pub fn step_at(
 ) -> u8
     requires { NextRoom c t layout degrees.now columns.now weights.now (lending symbols.old costs.old store.old margins.old)
         arrived.old sent.old }
-    ensures { Puts (codeFor layout degrees.now columns.now weights.now) c
+    ensures { Puts (code_for layout degrees.now columns.now weights.now) c
         (lending symbols.old costs.old store.old margins.old)
-        (stepAt (codeFor layout degrees.now columns.now weights.now) c t
+        (step_at (code_for layout degrees.now columns.now weights.now) c t
         (lending symbols.old costs.old store.old margins.old)) result
         (lending symbols.new costs.new store.new margins.new) }
 {

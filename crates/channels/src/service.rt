@@ -1,8 +1,8 @@
 // The channels in turn: all loaded, then rounds in which each that is running gets one iteration.
 ghost use Rattle.std.specs.Prelude.{◌≡◌};
 ghost use Rattle.machine.specs.Decoding.{lending};
-ghost use Rattle.channels.specs.inner.Rounds.{standing, loadStanding, servingAt, loadedTo, roundAt, roundsAt};
-ghost use Rattle.channels.specs.inner.Layouts.{codeFor, LoadsRoom, OneRoom, RoundRoom, ServeRoom};
+ghost use Rattle.channels.specs.inner.Rounds.{standing, load_standing, serving_at, loaded_to, round_at, rounds_at};
+ghost use Rattle.channels.specs.inner.Layouts.{code_for, LoadsRoom, OneRoom, RoundRoom, ServeRoom};
 
 use crate::channel;
 use crate::layout::Layout;
@@ -23,9 +23,9 @@ pub fn load_all(
 )
     requires { LoadsRoom count layout degrees.now columns.now weights.now frames.now symbols.old costs.old margins.old
         status.old }
-    ensures { loadStanding status.new symbols.new costs.new margins.new
-        ≡ loadedTo (codeFor layout degrees.now columns.now weights.now) frames.now count
-        (loadStanding status.old symbols.old costs.old margins.old) }
+    ensures { load_standing status.new symbols.new costs.new margins.new
+        ≡ loaded_to (code_for layout degrees.now columns.now weights.now) frames.now count
+        (load_standing status.old symbols.old costs.old margins.old) }
 {
     let mut c = 0;
     while c < count {
@@ -58,7 +58,7 @@ fn serve_at(
         sent.old }
     ensures { standing status.new counts.new result
         (lending symbols.new costs.new store.new margins.new)
-        ≡ servingAt (codeFor layout degrees.now columns.now weights.now) c
+        ≡ serving_at (code_for layout degrees.now columns.now weights.now) c
         (standing status.old counts.old left
         (lending symbols.old costs.old store.old margins.old)) }
 {
@@ -98,7 +98,7 @@ fn round(
         sent.old }
     ensures { standing status.new counts.new result
         (lending symbols.new costs.new store.new margins.new)
-        ≡ roundAt (codeFor layout degrees.now columns.now weights.now) count
+        ≡ round_at (code_for layout degrees.now columns.now weights.now) count
         (standing status.old counts.old left
         (lending symbols.old costs.old store.old margins.old)) }
 {
@@ -136,7 +136,7 @@ fn rounds(
         sent.old }
     ensures { standing status.new counts.new result
         (lending symbols.new costs.new store.new margins.new)
-        ≡ roundsAt (codeFor layout degrees.now columns.now weights.now) count allowance
+        ≡ rounds_at (code_for layout degrees.now columns.now weights.now) count allowance
         (standing status.old counts.old allowance
         (lending symbols.old costs.old store.old margins.old)) }
 {
@@ -172,7 +172,7 @@ pub fn serve(
         (standing status.old counts.old allowance (lending symbols.old costs.old store.old margins.old)) }
     ensures { standing status.new counts.new result
         (lending symbols.new costs.new store.new margins.new)
-        ≡ roundsAt (codeFor layout degrees.now columns.now weights.now) count allowance
+        ≡ rounds_at (code_for layout degrees.now columns.now weights.now) count allowance
         (standing status.old counts.old allowance
         (lending symbols.old costs.old store.old margins.old)) }
 {

@@ -4,7 +4,7 @@ ghost use Rattle.machine.specs.CodeLine.{good};
 ghost use Rattle.machine.specs.Decoding.{Buffers, lending};
 ghost use Rattle.channels.specs.Channels.{refusing, under, channels};
 ghost use Rattle.channels.specs.Answers.{Gives};
-ghost use Rattle.channels.specs.inner.Layouts.{codeFor, countFault, faultFor, FaultRoom, UnderRoom};
+ghost use Rattle.channels.specs.inner.Layouts.{code_for, count_fault, fault_for, FaultRoom, UnderRoom};
 
 use crate::answers::Served;
 use crate::layout::Layout;
@@ -26,7 +26,7 @@ fn refused(k: u8) -> Served
 
 // "21, channel count not 1 to 8, before all; 22, A is 0, after 21"; 0 for neither.
 fn count_fault(count: u8, allowance: u32) -> u8
-    ensures { result ≡ countFault count allowance }
+    ensures { result ≡ count_fault count allowance }
 {
     if count < 1 {
         return 21;
@@ -51,7 +51,7 @@ fn fault(
     margins: usize,
 ) -> u8
     requires { FaultRoom count layout }
-    ensures { result ≡ faultFor count layout frames symbols costs store margins }
+    ensures { result ≡ fault_for count layout frames symbols costs store margins }
 {
     let w = count * layout.costs;
     if frames != w {
@@ -84,7 +84,7 @@ fn under_code(
 ) -> Served
     requires { UnderRoom count layout degrees.now columns.now weights.now }
     ensures { Gives
-        (under (good (codeFor layout degrees.now columns.now weights.now)) count allowance
+        (under (good (code_for layout degrees.now columns.now weights.now)) count allowance
         frames.now (lending symbols.old costs.old store.old margins.old))
         result.number result.spent result.status result.iterations
         (lending symbols.new costs.new store.new margins.new) }

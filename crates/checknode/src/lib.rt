@@ -5,15 +5,15 @@ mod refusals;
 mod send;
 
 ghost use Rattle.std.specs.Prelude.{◌≡◌};
-ghost use Rattle.field.specs.Answers.{writtenReply};
-ghost use Rattle.checknode.specs.Answers.{checkFault, checkReply, checkLeaves, messagesReply, messagesLeaves, messagesSent};
+ghost use Rattle.field.specs.Answers.{written_reply};
+ghost use Rattle.checknode.specs.Answers.{check_fault, check_reply, check_leaves, messages_reply, messages_leaves, messages_sent};
 
 use field::Written;
 
 // The number by which a check is refused whose record buffer has `room` bytes, or 0: 6, the first byte; 9, degree not 2 to 32; 11, a
 // weight 0 or no element; 12, cost count; 13, a column without a cost of 0; 4, record buffer too short.
 pub fn check_fault(first: u8, weights: &[u8], costs: &[u8], room: usize) -> u8
-    ensures { result ≡ checkFault first weights.now costs.now room }
+    ensures { result ≡ check_fault first weights.now costs.now room }
 {
     refusals::check_fault(first, weights, costs, room)
 }
@@ -21,8 +21,8 @@ pub fn check_fault(first: u8, weights: &[u8], costs: &[u8], room: usize) -> u8
 // The record of a check: from the first code byte, d weights and d times q costs, column by column, d + (1 + 2k)(q - 1) bytes. Refused as
 // `check_fault` says.
 pub fn check(first: u8, weights: &[u8], costs: &[u8], out: &mut [u8]) -> Written
-    ensures reply { writtenReply result ≡ checkReply first weights.now costs.now out.old }
-    ensures out_then { out.new ≡ checkLeaves first weights.now costs.now out.old }
+    ensures reply { written_reply result ≡ check_reply first weights.now costs.now out.old }
+    ensures out_then { out.new ≡ check_leaves first weights.now costs.now out.old }
 {
     let k = refusals::check_fault(first, weights, costs, out.len());
     if k != 0 {
@@ -37,9 +37,9 @@ pub fn check(first: u8, weights: &[u8], costs: &[u8], out: &mut [u8]) -> Written
 // The record of a check and, in a second buffer, its sent costs: d times q bytes, column by column, each column by x. Refused as a check
 // is; last 2, the second buffer too short. The answer is how many bytes the record has, as of a check.
 pub fn messages(first: u8, weights: &[u8], costs: &[u8], out: &mut [u8], sent: &mut [u8]) -> Written
-    ensures reply { writtenReply result ≡ messagesReply first weights.now costs.now out.old sent.old }
-    ensures out_then { out.new ≡ messagesLeaves first weights.now costs.now out.old sent.old }
-    ensures sent_then { sent.new ≡ messagesSent first weights.now costs.now out.old sent.old }
+    ensures reply { written_reply result ≡ messages_reply first weights.now costs.now out.old sent.old }
+    ensures out_then { out.new ≡ messages_leaves first weights.now costs.now out.old sent.old }
+    ensures sent_then { sent.new ≡ messages_sent first weights.now costs.now out.old sent.old }
 {
     let k = refusals::check_fault(first, weights, costs, out.len());
     if k != 0 {

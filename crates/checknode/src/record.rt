@@ -2,13 +2,13 @@
 // 255, and each deviation takes its cost off, so that two costs are never added.
 ghost use Rattle.std.specs.Prelude.{◌≡◌, ◌*◌, ◌≤◌, max, length};
 ghost use Rattle.trellis.specs.Lists.{tab, blocks};
-ghost use Rattle.trellis.specs.Check.{allSent};
-ghost use Rattle.trellis.specs.Record.{recordOf, recordLength};
-ghost use Rattle.trellis.specs.Rules.{ruleFor, powerOf, size_of, columnsOf};
+ghost use Rattle.trellis.specs.Check.{all_sent};
+ghost use Rattle.trellis.specs.Record.{record_of, record_length};
+ghost use Rattle.trellis.specs.Rules.{rule_for, power_of, size_of, columns_of};
 ghost use Rattle.trellis.specs.Ready.{Ready};
-ghost use Rattle.trellis.specs.Sizes.{mostDegree, mostSize};
+ghost use Rattle.trellis.specs.Sizes.{most_degree, most_size};
 ghost use Rattle.field.specs.Answers.{row_of};
-ghost use Rattle.checknode.specs.inner.Asks.{shiftsOf};
+ghost use Rattle.checknode.specs.inner.Asks.{shifts_of};
 ghost use Rattle.checknode.specs.inner.Lines.{RestsRoom, Rests};
 
 use crate::{lines, send};
@@ -16,8 +16,8 @@ use scalar::sizes;
 
 // The length of a record of degree d.
 pub fn record_bytes(first: u8, d: usize) -> usize
-    requires { d ≤ mostDegree }
-    ensures { result ≡ recordLength (ruleFor first) d }
+    requires { d ≤ most_degree }
+    ensures { result ≡ record_length (rule_for first) d }
 {
     d + rules::groups(first)
 }
@@ -40,12 +40,12 @@ fn rests_with(
     shifts: &mut [u8],
 )
     requires ready { Ready first weights.now costs.now }
-    requires rows_value { rows.now ≡ blocks (row_of (powerOf first) weights.now) (length weights.now) }
-    requires rests_room { RestsRoom (powerOf first) (length weights.now) rests.old shifts.old
+    requires rows_value { rows.now ≡ blocks (row_of (power_of first) weights.now) (length weights.now) }
+    requires rests_room { RestsRoom (power_of first) (length weights.now) rests.old shifts.old
         × (length weights.now * max 16 (size_of first) ≤ length lines.old) }
     requires lines_value { lines.old ≡ tab (λ a. 0) (length lines.old) }
     ensures rests_then { Rests first weights.now costs.now rests.new }
-    ensures shifts_then { shifts.new ≡ shiftsOf (powerOf first) weights.now costs.now }
+    ensures shifts_then { shifts.new ≡ shifts_of (power_of first) weights.now costs.now }
 {
     let d = weights.len();
     let l = side(rules::size(first));
@@ -65,10 +65,10 @@ fn rests_in(
     shifts: &mut [u8],
 )
     requires ready { Ready first weights.now costs.now }
-    requires rows_value { rows.now ≡ blocks (row_of (powerOf first) weights.now) (length weights.now) }
-    requires rests_room { RestsRoom (powerOf first) (length weights.now) rests.old shifts.old }
+    requires rows_value { rows.now ≡ blocks (row_of (power_of first) weights.now) (length weights.now) }
+    requires rests_room { RestsRoom (power_of first) (length weights.now) rests.old shifts.old }
     ensures rests_then { Rests first weights.now costs.now rests.new }
-    ensures shifts_then { shifts.new ≡ shiftsOf (powerOf first) weights.now costs.now }
+    ensures shifts_then { shifts.new ≡ shifts_of (power_of first) weights.now costs.now }
 {
     if rules::power(first) <= 4 {
         let mut lines = [0u8; sizes::SMALL_EXPANSION];
@@ -91,11 +91,11 @@ fn record_with(
     requires ready { Ready first weights.now costs.now }
     requires rows_len { (length rows.old ≡ length weights.now * size_of first)
         × ((length rests.old ≡ length weights.now * max 16 (size_of first))
-        × (length out.old ≡ recordLength (ruleFor first) (length weights.now))) }
-    ensures rows_then { rows.new ≡ blocks (row_of (powerOf first) weights.now) (length weights.now) }
+        × (length out.old ≡ record_length (rule_for first) (length weights.now))) }
+    ensures rows_then { rows.new ≡ blocks (row_of (power_of first) weights.now) (length weights.now) }
     ensures rests_then { Rests first weights.now costs.now rests.new }
     ensures out_then { out.new
-        ≡ recordOf (ruleFor first) (columnsOf (size_of first) weights.now costs.now) }
+        ≡ record_of (rule_for first) (columns_of (size_of first) weights.now costs.now) }
 {
     let d = weights.len();
     let e = out.len();
@@ -118,8 +118,8 @@ fn record_room(
     requires q_value { (q ≡ size_of first)
         × ((length weights.now * q ≤ length rows.old)
         × ((length weights.now * max 16 q ≤ length rests.old)
-        × (length out.old ≡ recordLength (ruleFor first) (length weights.now)))) }
-    ensures { out.new ≡ recordOf (ruleFor first) (columnsOf (size_of first) weights.now costs.now) }
+        × (length out.old ≡ record_length (rule_for first) (length weights.now)))) }
+    ensures { out.new ≡ record_of (rule_for first) (columns_of (size_of first) weights.now costs.now) }
 {
     let a = weights.len() * q;
     let b = weights.len() * side(q);
@@ -129,9 +129,9 @@ fn record_room(
 // The record, with the room that it takes: a fourth of it is enough up to 16 rows.
 pub fn record_in(first: u8, q: usize, weights: &[u8], costs: &[u8], out: &mut [u8])
     requires ready { Ready first weights.now costs.now }
-    requires q_le_most_size { q ≤ mostSize }
-    requires q_value { (q ≡ size_of first) × (length out.old ≡ recordLength (ruleFor first) (length weights.now)) }
-    ensures { out.new ≡ recordOf (ruleFor first) (columnsOf (size_of first) weights.now costs.now) }
+    requires q_le_most_size { q ≤ most_size }
+    requires q_value { (q ≡ size_of first) × (length out.old ≡ record_length (rule_for first) (length weights.now)) }
+    ensures { out.new ≡ record_of (rule_for first) (columns_of (size_of first) weights.now costs.now) }
 {
     if q <= 16 {
         let mut rows = [0u8; sizes::SMALL_EXPANSION];
@@ -157,12 +157,12 @@ fn messages_with(
     requires ready { Ready first weights.now costs.now }
     requires rows_len { (length rows.old ≡ length weights.now * size_of first)
         × ((length rests.old ≡ length weights.now * max 16 (size_of first))
-        × ((length out.old ≡ recordLength (ruleFor first) (length weights.now))
+        × ((length out.old ≡ record_length (rule_for first) (length weights.now))
         × (length sent.old ≡ length weights.now * size_of first))) }
     ensures out_then { out.new
-        ≡ recordOf (ruleFor first) (columnsOf (size_of first) weights.now costs.now) }
+        ≡ record_of (rule_for first) (columns_of (size_of first) weights.now costs.now) }
     ensures sent_then { sent.new
-        ≡ allSent (ruleFor first) (columnsOf (size_of first) weights.now costs.now) }
+        ≡ all_sent (rule_for first) (columns_of (size_of first) weights.now costs.now) }
 {
     record_with(first, weights, costs, rows, rests, out);
     let d = weights.len();
@@ -184,12 +184,12 @@ fn messages_room(
     requires q_value { (q ≡ size_of first)
         × ((length weights.now * q ≤ length rows.old)
         × ((length weights.now * max 16 q ≤ length rests.old)
-        × ((length out.old ≡ recordLength (ruleFor first) (length weights.now))
+        × ((length out.old ≡ record_length (rule_for first) (length weights.now))
         × (length sent.old ≡ length weights.now * size_of first)))) }
     ensures out_then { out.new
-        ≡ recordOf (ruleFor first) (columnsOf (size_of first) weights.now costs.now) }
+        ≡ record_of (rule_for first) (columns_of (size_of first) weights.now costs.now) }
     ensures sent_then { sent.new
-        ≡ allSent (ruleFor first) (columnsOf (size_of first) weights.now costs.now) }
+        ≡ all_sent (rule_for first) (columns_of (size_of first) weights.now costs.now) }
 {
     let a = weights.len() * q;
     let b = weights.len() * side(q);
@@ -214,14 +214,14 @@ pub fn messages_in(
     sent: &mut [u8],
 )
     requires ready { Ready first weights.now costs.now }
-    requires q_le_most_size { q ≤ mostSize }
+    requires q_le_most_size { q ≤ most_size }
     requires q_value { (q ≡ size_of first)
-        × ((length out.old ≡ recordLength (ruleFor first) (length weights.now))
+        × ((length out.old ≡ record_length (rule_for first) (length weights.now))
         × (length sent.old ≡ length weights.now * size_of first)) }
     ensures out_then { out.new
-        ≡ recordOf (ruleFor first) (columnsOf (size_of first) weights.now costs.now) }
+        ≡ record_of (rule_for first) (columns_of (size_of first) weights.now costs.now) }
     ensures sent_then { sent.new
-        ≡ allSent (ruleFor first) (columnsOf (size_of first) weights.now costs.now) }
+        ≡ all_sent (rule_for first) (columns_of (size_of first) weights.now costs.now) }
 {
     if q <= 16 {
         let mut rows = [0u8; sizes::SMALL_EXPANSION];

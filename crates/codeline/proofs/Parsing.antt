@@ -10,17 +10,17 @@ use lib.ListN.{length, take, drop, get_or, set, length-map}
 use lib.Seq.{take-suc-set, length-take-le}
 use borrow.Author.Tests.{ltb-false, eq-eqb, ne_eqb, le-ltb, lt-leb}
 use Rattle.trellis.specs.Lists.{pick}
-use Rattle.trellis.specs.Refusals.{refusedBy}
-use Rattle.trellis.specs.Rules.{size_of, firstOk}
-use Rattle.machine.specs.CodeLine.{Read, good, bad, then, Edge, edge, word_at, readEdge, Code, checks, headTests, parse, Numbers, numbersOf}
-use Rattle.machine.specs.inner.Tables.{flat, edges_into, checkInto, Tables, tables, checksInto, tables_of}
-use Rattle.machine.proofs.Tables.{pick-then, checks-into}
-use Rattle.codeline.specs.inner.Reading.{FieldAt, Filled, isOutside, numbersAt, head_of}
+use Rattle.trellis.specs.Refusals.{refused_by}
+use Rattle.trellis.specs.Rules.{size_of, first_ok}
+use Rattle.machine.specs.CodeLine.{Read, good, bad, then, Edge, edge, word_at, read_edge, Code, checks, head_tests, parse, Numbers, numbers_of}
+use Rattle.machine.specs.inner.Tables.{flat, edges_into, check_into, Tables, tables, checks_into, tables_of}
+use Rattle.machine.proofs.Tables.{pick-then, checks_into_lem}
+use Rattle.codeline.specs.inner.Reading.{FieldAt, Filled, is_outside, numbers_at, head_of}
 use Rattle.codeline.specs.declared.reader.Field.{Field}
 
 -- a field read from where the one before it ended
-pub field-there : (wide : Bool) (f : Field) (s : List ℕ) (x y : ℕ) → FieldAt wide f s x → x ≡ y → FieldAt wide f s y
-field-there wide f s x y b e = subst (λ k. FieldAt wide f s k) e b
+pub field_there : (wide : Bool) (f : Field) (s : List ℕ) (x y : ℕ) → FieldAt wide f s x → x ≡ y → FieldAt wide f s y
+field_there wide f s x y b e = subst (λ k. FieldAt wide f s k) e b
 
 -- a turn of each loop, i below its end
 module _ (s : List ℕ) (n q count i : ℕ) (h : i < count) where
@@ -28,30 +28,30 @@ module _ (s : List ℕ) (n q count i : ℕ) (h : i < count) where
   left : count - i ≡ suc (count - (i + 1))
   left = omega arith
 
-  pub edges-bad : (here low r : ℕ) (cs ws : List ℕ) → readEdge s here n q low ≡ bad r → edges_into (count - i) s here n q low cs ws ≡ bad r
+  pub edges-bad : (here low r : ℕ) (cs ws : List ℕ) → read_edge s here n q low ≡ bad r → edges_into (count - i) s here n q low cs ws ≡ bad r
   unfolding edges_into
   edges-bad here low r cs ws e = rw (left, e)
 
   -- a turn that stores the edge at k
-  pub edges_more : (here low c w k : ℕ) (cs ws : List ℕ) → k < length cs → k < length ws → readEdge s here n q low ≡ good (edge c w)
+  pub edges_more : (here low c w k : ℕ) (cs ws : List ℕ) → k < length cs → k < length ws → read_edge s here n q low ≡ good (edge c w)
       → edges_into (count - i) s here n q low (take k cs) (take k ws) ≡ edges_into (count - (i + 1)) s (here + 3) n q (c + 1) (take (k + 1) (set cs k c)) (take (k + 1) (set ws k w))
   unfolding edges_into
   edges_more here low c w k cs ws j l e = rw (left, e, add-one k, take-suc-set cs k c j, take-suc-set ws k w l)
 
-  pub checks-bad : (here total r : ℕ) (ds cs ws : List ℕ) → checkInto s here n q total cs ws ≡ bad r → checksInto (count - i) s here n q total ds cs ws ≡ bad r
-  unfolding checksInto
+  pub checks-bad : (here total r : ℕ) (ds cs ws : List ℕ) → check_into s here n q total cs ws ≡ bad r → checks_into (count - i) s here n q total ds cs ws ≡ bad r
+  unfolding checks_into
   checks-bad here total r ds cs ws e = rw (left, e)
 
   -- a turn that stores the degree at i
-  pub checks-more : (here total d : ℕ) (ds cs ws cs' ws' : List ℕ) → i < length ds → d ≡ get_or s here 0 → checkInto s here n q total cs ws ≡ good (flat cs' ws')
-      → checksInto (count - i) s here n q total (take i ds) cs ws ≡ checksInto (count - (i + 1)) s (here + 1 + 3 * d) n q (total + d) (take (i + 1) (set ds i d)) cs' ws'
-  unfolding checksInto
+  pub checks-more : (here total d : ℕ) (ds cs ws cs' ws' : List ℕ) → i < length ds → d ≡ get_or s here 0 → check_into s here n q total cs ws ≡ good (flat cs' ws')
+      → checks_into (count - i) s here n q total (take i ds) cs ws ≡ checks_into (count - (i + 1)) s (here + 1 + 3 * d) n q (total + d) (take (i + 1) (set ds i d)) cs' ws'
+  unfolding checks_into
   checks-more here total d ds cs ws cs' ws' j k e = rw (left, e, add-one i, take-suc-set ds i d j, k)
 
 -- the loop's end, with no byte left over, and with some
-module _ (s : List ℕ) (n q count i here total : ℕ) (ds cs ws : List ℕ) (r : Read Tables) (end : i ≡ count) (e : checksInto (count - i) s here n q total (take i ds) cs ws ≡ r) where
+module _ (s : List ℕ) (n q count i here total : ℕ) (ds cs ws : List ℕ) (r : Read Tables) (end : i ≡ count) (e : checks_into (count - i) s here n q total (take i ds) cs ws ≡ r) where
   none_left : pick (eqb here (length s)) (good (tables (take count ds) cs ws)) (bad 5) ≡ r
-  unfolding checksInto
+  unfolding checks_into
   none_left = let z : count - i ≡ 0 = omega arith in rw (← end) (rw z at e)
 
   pub checks-done : here ≡ length s → good (tables (take count ds) cs ws) ≡ r
@@ -61,10 +61,10 @@ module _ (s : List ℕ) (n q count i here total : ℕ) (ds cs ws : List ℕ) (r 
   checks-over h = simp (ne_eqb here (length s) h) at none_left
 
 -- a check that passes its tests is its edges
-pub check-past : (s : List ℕ) (at n q total d : ℕ) (cs ws : List ℕ) → at < length s → d ≡ get_or s at 0 → 2 ≤ d → d ≤ 32 → total + d ≤ 1024 → 3 * d ≤ length s - (at + 1)
-    → checkInto s at n q total cs ws ≡ edges_into d s (at + 1) n q 0 cs ws
-unfolding checkInto
-check-past s at n q total d cs ws a e l h t r =
+pub check_past : (s : List ℕ) (at n q total d : ℕ) (cs ws : List ℕ) → at < length s → d ≡ get_or s at 0 → 2 ≤ d → d ≤ 32 → total + d ≤ 1024 → 3 * d ≤ length s - (at + 1)
+    → check_into s at n q total cs ws ≡ edges_into d s (at + 1) n q 0 cs ws
+unfolding check_into
+check_past s at n q total d cs ws a e l h t r =
     simp (← e, lt-leb (length s) at a, le-ltb d 2 l, le-ltb 32 d h, le-ltb 1024 (total + d) t, le-ltb (length s - (at + 1)) (3 * d) r)
 
 -- two tests that refuse by one number
@@ -73,7 +73,7 @@ pick-or true b x y = refl
 pick-or false b x y = refl
 
 -- a number that is not outside is at most the high one
-pub inside : (x low high : ℕ) → isOutside x low high ≡ false → x ≤ high
+pub inside : (x low high : ℕ) → is_outside x low high ≡ false → x ≤ high
 inside x low high e = go (ltb x low) e
   where
     go : (b : Bool) → (b || ltb high x) ≡ false → x ≤ high
@@ -81,22 +81,22 @@ inside x low high e = go (ltb x low) e
     go false k = ltb-false high x k
 
 -- a test that the code made of x, which is y
-pub tested : {A : Type 0} (x y low high : ℕ) (r b : Bool) (u v : A) → r ≡ isOutside x low high → x ≡ y → r ≡ b
+pub tested : {A : Type 0} (x y low high : ℕ) (r b : Bool) (u v : A) → r ≡ is_outside x low high → x ≡ y → r ≡ b
     → pick (ltb y low) u (pick (ltb high y) u v) ≡ pick b u v
 tested x y low high r b u v e i k =
-    let o : isOutside y low high ≡ b = rw (← i) (sym e ∙ k) in sym (pick-or (ltb y low) (ltb high y) u v) ∙ ap (λ t. pick t u v) o
+    let o : is_outside y low high ≡ b = rw (← i) (sym e ∙ k) in sym (pick-or (ltb y low) (ltb high y) u v) ∙ ap (λ t. pick t u v) o
 
 -- and the test of the first byte
-pub first-tested : {A : Type 0} (x y : ℕ) (r b : Bool) (u v : A) → r ≡ firstOk x → x ≡ y → not r ≡ b → pick (not (firstOk y)) u v ≡ pick b u v
-first-tested x y r b u v e i k = let o : not (firstOk y) ≡ b = rw (← i, ← e) k in ap (λ t. pick t u v) o
+pub first_tested : {A : Type 0} (x y : ℕ) (r b : Bool) (u v : A) → r ≡ first_ok x → x ≡ y → not r ≡ b → pick (not (first_ok y)) u v ≡ pick b u v
+first_tested x y r b u v e i k = let o : not (first_ok y) ≡ b = rw (← i, ← e) k in ap (λ t. pick t u v) o
 
 -- what is left of the tests before the checks when j of them have passed
-abbrev pub headFrom : ℕ → List ℕ → Read Numbers
-headFrom j s = refusedBy (drop j (headTests s)) bad (good (numbersAt s))
+abbrev pub head_from : ℕ → List ℕ → Read Numbers
+head_from j s = refused_by (drop j (head_tests s)) bad (good (numbers_at s))
 
 -- the numbers, past all tests
 pub head_read : (s : List ℕ) (f n m g i : ℕ) → f ≡ get_or s 0 0 → n ≡ word_at s 1 → m ≡ get_or s 3 0 → g ≡ get_or s 4 0 → i ≡ get_or s 5 0 → 1 ≤ i
-    → good (record { first = f; columns = n; checks = m; scale = g; limit = i }) ≡ headFrom 8 s
+    → good (record { first = f; columns = n; checks = m; scale = g; limit = i }) ≡ head_from 8 s
 head_read s f n m g i e₀ e₁ e₃ e₄ e₅ l = rw (e₀, e₁, e₃, e₄, e₅) (simp (le-ltb (get_or s 5 0) 1 (omega arith)))
 
 -- a code from its numbers and its checks
@@ -114,7 +114,7 @@ pub head-bad : (s : List ℕ) (k : ℕ) → head_of s ≡ bad k → parse s ≡ 
 head-bad s k e = parse-head s ∙ ap (λ r. then r (after_head s)) e
 
 -- a line that is refused has neither numbers nor tables
-pub refused : (s ds cs ws : List ℕ) (k n : ℕ) → parse s ≡ bad k → (bad k ≡ numbersOf (parse s)) × ((C : Code) → parse s ≡ good C → Filled C ds cs ws n)
+pub refused : (s ds cs ws : List ℕ) (k n : ℕ) → parse s ≡ bad k → (bad k ≡ numbers_of (parse s)) × ((C : Code) → parse s ≡ good C → Filled C ds cs ws n)
 refused s ds cs ws k n e = (rw e refl, λ C g. let z : ◌≡◌ {A = ℕ} 0 1 = cc in absurd (omega arith))
 
 -- a line whose numbers are h
@@ -125,17 +125,17 @@ module _ (s : List ℕ) (h : Numbers) (e : head_of s ≡ good h) (q : ℕ) (i : 
   parse-rest : parse s ≡ then rest (λ (l : List (List Edge)). good (coded h l))
   parse-rest = rw i (parse-head s ∙ ap (λ r. then r (after_head s)) e)
 
-  into-rest : checksInto h.checks s 6 h.columns q 0 [] [] [] ≡ then rest (λ l. good (tables_of l))
-  into-rest = checks-into h.checks s 6 h.columns q 0 [] [] []
+  into-rest : checks_into h.checks s 6 h.columns q 0 [] [] [] ≡ then rest (λ l. good (tables_of l))
+  into-rest = checks_into_lem h.checks s 6 h.columns q 0 [] [] []
 
-  pub rest-bad : (k : ℕ) → checksInto h.checks s 6 h.columns q 0 [] [] [] ≡ bad k → parse s ≡ bad k
+  pub rest-bad : (k : ℕ) → checks_into h.checks s 6 h.columns q 0 [] [] [] ≡ bad k → parse s ≡ bad k
   rest-bad k j = parse-rest ∙ go rest (sym into-rest ∙ j)
     where
       go : (r : Read (List (List Edge))) → then r (λ l. good (tables_of l)) ≡ bad k → then r (λ l. good (coded h l)) ≡ bad k
       go (good l) a = let z : ◌≡◌ {A = ℕ} 0 1 = cc in absurd (omega arith)
       go (bad x) a = cc
 
-  rest-good : (t : Tables) → checksInto h.checks s 6 h.columns q 0 [] [] [] ≡ good t → (l : List (List Edge)) × (parse s ≡ good (coded h l)) × (tables_of l ≡ t)
+  rest-good : (t : Tables) → checks_into h.checks s 6 h.columns q 0 [] [] [] ≡ good t → (l : List (List Edge)) × (parse s ≡ good (coded h l)) × (tables_of l ≡ t)
   rest-good t j = let r = go rest (sym into-rest ∙ j) in (r.0, parse-rest ∙ r.1, r.2)
     where
       go : (r : Read (List (List Edge))) → then r (λ l. good (tables_of l)) ≡ good t
@@ -144,8 +144,8 @@ module _ (s : List ℕ) (h : Numbers) (e : head_of s ≡ good h) (q : ℕ) (i : 
       go (bad x) a = let z : ◌≡◌ {A = ℕ} 0 1 = cc in absurd (omega arith)
 
   pub filled : (ds cs ws : List ℕ) (total : ℕ) → h.checks ≤ length ds
-      → checksInto h.checks s 6 h.columns q 0 [] [] [] ≡ good (tables (take h.checks ds) (take total cs) (take total ws))
-      → (good h ≡ numbersOf (parse s)) × ((C : Code) → parse s ≡ good C → Filled C ds cs ws total)
+      → checks_into h.checks s 6 h.columns q 0 [] [] [] ≡ good (tables (take h.checks ds) (take total cs) (take total ws))
+      → (good h ≡ numbers_of (parse s)) × ((C : Code) → parse s ≡ good C → Filled C ds cs ws total)
   filled ds cs ws total room j =
       let r = rest-good _ j in
       let l = r.0 in

@@ -8,12 +8,12 @@ use Rattle.codeline.specs.declared.answers.Numbers.{Numbers as LineNumbers}
 use Rattle.codeline.specs.declared.answers.Header.{Header}
 use Rattle.codeline.specs.declared.answers.Header.TheVariants.{Read as HeaderRead, Refused as HeaderRefused}
 
-abbrev pub numbersIn : LineNumbers → Numbers
-numbersIn k = record { first = k.first; columns = k.columns; checks = k.checks; scale = k.scale; limit = k.limit }
+abbrev pub numbers_in : LineNumbers → Numbers
+numbers_in k = record { first = k.first; columns = k.columns; checks = k.checks; scale = k.scale; limit = k.limit }
 
-abbrev pub headerNumbers : Header → Read Numbers
-headerNumbers (HeaderRead k) = good (numbersIn k)
-headerNumbers (HeaderRefused k) = bad k
+abbrev pub header_numbers : Header → Read Numbers
+header_numbers (HeaderRead k) = good (numbers_in k)
+header_numbers (HeaderRefused k) = bad k
 
 -- what a code line says to whoever lends the buffers: 0 or the number of its refusal, its numbers, and "as many bytes as the M record
 -- lengths add up to"
@@ -26,12 +26,12 @@ pub record Told : Type 0 where
   pub limit : ℕ
   pub store : ℕ
 
-abbrev pub toldRefused : ℕ → Told
-toldRefused k = record { number = k; first = 0; columns = 0; checks = 0; scale = 0; limit = 0; store = 0 }
+abbrev pub told_refused : ℕ → Told
+told_refused k = record { number = k; first = 0; columns = 0; checks = 0; scale = 0; limit = 0; store = 0 }
 
-abbrev pub summaryOf : Read Code → Told
-summaryOf (bad k) = toldRefused k
-summaryOf (good C) =
+abbrev pub summary_of : Read Code → Told
+summary_of (bad k) = told_refused k
+summary_of (good C) =
     record {
       number = 0;
       first = C.first;
@@ -45,24 +45,24 @@ summaryOf (good C) =
 -- the struct's fields are these
 pub record Tells (t : Told) (s : Summary) : Type 0 where
   pub number_is : s.number ≡ t.number
-  pub first-is : s.first ≡ t.first
-  pub columns-is : s.columns ≡ t.columns
-  pub checks-is : s.checks ≡ t.checks
-  pub scale-is : s.scale ≡ t.scale
+  pub first_is : s.first ≡ t.first
+  pub columns_is : s.columns ≡ t.columns
+  pub checks_is : s.checks ≡ t.checks
+  pub scale_is : s.scale ≡ t.scale
   pub limit_is : s.limit ≡ t.limit
   pub store_is : s.store ≡ t.store
 
 -- a code's degrees, and all its columns and weights end to end
-abbrev pub degreeTable : Code → List ℕ
-degreeTable C = (tables_of C.checks).degrees
+abbrev pub degree_table : Code → List ℕ
+degree_table C = (tables_of C.checks).degrees
 
-abbrev pub columnTable : Code → List ℕ
-columnTable C = (tables_of C.checks).edges.columns
+abbrev pub column_table : Code → List ℕ
+column_table C = (tables_of C.checks).edges.columns
 
-abbrev pub weightTable : Code → List ℕ
-weightTable C = (tables_of C.checks).edges.weights
+abbrev pub weight_table : Code → List ℕ
+weight_table C = (tables_of C.checks).edges.weights
 
 -- what stands in a lent table afterwards: an accepted line's entries first, the rest as it was; a refusal changes nothing
-abbrev pub leftIn : (Code → List ℕ) → Read Code → List ℕ → List ℕ
-leftIn f (good C) l = f C ++ drop (length (f C)) l
-leftIn f (bad k) l = l
+abbrev pub left_in : (Code → List ℕ) → Read Code → List ℕ → List ℕ
+left_in f (good C) l = f C ++ drop (length (f C)) l
+left_in f (bad k) l = l

@@ -1,9 +1,9 @@
 // The checks of a code line, read front to back, each field once, into tables: the degrees, and all columns and weights end to end.
 ghost use Rattle.std.specs.Prelude.{◌≡◌, [], ◌+◌, ◌*◌, ◌≤◌, length, take};
-ghost use Rattle.trellis.specs.Sizes.{mostEdges};
-ghost use Rattle.machine.specs.CodeLine.{readEdge};
-ghost use Rattle.machine.specs.inner.Tables.{edges_into, checkInto, checksInto};
-ghost use Rattle.codeline.specs.inner.Reading.{edgeRead, EdgeEnds, edgesRead, EdgesEnd, checkRead, CheckFits, checksRead, ChecksFit};
+ghost use Rattle.trellis.specs.Sizes.{most_edges};
+ghost use Rattle.machine.specs.CodeLine.{read_edge};
+ghost use Rattle.machine.specs.inner.Tables.{edges_into, check_into, checks_into};
+ghost use Rattle.codeline.specs.inner.Reading.{edge_read, EdgeEnds, edges_read, EdgesEnd, check_read, CheckFits, checks_read, ChecksFit};
 
 use crate::reader;
 use scalar::sizes;
@@ -39,7 +39,7 @@ pub enum Checks {
 // "for each edge the column (two bytes, high first, below N, rising within the check) and weight".
 fn edge_at(code: &[u8], at: usize, n: usize, q: usize, low: usize) -> Edge
     requires { at + 3 ≤ length code.now }
-    ensures read { edgeRead result ≡ readEdge code.now at n q low }
+    ensures read { edge_read result ≡ read_edge code.now at n q low }
     ensures ends { EdgeEnds result at }
 {
     let c = reader::field_at(code, at, reader::WORD);
@@ -71,7 +71,7 @@ fn edges_at(
     from: usize,
 ) -> Edges
     requires { (at + 3 * count ≤ length code.now) × ((from + count ≤ length columns.old) × (from + count ≤ length weights.old)) }
-    ensures read { edgesRead result (take (from + count) columns.new) (take (from + count) weights.new)
+    ensures read { edges_read result (take (from + count) columns.new) (take (from + count) weights.new)
         ≡ edges_into count code.now at n q 0 (take from columns.old) (take from weights.old) }
     ensures ends { EdgesEnd result at count }
 {
@@ -105,9 +105,9 @@ fn check_at(
     weights: &mut [u8],
     total: usize,
 ) -> Check
-    requires { (mostEdges ≤ length columns.old) × (mostEdges ≤ length weights.old) }
-    ensures read { checkRead result total columns.new weights.new
-        ≡ checkInto code.now at n q total (take total columns.old) (take total weights.old) }
+    requires { (most_edges ≤ length columns.old) × (most_edges ≤ length weights.old) }
+    ensures read { check_read result total columns.new weights.new
+        ≡ check_into code.now at n q total (take total columns.old) (take total weights.old) }
     ensures fits { CheckFits result code.now at total }
 {
     if reader::left_at(code, at) == 0 {
@@ -145,9 +145,9 @@ pub fn checks_at(
     weights: &mut [u8],
 ) -> Checks
     requires { (at ≤ length code.now) × ((count ≤ length degrees.old)
-        × ((mostEdges ≤ length columns.old) × (mostEdges ≤ length weights.old))) }
-    ensures read { checksRead result count degrees.new columns.new weights.new
-        ≡ checksInto count code.now at n q 0 [] [] [] }
+        × ((most_edges ≤ length columns.old) × (most_edges ≤ length weights.old))) }
+    ensures read { checks_read result count degrees.new columns.new weights.new
+        ≡ checks_into count code.now at n q 0 [] [] [] }
     ensures fits { ChecksFit result }
 {
     let mut i = 0;

@@ -1,7 +1,7 @@
 // The numbers of a code line before its checks.
 ghost use Rattle.std.specs.Prelude.{◌≡◌};
-ghost use Rattle.codeline.specs.Answers.{headerNumbers};
-ghost use Rattle.codeline.specs.inner.Reading.{isOutside, head_of, HeadFits};
+ghost use Rattle.codeline.specs.Answers.{header_numbers};
+ghost use Rattle.codeline.specs.inner.Reading.{is_outside, head_of, HeadFits};
 ghost use Rattle.codeline.specs.declared.answers.Header.TheVariants.{Refused as HeaderRefused};
 
 use crate::answers::{Header, Numbers};
@@ -17,7 +17,7 @@ pub struct Front {
 
 // Whether x is not low to high.
 fn outside(x: usize, low: usize, high: usize) -> bool
-    ensures { result ≡ isOutside x low high }
+    ensures { result ≡ is_outside x low high }
 {
     if x < low { true } else { high < x }
 }
@@ -34,7 +34,7 @@ fn refused(k: u8) -> Front
 // "p", with k in the first byte; "N as two bytes, high first (1 to 256); M (1 to 128); scale g (1 to 16); iteration limit I (1 to 255)";
 // "5 if under six bytes, 6, 7, 8".
 pub fn head(code: &[u8]) -> Front
-    ensures numbers { headerNumbers result.header ≡ head_of code.now }
+    ensures numbers { header_numbers result.header ≡ head_of code.now }
     ensures fits { HeadFits result.header result.next code.now }
 {
     if reader::left_at(code, 0) < 6 {

@@ -1,13 +1,13 @@
 // What a code line says to whoever lends the buffers.
 ghost use Rattle.std.specs.Prelude.{◌≡◌, ◌+◌, ◌-◌, ◌*◌, ◌/◌, ◌≤◌};
-ghost use Rattle.trellis.specs.Record.{groupLength};
-ghost use Rattle.trellis.specs.Rules.{size_of, ruleFor};
-ghost use Rattle.codeline.specs.Answers.{toldRefused, Tells};
+ghost use Rattle.trellis.specs.Record.{group_length};
+ghost use Rattle.trellis.specs.Rules.{size_of, rule_for};
+ghost use Rattle.codeline.specs.Answers.{told_refused, Tells};
 
 use crate::answers::Summary;
 
 pub fn refused(k: u8) -> Summary
-    ensures { Tells (toldRefused k) result }
+    ensures { Tells (told_refused k) result }
 {
     Summary {
         number: k,
@@ -22,8 +22,8 @@ pub fn refused(k: u8) -> Summary
 
 // The bytes of the records of so many checks. The line's length tells the edges: six bytes, one for each check, three for each edge.
 pub fn store_length(first: u8, checks: u8, length: usize) -> u32
-    requires { (6 + checks ≤ length) × ((length ≤ 3206) × (groupLength (ruleFor first) * (size_of first - 1) ≤ 441)) }
-    ensures { result ≡ (length - 6 - checks) / 3 + checks * (groupLength (ruleFor first) * (size_of first - 1)) }
+    requires { (6 + checks ≤ length) × ((length ≤ 3206) × (group_length (rule_for first) * (size_of first - 1) ≤ 441)) }
+    ensures { result ≡ (length - 6 - checks) / 3 + checks * (group_length (rule_for first) * (size_of first - 1)) }
 {
     let m = checks as usize;
     let edges = (length - 6 - m) / 3;

@@ -7,15 +7,15 @@ mod reader;
 mod tables;
 
 ghost use Rattle.std.specs.Prelude.{◌≡◌};
-ghost use Rattle.machine.specs.CodeLine.{parse, numbersOf};
-ghost use Rattle.codeline.specs.Answers.{headerNumbers, summaryOf, Tells, degreeTable, columnTable, weightTable, leftIn};
+ghost use Rattle.machine.specs.CodeLine.{parse, numbers_of};
+ghost use Rattle.codeline.specs.Answers.{header_numbers, summary_of, Tells, degree_table, column_table, weight_table, left_in};
 
 use crate::answers::{Header, Summary};
 use scalar::sizes;
 
 // The numbers of a code line, whose checks are read too.
 pub fn code_line(code: &[u8]) -> Header
-    ensures { headerNumbers result ≡ numbersOf (parse code.now) }
+    ensures { header_numbers result ≡ numbers_of (parse code.now) }
 {
     let mut degrees = [0u8; sizes::MOST_CHECKS];
     let mut columns = [0u16; sizes::MOST_EDGES];
@@ -26,7 +26,7 @@ pub fn code_line(code: &[u8]) -> Header
 
 // All 0 but the number where the line is refused.
 pub fn describe(code: &[u8]) -> Summary
-    ensures { Tells (summaryOf (parse code.now)) result }
+    ensures { Tells (summary_of (parse code.now)) result }
 {
     match code_line(code) {
         Header::Refused(k) => lending::refused(k),
@@ -51,10 +51,10 @@ pub fn code_tables(
     columns: &mut [u16; sizes::MOST_EDGES],
     weights: &mut [u8; sizes::MOST_EDGES],
 ) -> Header
-    ensures numbers { headerNumbers result ≡ numbersOf (parse code.now) }
-    ensures degrees_then { degrees.new ≡ leftIn degreeTable (parse code.now) degrees.old }
-    ensures columns_then { columns.new ≡ leftIn columnTable (parse code.now) columns.old }
-    ensures weights_then { weights.new ≡ leftIn weightTable (parse code.now) weights.old }
+    ensures numbers { header_numbers result ≡ numbers_of (parse code.now) }
+    ensures degrees_then { degrees.new ≡ left_in degree_table (parse code.now) degrees.old }
+    ensures columns_then { columns.new ≡ left_in column_table (parse code.now) columns.old }
+    ensures weights_then { weights.new ≡ left_in weight_table (parse code.now) weights.old }
 {
     let mut ds = [0u8; sizes::MOST_CHECKS];
     let mut cs = [0u16; sizes::MOST_EDGES];

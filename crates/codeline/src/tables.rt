@@ -1,9 +1,9 @@
 // The checks of a code line in tables: reading them, and handing over what was read.
 ghost use Rattle.std.specs.Prelude.{◌≡◌, length};
-ghost use Rattle.trellis.specs.Sizes.{mostEdges, mostChecks};
-ghost use Rattle.machine.specs.CodeLine.{Code, good, parse, numbersOf};
-ghost use Rattle.codeline.specs.Answers.{headerNumbers};
-ghost use Rattle.codeline.specs.inner.Reading.{Filled, CountFits, checksIn, handed};
+ghost use Rattle.trellis.specs.Sizes.{most_edges, most_checks};
+ghost use Rattle.machine.specs.CodeLine.{Code, good, parse, numbers_of};
+ghost use Rattle.codeline.specs.Answers.{header_numbers};
+ghost use Rattle.codeline.specs.inner.Reading.{Filled, CountFits, checks_in, handed};
 
 use crate::answers::Header;
 use crate::checks::Checks;
@@ -24,8 +24,8 @@ fn refused(header: Header) -> LineRead
 
 // The whole line. Where it is refused, the tables may hold anything.
 pub fn read(code: &[u8], degrees: &mut [u8], columns: &mut [u16], weights: &mut [u8]) -> LineRead
-    requires { (length degrees.old ≡ mostChecks) × ((length columns.old ≡ mostEdges) × (length weights.old ≡ mostEdges)) }
-    ensures numbers { headerNumbers result.header ≡ numbersOf (parse code.now) }
+    requires { (length degrees.old ≡ most_checks) × ((length columns.old ≡ most_edges) × (length weights.old ≡ most_edges)) }
+    ensures numbers { header_numbers result.header ≡ numbers_of (parse code.now) }
     ensures fits { CountFits result.header result.edges }
     ensures tables { (C : Code) → parse code.now ≡ good C
         → Filled C degrees.new columns.new weights.new result.edges }
@@ -62,10 +62,10 @@ pub fn hand_over(
     weights: &mut [u8],
 )
     requires count_fits { CountFits r.header r.edges }
-    requires ds_len { (length ds.now ≡ mostChecks) × ((length cs.now ≡ mostEdges) × (length ws.now ≡ mostEdges)) }
-    requires degrees_len { (length degrees.old ≡ mostChecks) × ((length columns.old ≡ mostEdges) × (length weights.old ≡ mostEdges)) }
+    requires ds_len { (length ds.now ≡ most_checks) × ((length cs.now ≡ most_edges) × (length ws.now ≡ most_edges)) }
+    requires degrees_len { (length degrees.old ≡ most_checks) × ((length columns.old ≡ most_edges) × (length weights.old ≡ most_edges)) }
     ensures degrees_then { degrees.new
-        ≡ handed r.header (checksIn r.header) ds.now degrees.old }
+        ≡ handed r.header (checks_in r.header) ds.now degrees.old }
     ensures columns_then { columns.new ≡ handed r.header r.edges cs.now columns.old }
     ensures weights_then { weights.new ≡ handed r.header r.edges ws.now weights.old }
 {

@@ -1,9 +1,9 @@
 // The columns of two frames: the two costs of a symbol, their least over a column, the column, all columns.
 ghost use Rattle.std.specs.Prelude.{◌≡◌, ◌+◌, ◌*◌, ◌≤◌, ◌<◌, length};
 ghost use Rattle.trellis.specs.Lists.{patch};
-ghost use Rattle.machine.specs.CodeLine.{columnOf};
-ghost use Rattle.machine.specs.Combining.{combinedColumn, combinedTo};
-ghost use Rattle.combiner.specs.inner.Columns.{leastBoth};
+ghost use Rattle.machine.specs.CodeLine.{column_of};
+ghost use Rattle.machine.specs.Combining.{combined_column, combined_to};
+ghost use Rattle.combiner.specs.inner.Columns.{least_both};
 
 // "add the two costs": two costs make more than a byte holds.
 fn both(a: u8, b: u8) -> u16
@@ -14,7 +14,7 @@ fn both(a: u8, b: u8) -> u16
 
 fn least(first: &[u8], second: &[u8]) -> u16
     requires { length second.now ≡ length first.now }
-    ensures { result ≡ leastBoth first.now second.now (length first.now) }
+    ensures { result ≡ least_both first.now second.now (length first.now) }
 {
     let mut least: u16 = 1000;
     let mut i = 0;
@@ -29,7 +29,7 @@ fn least(first: &[u8], second: &[u8]) -> u16
 // One column: "add the two costs, subtract the column's least, cap at 255".
 fn combine_column(first: &[u8], second: &[u8], out: &mut [u8])
     requires { (length second.now ≡ length first.now) × ((length out.old ≡ length first.now) × (0 < length first.now)) }
-    ensures { out.new ≡ combinedColumn (length first.now) first.now second.now }
+    ensures { out.new ≡ combined_column (length first.now) first.now second.now }
 {
     let least = least(first, second);
     let mut i = 0;
@@ -44,7 +44,7 @@ fn combine_column(first: &[u8], second: &[u8], out: &mut [u8])
 fn combine_at(first: &[u8], second: &[u8], q: usize, c: usize, out: &mut [u8])
     requires { (c * q + q ≤ length first.now) × ((c * q + q ≤ length second.now) × ((c * q + q ≤ length out.old) × (0 < q))) }
     ensures { out.new
-        ≡ patch out.old (c * q) q (combinedColumn q (columnOf q first.now c) (columnOf q second.now c)) }
+        ≡ patch out.old (c * q) q (combined_column q (column_of q first.now c) (column_of q second.now c)) }
 {
     let a = c * q;
     let e = a + q;
@@ -54,7 +54,7 @@ fn combine_at(first: &[u8], second: &[u8], q: usize, c: usize, out: &mut [u8])
 // Every column of two frames of n times q costs.
 pub fn combine_all(first: &[u8], second: &[u8], q: usize, n: usize, out: &mut [u8])
     requires { (length first.now ≡ n * q) × ((length second.now ≡ n * q) × ((length out.old ≡ n * q) × (0 < q))) }
-    ensures { out.new ≡ combinedTo q first.now second.now n }
+    ensures { out.new ≡ combined_to q first.now second.now n }
 {
     let mut c = 0;
     while c < n {

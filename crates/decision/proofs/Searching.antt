@@ -7,35 +7,35 @@ use Prim.Native.Nat.{ℕ, ◌+◌, ◌≤◌, ◌<◌}
 use native.Mathlib.Numerals.{add-one}
 use native.Mathlib.Omega.{arith}
 use lib.ListN.{length, drop, get_or}
-use Rattle.trellis.specs.Check.{firstZero}
-use Rattle.trellis.specs.inner.Margins.{leastBut, marginAt}
-use Rattle.trellis.proofs.Margins.{zero-here, zero-later, zero-none, margin-found, margin-none}
+use Rattle.trellis.specs.Check.{first_zero}
+use Rattle.trellis.specs.inner.Margins.{least_but, margin_at}
+use Rattle.trellis.proofs.Margins.{zero_here, zero-later, zero-none, margin_found, margin-none}
 use Rattle.decision.specs.Answers.{Decides}
 
 abbrev pub Searched : List ℕ → ℕ → Type 0
-Searched l x = (x ≤ length l) × (firstZero l ≡ x + firstZero (drop x l))
+Searched l x = (x ≤ length l) × (first_zero l ≡ x + first_zero (drop x l))
 
 -- a turn of the search, and both its ends
 module _ (l : List ℕ) (x : ℕ) (i : Searched l x) where
-  pub search-none : x ≡ length l → Decides l record { symbol = x; margin = 0 }
-  search-none h =
-      let z : firstZero (drop x l) ≡ 0 = rw h (zero-none l) in
-      let e : firstZero l ≡ length l = omega arith in
+  pub search_none : x ≡ length l → Decides l record { symbol = x; margin = 0 }
+  search_none h =
+      let z : first_zero (drop x l) ≡ 0 = rw h (zero-none l) in
+      let e : first_zero l ≡ length l = omega arith in
       ((omega arith, sym (margin-none l e)), omega arith)
 
-  pub search-more : x ≢ length l → get_or l x 0 ≢ 0 → Searched l (x + 1)
-  search-more h n = let k : x < length l = omega arith in (omega arith, rw (add-one x) (omega (arith, zero-later l x k n)))
+  pub search_more : x ≢ length l → get_or l x 0 ≢ 0 → Searched l (x + 1)
+  search_more h n = let k : x < length l = omega arith in (omega arith, rw (add-one x) (omega (arith, zero-later l x k n)))
 
   -- no cost is above b
-  pub search-found : (b : ℕ) → ((k : ℕ) → get_or l k 0 ≤ b) → x ≢ length l → get_or l x 0 ≡ 0 → {m : ℕ} → m ≡ marginAt b l x → Decides l record { symbol = x; margin = m }
-  search-found b s h z m =
+  pub search_found : (b : ℕ) → ((k : ℕ) → get_or l k 0 ≤ b) → x ≢ length l → get_or l x 0 ≡ 0 → {m : ℕ} → m ≡ margin_at b l x → Decides l record { symbol = x; margin = m }
+  search_found b s h z m =
       let k : x < length l = omega arith in
-      let e : x ≡ firstZero l = omega (arith, zero-here l x k z) in
-      ((e, m ∙ margin-found b l s x e k), omega arith)
+      let e : x ≡ first_zero l = omega (arith, zero_here l x k z) in
+      ((e, m ∙ margin_found b l s x e k), omega arith)
 
 -- the least of the costs but z's, up to x
 abbrev pub Least : ℕ → List ℕ → ℕ → ℕ → ℕ → Type 0
-Least b l z least x = (x ≤ length l) × (least ≡ leastBut b l z x)
+Least b l z least x = (x ≤ length l) × (least ≡ least_but b l z x)
 
-pub least-all : (b : ℕ) (l : List ℕ) (z least x : ℕ) → Least b l z least x → length l ≤ x → least ≡ leastBut b l z (length l)
+pub least-all : (b : ℕ) (l : List ℕ) (z least x : ℕ) → Least b l z least x → length l ≤ x → least ≡ least_but b l z (length l)
 least-all b l z least x i h = let e : x ≡ length l = omega arith in rw (← e) i.1

@@ -1,7 +1,7 @@
 // The margin of a decision among costs of two bytes: the least cost of the other symbols.
 ghost use Rattle.std.specs.Prelude.{◌≡◌, eqb, length};
 ghost use Rattle.trellis.specs.Lists.{pick};
-ghost use Rattle.trellis.specs.inner.Margins.{leastBut, marginAt};
+ghost use Rattle.trellis.specs.inner.Margins.{least_but, margin_at};
 
 // The cost of symbol x; where x is z, no cost is greater.
 fn but(cost: u16, x: usize, z: usize) -> u16
@@ -12,7 +12,7 @@ fn but(cost: u16, x: usize, z: usize) -> u16
 
 // The least cost of the symbols other than z.
 fn least_but(costs: &[u16], z: usize) -> u16
-    ensures { result ≡ leastBut 65535 costs.now z (length costs.now) }
+    ensures { result ≡ least_but 65535 costs.now z (length costs.now) }
 {
     let mut least: u16 = 65535;
     let mut x = 0;
@@ -25,7 +25,7 @@ fn least_but(costs: &[u16], z: usize) -> u16
 
 // What the other symbols cost above symbol z of cost 0; nothing where there is no other.
 pub fn margin_at(costs: &[u16], z: usize) -> u16
-    ensures { result ≡ marginAt 65535 costs.now z }
+    ensures { result ≡ margin_at 65535 costs.now z }
 {
     if costs.len() < 2 {
         return 0;

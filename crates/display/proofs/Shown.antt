@@ -8,19 +8,19 @@ use lib.ListN.{length, get_or, drop}
 use Rattle.trellis.specs.Lists.{up_to, tab}
 use Rattle.trellis.specs.Field.{quotient}
 use Rattle.trellis.specs.Display.{displayed}
-use Rattle.trellis.proofs.Loops.{map-tab, tab-ext, tab-whole}
-use Rattle.division.specs.Numbers.{quotientOr}
+use Rattle.trellis.proofs.Loops.{map-tab, tab_ext, tab_whole}
+use Rattle.division.specs.Numbers.{quotient_or}
 use Rattle.division.proofs.Quotients.{quotient_is}
 use Rattle.display.specs.inner.Showing.{ShowRoom}
 
-abbrev pub dividedAt : ℕ → List ℕ → List ℕ → ℕ → ℕ
-dividedAt p ws r n = quotientOr p (get_or ws n 0) (get_or r n 0)
+abbrev pub divided_at : ℕ → List ℕ → List ℕ → ℕ → ℕ
+divided_at p ws r n = quotient_or p (get_or ws n 0) (get_or r n 0)
 
-pub shown-done : (p : ℕ) (ws r d out : List ℕ) (n : ℕ) → ShowRoom p ws r d → n ≡ length d → out ≡ tab (dividedAt p ws r) n ++ drop n d → out ≡ displayed p ws r
+pub shown_done : (p : ℕ) (ws r d out : List ℕ) (n : ℕ) → ShowRoom p ws r d → n ≡ length d → out ≡ tab (divided_at p ws r) n ++ drop n d → out ≡ displayed p ws r
 unfolding displayed
-shown-done p ws r d out n R e o =
+shown_done p ws r d out n R e o =
     let q : ℕ → ℕ = λ n. quotient p (get_or ws n 0) (get_or r n 0) in
-    let a : tab (dividedAt p ws r) (length d) ≡ tab q (length d) =
-    tab-ext (dividedAt p ws r) q (length d) (λ n l. quotient_is p (get_or ws n 0) (get_or r n 0) (R.divides n (omega (arith, R.room)))) in
-    let m : map q (up_to (length ws)) ≡ tab q (length ws) = map-tab q 0 (length ws) ∙ tab-ext (λ j. q (0 + j)) q (length ws) (λ j h. ap q (zero-add j)) in
-    o ∙ rw e (tab-whole (dividedAt p ws r) d) ∙ a ∙ ap (tab q) R.room ∙ sym m
+    let a : tab (divided_at p ws r) (length d) ≡ tab q (length d) =
+    tab_ext (divided_at p ws r) q (length d) (λ n l. quotient_is p (get_or ws n 0) (get_or r n 0) (R.divides n (omega (arith, R.room)))) in
+    let m : map q (up_to (length ws)) ≡ tab q (length ws) = map-tab q 0 (length ws) ∙ tab_ext (λ j. q (0 + j)) q (length ws) (λ j h. ap q (zero-add j)) in
+    o ∙ rw e (tab_whole (divided_at p ws r) d) ∙ a ∙ ap (tab q) R.room ∙ sym m

@@ -2,8 +2,8 @@
 mod showing;
 
 ghost use Rattle.std.specs.Prelude.{◌≡◌};
-ghost use Rattle.field.specs.Answers.{writtenReply};
-ghost use Rattle.display.specs.Answers.{displayReply, displayLeaves};
+ghost use Rattle.field.specs.Answers.{written_reply};
+ghost use Rattle.display.specs.Answers.{display_reply, display_leaves};
 
 use field::Written;
 
@@ -11,8 +11,8 @@ use field::Written;
 // by its weight. Costs and pairs do not enter it. Refused as an expansion is: 6, the first byte; 9, degree not 2 to 32; 11, a weight 0 or
 // no element; 16, the record's form; 2, buffer too short.
 pub fn display(first: u8, weights: &[u8], bytes: &[u8], out: &mut [u8]) -> Written
-    ensures reply { writtenReply result ≡ displayReply first weights.now bytes.now out.old }
-    ensures out_then { out.new ≡ displayLeaves first weights.now bytes.now out.old }
+    ensures reply { written_reply result ≡ display_reply first weights.now bytes.now out.old }
+    ensures out_then { out.new ≡ display_leaves first weights.now bytes.now out.old }
 {
     let k = showing::fault(first, weights, bytes, out.len());
     if k != 0 {

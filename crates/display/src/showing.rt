@@ -1,14 +1,14 @@
 // The refusals, and the quotients of the shifts.
 ghost use Rattle.std.specs.Prelude.{◌≡◌};
 ghost use Rattle.trellis.specs.Display.{displayed};
-ghost use Rattle.display.specs.Answers.{displayFault};
+ghost use Rattle.display.specs.Answers.{display_fault};
 ghost use Rattle.display.specs.inner.Showing.{ShowRoom};
 
 use expansion::form;
 
 // "Both refuse as expansion does; the display's buffer is d bytes, refusal 2"; 0 for none.
 pub fn fault(first: u8, weights: &[u8], bytes: &[u8], room: usize) -> u8
-    ensures { result ≡ displayFault first weights.now bytes.now room }
+    ensures { result ≡ display_fault first weights.now bytes.now room }
 {
     let k = field::weights_fault(first, weights);
     if k != 0 {

@@ -4,12 +4,12 @@ use Rattle.trellis.specs.Lists.{pick}
 use Rattle.trellis.specs.Field.{quotient}
 
 -- p is 2 to 6, and h an element other than 0
-unfoldable pub divisorOk : ℕ → ℕ → Bool
-divisorOk p h = pick (ltb p 2) false (pick (ltb 6 p) false (pick (eqb h 0) false (ltb h (2 ^ p))))
+unfoldable pub divisor_ok : ℕ → ℕ → Bool
+divisor_ok p h = pick (ltb p 2) false (pick (ltb 6 p) false (pick (eqb h 0) false (ltb h (2 ^ p))))
 
 -- s divided by h; 0 where h does not divide, or s is no element
-unfoldable pub quotientOr : ℕ → ℕ → ℕ → ℕ
-quotientOr p h s = pick (divisorOk p h) (pick (ltb s (2 ^ p)) (quotient p h s) 0) 0
+unfoldable pub quotient_or : ℕ → ℕ → ℕ → ℕ
+quotient_or p h s = pick (divisor_ok p h) (pick (ltb s (2 ^ p)) (quotient p h s) 0) 0
 
 -- an element that is not 0
 pub record DivisorRoom (p h : ℕ) : Type 0 where

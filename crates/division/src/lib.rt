@@ -2,10 +2,10 @@
 // can call them with what it has.
 ghost use Rattle.std.specs.Prelude.{◌≡◌, ◌^◌, ◌≤◌, ◌<◌, T};
 ghost use Rattle.trellis.specs.Field.{product};
-ghost use Rattle.trellis.specs.Sizes.{mostSize};
-ghost use Rattle.field.specs.Answers.{productReply};
-ghost use Rattle.division.specs.inner.Table.{allInverted};
-ghost use Rattle.division.specs.Numbers.{divisorOk, quotientOr, DivisorRoom};
+ghost use Rattle.trellis.specs.Sizes.{most_size};
+ghost use Rattle.field.specs.Answers.{product_reply};
+ghost use Rattle.division.specs.inner.Table.{all_inverted};
+ghost use Rattle.division.specs.Numbers.{divisor_ok, quotient_or, DivisorRoom};
 
 use field::Element;
 
@@ -30,7 +30,7 @@ const INVERSES: [u8; 128] = [
 
 // The whole table: a constant is copied to the stack where it is indexed.
 fn inverses() -> [u8; 128]
-    ensures { T (allInverted result) }
+    ensures { T (all_inverted result) }
 {
     INVERSES
 }
@@ -44,14 +44,14 @@ fn index(x: u8) -> usize
 // q = 2^p
 fn size(p: u8) -> usize
     requires { p ≤ 6 }
-    ensures { (result ≡ 2 ^ p) × (result ≤ mostSize) }
+    ensures { (result ≡ 2 ^ p) × (result ≤ most_size) }
 {
     1usize << p
 }
 
 // Whether p is one of the five fields' and h an element other than 0.
 fn divisor_ok(p: u8, h: u8) -> bool
-    ensures { result ≡ divisorOk p h }
+    ensures { result ≡ divisor_ok p h }
 {
     if p < 2 {
         return false;
@@ -78,7 +78,7 @@ fn inverse(p: u8, h: u8) -> u8
 
 // A product; 0 where the public product refuses it.
 pub fn times(p: u8, a: u8, b: u8) -> u8
-    ensures { result ≡ (productReply p a b).value }
+    ensures { result ≡ (product_reply p a b).value }
 {
     match field::product(p, a, b) {
         Element::Is(x) => x,
@@ -88,7 +88,7 @@ pub fn times(p: u8, a: u8, b: u8) -> u8
 
 // s divided by h: the element that times h is s; 0 where p is no field's, h is 0 or no element, or s is no element.
 pub fn divide(p: u8, h: u8, s: u8) -> u8
-    ensures { result ≡ quotientOr p h s }
+    ensures { result ≡ quotient_or p h s }
 {
     if !divisor_ok(p, h) {
         return 0;

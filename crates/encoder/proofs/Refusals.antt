@@ -9,33 +9,33 @@ use native.Mathlib.Omega.{arith}
 use lib.Dec.{eqb, ltb}
 use lib.ListN.{length, get_or}
 use borrow.Author.Tests.{eq-eqb, ne_eqb, lt-ltb, le-ltb}
-use Rattle.trellis.specs.Lists.{allTo}
+use Rattle.trellis.specs.Lists.{all_to}
 use Rattle.trellis.specs.Rules.{size_of}
-use Rattle.trellis.proofs.Tests.{of-true, to-true, all_of}
+use Rattle.trellis.proofs.Tests.{of_true, to_true, all_of}
 use Rattle.machine.specs.CodeLine.{Code, size, check}
-use Rattle.machine.specs.Encoding.{messageLength, ownColumn, encodable, symbolsOk, encodeFault}
-use Rattle.machine.specs.inner.Tables.{edgesBefore}
-use Rattle.machine.proofs.Lists.{and-false, all-not}
-use Rattle.machine.proofs.Encoding.{lastOwn, encodable-last, more-columns}
+use Rattle.machine.specs.Encoding.{message_length, own_column, encodable, symbols_ok, encode_fault}
+use Rattle.machine.specs.inner.Tables.{edges_before}
+use Rattle.machine.proofs.Lists.{and_false, all-not}
+use Rattle.machine.proofs.Encoding.{last_own, encodable-last, more-columns}
 use Rattle.codeline.specs.declared.answers.Numbers.{Numbers}
 use Rattle.codeline.specs.inner.Coding.{code_of, Coded}
 use Rattle.encoder.proofs.Filling.{counted, last-column}
 
 -- the last column of check m
 abbrev pub last_at : List ℕ → List ℕ → ℕ → ℕ
-last_at ds cs m = get_or cs (edgesBefore ds m + (get_or ds m 0 - 1)) 0
+last_at ds cs m = get_or cs (edges_before ds m + (get_or ds m 0 - 1)) 0
 
 -- one check more whose last column is its own
-pub own-more : (ds cs : List ℕ) (from m at d c : ℕ) → at ≡ edgesBefore ds m → d ≡ get_or ds m 0 → c ≡ get_or cs (at + (d - 1)) 0 → c ≡ from + m
+pub own_more : (ds cs : List ℕ) (from m at d c : ℕ) → at ≡ edges_before ds m → d ≡ get_or ds m 0 → c ≡ get_or cs (at + (d - 1)) 0 → c ≡ from + m
     → ((j : ℕ) → j < m → last_at ds cs j ≡ from + j) → (j : ℕ) → j < m + 1 → last_at ds cs j ≡ from + j
-own-more ds cs from m at d c e i o k B j h =
+own_more ds cs from m at d c e i o k B j h =
     elim (ℕ_discrete j m) [ yes l ↦ rw l (sym (o ∙ ap₂ (λ a d. get_or cs (a + (d - 1)) 0) e i) ∙ k) | no l ↦ B j (omega arith) ]
 
 -- the message
-pub elements-not : (q : ℕ) (w : List ℕ) (i x : ℕ) → i < length w → x ≡ get_or w i 0 → q ≤ x → false ≡ symbolsOk q w
+pub elements-not : (q : ℕ) (w : List ℕ) (i x : ℕ) → i < length w → x ≡ get_or w i 0 → q ≤ x → false ≡ symbols_ok q w
 elements-not q w i x h e l = sym (all-not (λ i. ltb (get_or w i 0) q) i (length w) h (le-ltb (get_or w i 0) q (omega arith)))
 
-pub elements-more : (q : ℕ) (w : List ℕ) (i x : ℕ) → x ≡ get_or w i 0 → x < q → allTo (λ i. ltb (get_or w i 0) q) i ≡ true → allTo (λ i. ltb (get_or w i 0) q) (i + 1) ≡ true
+pub elements-more : (q : ℕ) (w : List ℕ) (i x : ℕ) → x ≡ get_or w i 0 → x < q → all_to (λ i. ltb (get_or w i 0) q) i ≡ true → all_to (λ i. ltb (get_or w i 0) q) (i + 1) ≡ true
 elements-more q w i x e l t = rw (add-one i, t) (lt-ltb (get_or w i 0) q (omega arith))
 
 module _ (k : Numbers) (ds cs ws : List ℕ) (T : Coded k ds cs ws) where
@@ -47,65 +47,65 @@ module _ (k : Numbers) (ds cs ws : List ℕ) (T : Coded k ds cs ws) where
     count-is : length C.checks ≡ M
     count-is = counted k ds cs ws T ∙ sym e
 
-    form-is : (ltb M n && allTo (λ m. lastOwn (ownColumn C m) (check C m)) M) ≡ encodable C
+    form-is : (ltb M n && all_to (λ m. last_own (own_column C m) (check C m)) M) ≡ encodable C
     form-is = sym (encodable-last C T.good ∙ rw (count-is, ← N))
 
-    own-column : (m : ℕ) → n - M + m ≡ ownColumn C m
+    own-column : (m : ℕ) → n - M + m ≡ own_column C m
     own-column m = rw (N, ← count-is)
 
     pub formed-short : n ≤ M → false ≡ encodable C
-    formed-short h = sym (ap (λ b. b && allTo (λ m. lastOwn (ownColumn C m) (check C m)) M) (le-ltb M n h)) ∙ form-is
+    formed-short h = sym (ap (λ b. b && all_to (λ m. last_own (own_column C m) (check C m)) M) (le-ltb M n h)) ∙ form-is
 
-    pub formed-not : (m at d c : ℕ) → m < M → at ≡ edgesBefore ds m → d ≡ get_or ds m 0 → c ≡ get_or cs (at + (d - 1)) 0 → (c ≡ n - M + m → ⊥) → false ≡ encodable C
-    unfolding lastOwn
+    pub formed-not : (m at d c : ℕ) → m < M → at ≡ edges_before ds m → d ≡ get_or ds m 0 → c ≡ get_or cs (at + (d - 1)) 0 → (c ≡ n - M + m → ⊥) → false ≡ encodable C
+    unfolding last_own
     formed-not m at d c h a i o j =
-        let x : allTo (λ m. lastOwn (ownColumn C m) (check C m)) M ≡ false =
-        all-not _ m M h (ne_eqb _ (ownColumn C m) (λ x. j (last-column k ds cs ws T m at d (omega arith) a i c o ∙ x ∙ sym (own-column m)))) in
-        sym (ap (◌&&◌ (ltb M n)) x ∙ and-false (ltb M n)) ∙ form-is
+        let x : all_to (λ m. last_own (own_column C m) (check C m)) M ≡ false =
+        all-not _ m M h (ne_eqb _ (own_column C m) (λ x. j (last-column k ds cs ws T m at d (omega arith) a i c o ∙ x ∙ sym (own-column m)))) in
+        sym (ap (◌&&◌ (ltb M n)) x ∙ and_false (ltb M n)) ∙ form-is
 
     pub formed-done : M < n → ((j : ℕ) → j < M → last_at ds cs j ≡ n - M + j) → true ≡ encodable C
-    unfolding lastOwn
+    unfolding last_own
     formed-done l B =
-        let x : allTo (λ m. lastOwn (ownColumn C m) (check C m)) M ≡ true =
-        to-true (all_of (λ m. lastOwn (ownColumn C m) (check C m)) M (λ m h.
-        of-true (eq-eqb _ (ownColumn C m) (sym (last-column k ds cs ws T m (edgesBefore ds m) (get_or ds m 0) (omega arith) refl refl (last_at ds cs m) refl) ∙ B m h ∙ own-column m)))) in
+        let x : all_to (λ m. last_own (own_column C m) (check C m)) M ≡ true =
+        to_true (all_of (λ m. last_own (own_column C m) (check C m)) M (λ m h.
+        of_true (eq-eqb _ (own_column C m) (sym (last-column k ds cs ws T m (edges_before ds m) (get_or ds m 0) (omega arith) refl refl (last_at ds cs m) refl) ∙ B m h ∙ own-column m)))) in
         sym (ap₂ ◌&&◌ (lt-ltb M n l) x) ∙ form-is
 
   -- the refusals, in their order
   module _ (u : List ℕ) (room : ℕ) (b : Bool) (e : b ≡ encodable C) where
-    pub fault-form : b ≡ false → 17 ≡ encodeFault C u room
-    unfolding encodeFault
-    fault-form i = let z : encodable C ≡ false = sym e ∙ i in rw z
+    pub fault_form : b ≡ false → 17 ≡ encode_fault C u room
+    unfolding encode_fault
+    fault_form i = let z : encodable C ≡ false = sym e ∙ i in rw z
 
     module _ (i : b ≡ true) (n M : ℕ) (N : n ≡ k.columns) (o : M ≡ k.checks) where
       good-form : encodable C ≡ true
       good-form = sym e ∙ i
 
-      length-is : length u + M ≡ n → length u ≡ messageLength C
+      length-is : length u + M ≡ n → length u ≡ message_length C
       length-is h = omega (arith, counted k ds cs ws T)
 
-      is-length : length u ≡ messageLength C → length u + M ≡ n
+      is-length : length u ≡ message_length C → length u + M ≡ n
       is-length h = omega (arith, counted k ds cs ws T, more-columns C T.good good-form)
 
-      pub fault-length : (length u + M ≡ n → ⊥) → 18 ≡ encodeFault C u room
-      unfolding encodeFault
-      fault-length h = rw (good-form, ne_eqb (length u) (messageLength C) (λ j. h (is-length j)))
+      pub fault_length : (length u + M ≡ n → ⊥) → 18 ≡ encode_fault C u room
+      unfolding encode_fault
+      fault_length h = rw (good-form, ne_eqb (length u) (message_length C) (λ j. h (is-length j)))
 
-      module _ (h : length u + M ≡ n) (q : ℕ) (s : q ≡ size_of k.first) (c : Bool) (j : c ≡ symbolsOk q u) where
-        good_length : eqb (length u) (messageLength C) ≡ true
-        good_length = eq-eqb (length u) (messageLength C) (length-is h)
+      module _ (h : length u + M ≡ n) (q : ℕ) (s : q ≡ size_of k.first) (c : Bool) (j : c ≡ symbols_ok q u) where
+        good_length : eqb (length u) (message_length C) ≡ true
+        good_length = eq-eqb (length u) (message_length C) (length-is h)
 
-        symbols-are : (a : Bool) → c ≡ a → symbolsOk (size C) u ≡ a
-        symbols-are a l = ap (λ q. symbolsOk q u) (sym s) ∙ sym j ∙ l
+        symbols_are : (a : Bool) → c ≡ a → symbols_ok (size C) u ≡ a
+        symbols_are a l = ap (λ q. symbols_ok q u) (sym s) ∙ sym j ∙ l
 
-        pub fault-elements : c ≡ false → 18 ≡ encodeFault C u room
-        unfolding encodeFault
-        fault-elements l = rw (good-form, good_length, symbols-are false l)
+        pub fault_elements : c ≡ false → 18 ≡ encode_fault C u room
+        unfolding encode_fault
+        fault_elements l = rw (good-form, good_length, symbols_are false l)
 
-        pub fault-room : c ≡ true → room < n → 2 ≡ encodeFault C u room
-        unfolding encodeFault
-        fault-room l r = rw (good-form, good_length, symbols-are true l, lt-ltb room k.columns (omega arith))
+        pub fault_room : c ≡ true → room < n → 2 ≡ encode_fault C u room
+        unfolding encode_fault
+        fault_room l r = rw (good-form, good_length, symbols_are true l, lt-ltb room k.columns (omega arith))
 
-        pub fault-none : c ≡ true → n ≤ room → 0 ≡ encodeFault C u room
-        unfolding encodeFault
-        fault-none l r = rw (good-form, good_length, symbols-are true l, le-ltb room k.columns (omega arith))
+        pub fault_none : c ≡ true → n ≤ room → 0 ≡ encode_fault C u room
+        unfolding encode_fault
+        fault_none l r = rw (good-form, good_length, symbols_are true l, le-ltb room k.columns (omega arith))

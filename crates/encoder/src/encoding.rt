@@ -1,8 +1,8 @@
 // Encoding over lent tables: the code is read, then the refusals in their order, or the message and the symbols of the checks.
 ghost use Rattle.std.specs.Prelude.{◌≡◌};
-ghost use Rattle.field.specs.Answers.{writtenReply};
+ghost use Rattle.field.specs.Answers.{written_reply};
 ghost use Rattle.machine.specs.CodeLine.{good};
-ghost use Rattle.machine.specs.Encoding.{encodeFault, encodingUnder, encoding};
+ghost use Rattle.machine.specs.Encoding.{encode_fault, encoding_under, encoding};
 ghost use Rattle.codeline.specs.inner.Coding.{code_of, Coded};
 
 use crate::{fill, form, message};
@@ -21,7 +21,7 @@ fn fault(
     room: usize,
 ) -> u8
     requires { Coded numbers degrees.now columns.now weights.now }
-    ensures { result ≡ encodeFault (code_of numbers degrees.now columns.now weights.now)
+    ensures { result ≡ encode_fault (code_of numbers degrees.now columns.now weights.now)
         message.now room }
 {
     if !form::formed(numbers, degrees, columns, weights) {
@@ -50,11 +50,11 @@ fn under_code(
     symbols: &mut [u8],
 ) -> Written
     requires { Coded numbers degrees.now columns.now weights.now }
-    ensures reply { writtenReply result
-        ≡ (encodingUnder (good (code_of numbers degrees.now columns.now weights.now))
+    ensures reply { written_reply result
+        ≡ (encoding_under (good (code_of numbers degrees.now columns.now weights.now))
         message.now symbols.old).reply }
     ensures symbols_then { symbols.new
-        ≡ (encodingUnder (good (code_of numbers degrees.now columns.now weights.now))
+        ≡ (encoding_under (good (code_of numbers degrees.now columns.now weights.now))
         message.now symbols.old).out }
 {
     let k = fault(numbers, degrees, columns, weights, message, symbols.len());
@@ -77,7 +77,7 @@ pub fn encode_in(
     columns: &mut [u16; sizes::MOST_EDGES],
     weights: &mut [u8; sizes::MOST_EDGES],
 ) -> Written
-    ensures reply { writtenReply result ≡ (encoding code.now message.now symbols.old).reply }
+    ensures reply { written_reply result ≡ (encoding code.now message.now symbols.old).reply }
     ensures symbols_then { symbols.new ≡ (encoding code.now message.now symbols.old).out }
 {
     match codeline::code_tables(code, degrees, columns, weights) {

@@ -1,8 +1,8 @@
 // The symbols after the message, one for each check, from the symbols before it.
 ghost use Rattle.std.specs.Prelude.{◌≡◌, take};
-ghost use Rattle.trellis.specs.Rules.{powerOf};
+ghost use Rattle.trellis.specs.Rules.{power_of};
 ghost use Rattle.machine.specs.CodeLine.{power, check};
-ghost use Rattle.machine.specs.Encoding.{ownSymbol, encoded};
+ghost use Rattle.machine.specs.Encoding.{own_symbol, encoded};
 ghost use Rattle.machine.specs.inner.Tables.{term, EdgeRoom};
 ghost use Rattle.codeline.specs.inner.Coding.{code_of};
 ghost use Rattle.encoder.specs.inner.Rooms.{OwnRoom, FillRoom};
@@ -11,8 +11,8 @@ use codeline::answers::Numbers;
 
 // What one edge adds to its check's sum.
 fn term_at(numbers: Numbers, columns: &[u16], weights: &[u8], symbols: &[u8], edge: usize) -> u8
-    requires { EdgeRoom (powerOf numbers.first) columns.now weights.now symbols.now edge }
-    ensures { result ≡ term (powerOf numbers.first) columns.now weights.now symbols.now edge }
+    requires { EdgeRoom (power_of numbers.first) columns.now weights.now symbols.now edge }
+    ensures { result ≡ term (power_of numbers.first) columns.now weights.now symbols.now edge }
 {
     let c = scalar::u16_to_usize(columns[edge]);
     division::times(rules::power(numbers.first), weights[edge], symbols[c])
@@ -30,7 +30,7 @@ fn own(
     word: &[u8],
 ) -> u8
     requires { OwnRoom numbers degrees.now columns.now weights.now m at word.now }
-    ensures { result ≡ ownSymbol (power (code_of numbers degrees.now columns.now weights.now))
+    ensures { result ≡ own_symbol (power (code_of numbers degrees.now columns.now weights.now))
         (check (code_of numbers degrees.now columns.now weights.now) m) word.now }
 {
     let d = scalar::u8_to_usize(degrees[m]);

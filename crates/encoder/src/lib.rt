@@ -5,7 +5,7 @@ mod form;
 mod message;
 
 ghost use Rattle.std.specs.Prelude.{◌≡◌};
-ghost use Rattle.field.specs.Answers.{writtenReply};
+ghost use Rattle.field.specs.Answers.{written_reply};
 ghost use Rattle.machine.specs.Encoding.{encoding};
 
 use field::Written;
@@ -16,7 +16,7 @@ use scalar::sizes;
 // symbols stays. Refused: the code line's 5 to 11; 17, the line lacks this form; 18, message length, or a symbol not below q; 2, symbol
 // buffer too short.
 pub fn encode(code: &[u8], message: &[u8], symbols: &mut [u8]) -> Written
-    ensures reply { writtenReply result ≡ (encoding code.now message.now symbols.old).reply }
+    ensures reply { written_reply result ≡ (encoding code.now message.now symbols.old).reply }
     ensures symbols_then { symbols.new ≡ (encoding code.now message.now symbols.old).out }
 {
     let mut degrees = [0u8; sizes::MOST_CHECKS];

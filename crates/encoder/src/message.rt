@@ -1,10 +1,10 @@
 // The message's symbols, refusal 18.
 ghost use Rattle.std.specs.Prelude.{◌≡◌};
-ghost use Rattle.machine.specs.Encoding.{symbolsOk};
+ghost use Rattle.machine.specs.Encoding.{symbols_ok};
 
 // Whether each symbol is below q.
 pub fn elements(symbols: &[u8], q: usize) -> bool
-    ensures { result ≡ symbolsOk q symbols.now }
+    ensures { result ≡ symbols_ok q symbols.now }
 {
     let mut i = 0;
     while i < symbols.len() {

@@ -11,7 +11,7 @@ use Rattle.trellis.specs.Rows.{difference, symbol_at}
 use Rattle.engine.specs.inner.Lines.{placed}
 use Rattle.engine.specs.inner.Rests.{line_at}
 use Rattle.trellis.proofs.Sent.{Proper}
-use Rattle.trellis.proofs.Kept.{difference-small, symbol-at, symbol-own}
+use Rattle.trellis.proofs.Kept.{difference-small, symbol-at, symbol_own}
 use Rattle.trellis.proofs.Loops.{length-tab, stores, stores_at}
 
 module _ (R : Rule) (cs : List Column) (P : Proper R cs) (n : ℕ) (k : n < length cs) (row : List ℕ) (products : (x : ℕ) → x < R.size → get_or row x 0 ≡ weigh R (column cs n) x)
@@ -36,5 +36,5 @@ module _ (R : Rule) (cs : List Column) (P : Proper R cs) (n : ℕ) (k : n < leng
       let o : to x ≡ a = at x y.1 ∙ y.0 in
       let w : get_or (stores to (λ x. 255 - get_or c.costs x 0) (tab (λ a. 0) l) R.size) (to x) 0 ≡ 255 - get_or c.costs x 0 =
       stores_at to (λ x. 255 - get_or c.costs x 0) (tab (λ a. 0) l) R.size (λ i j. rw (at i j) (omega (arith, difference-small R cs P n k i j, length-tab (λ a. 0) l)))
-      (λ i j p q r. sym (symbol-own R cs P n k i p) ∙ ap (symbol_at R c) (sym (at i p) ∙ r ∙ at j q) ∙ symbol-own R cs P n k j q) x y.1 in
+      (λ i j p q r. sym (symbol_own R cs P n k i p) ∙ ap (symbol_at R c) (sym (at i p) ∙ r ∙ at j q) ∙ symbol_own R cs P n k j q) x y.1 in
       rw o at w

@@ -5,17 +5,17 @@ use Prim.Native.Nat.{ℕ, zero, suc, ◌+◌, ◌-◌, ◌<◌}
 use native.Mathlib.Nat.{zero-add}
 use native.Mathlib.Omega.{arith}
 use lib.ListN.{length}
-use Rattle.trellis.specs.Lists.{each, countFrom, up_to, tab, blocks}
+use Rattle.trellis.specs.Lists.{each, count_from, up_to, tab, blocks}
 use Rattle.trellis.specs.Field.{xor}
 use Rattle.trellis.specs.Check.{Rule, Column, weigh, decision, decided, shift, column}
-use Rattle.trellis.specs.Record.{shifts, group, recordOf}
-use Rattle.trellis.specs.Rules.{ruleFor, powerOf, size_of, columnsOf}
+use Rattle.trellis.specs.Record.{shifts, group, record_of}
+use Rattle.trellis.specs.Rules.{rule_for, power_of, size_of, columns_of}
 use Rattle.trellis.specs.Ready.{Ready}
-use Rattle.engine.specs.inner.Terms.{termOf, sum_to}
-use Rattle.trellis.proofs.Xor.{xor_assoc, xor_comm, xor-cancel}
-use Rattle.trellis.proofs.Loops.{tab-ext, map-tab, blocks-ext, each-blocks}
-use Rattle.trellis.proofs.Sent.{split-decided}
-use Rattle.trellis.proofs.Ready.{length-columns, column-at, ready-proper}
+use Rattle.engine.specs.inner.Terms.{term_of, sum_to}
+use Rattle.trellis.proofs.Xor.{xor_assoc, xor_comm, xor_cancel}
+use Rattle.trellis.proofs.Loops.{tab_ext, map-tab, blocks_ext, each-blocks}
+use Rattle.trellis.proofs.Sent.{split_decided}
+use Rattle.trellis.proofs.Ready.{length-columns, column-at, ready_proper}
 
 -- sums from the front and from the back
 sum-front : (f : ℕ → ℕ) (n : ℕ) → sum_to f (suc n) ≡ xor (f 0) (sum_to (λ j. f (suc j)) n)
@@ -33,33 +33,33 @@ decided-sum R (c ∷ cs) = ap (xor (weigh R c (decision c).symbol)) (decided-sum
 
 module _ (f : ℕ) (ws cs : List ℕ) (D : Ready f ws cs) where
   abbrev R : Rule
-  R = ruleFor f
+  R = rule_for f
 
   abbrev q : ℕ
   q = size_of f
 
-  abbrev pub theColumns : List Column
-  theColumns = columnsOf (size_of f) ws cs
+  abbrev pub the_columns : List Column
+  the_columns = columns_of (size_of f) ws cs
 
-  pub term_is : (n : ℕ) → n < length ws → weigh R (column theColumns n) (decision (column theColumns n)).symbol ≡ termOf (powerOf f) ws cs n
+  pub term_is : (n : ℕ) → n < length ws → weigh R (column the_columns n) (decision (column the_columns n)).symbol ≡ term_of (power_of f) ws cs n
   term_is n h = rw (column-at q ws cs n h)
 
-  pub shift_is : (n : ℕ) → n < length ws → shift R theColumns n ≡ xor (sum_to (termOf (powerOf f) ws cs) (length ws)) (termOf (powerOf f) ws cs n)
+  pub shift_is : (n : ℕ) → n < length ws → shift R the_columns n ≡ xor (sum_to (term_of (power_of f) ws cs) (length ws)) (term_of (power_of f) ws cs n)
   shift_is n h =
-      let e : length theColumns ≡ length ws = length-columns q ws cs in
-      let s = split-decided R theColumns (ready-proper f ws cs D) 0 n (omega arith) in
-      let t : sum_to (λ j. weigh R (column theColumns j) (decision (column theColumns j)).symbol) (length theColumns) ≡ sum_to (termOf (powerOf f) ws cs) (length ws) =
+      let e : length the_columns ≡ length ws = length-columns q ws cs in
+      let s = split_decided R the_columns (ready_proper f ws cs D) 0 n (omega arith) in
+      let t : sum_to (λ j. weigh R (column the_columns j) (decision (column the_columns j)).symbol) (length the_columns) ≡ sum_to (term_of (power_of f) ws cs) (length ws) =
       rw e (sum_same _ _ (length ws) (λ j l. term_is j l)) in
-      let d : decided R theColumns ≡ sum_to (termOf (powerOf f) ws cs) (length ws) = decided-sum R theColumns ∙ t in
-      sym (xor-cancel (termOf (powerOf f) ws cs n) (shift R theColumns n)) ∙ ap (xor (termOf (powerOf f) ws cs n)) (ap (λ y. xor y (shift R theColumns n)) (sym (term_is n h)) ∙ sym s ∙ d) ∙ xor_comm _ _
+      let d : decided R the_columns ≡ sum_to (term_of (power_of f) ws cs) (length ws) = decided-sum R the_columns ∙ t in
+      sym (xor_cancel (term_of (power_of f) ws cs n) (shift R the_columns n)) ∙ ap (xor (term_of (power_of f) ws cs n)) (ap (λ y. xor y (shift R the_columns n)) (sym (term_is n h)) ∙ sym s ∙ d) ∙ xor_comm _ _
 
-  pub record-parts : recordOf R theColumns
-      ≡ tab (λ n. xor (sum_to (termOf (powerOf f) ws cs) (length ws)) (termOf (powerOf f) ws cs n)) (length ws) ++ blocks (λ i. group R theColumns (suc i)) (q - 1)
-  unfolding recordOf shifts
-  record-parts =
-      let e : length theColumns ≡ length ws = length-columns q ws cs in
-      let a : map (shift R theColumns) (up_to (length theColumns)) ≡ tab (λ n. xor (sum_to (termOf (powerOf f) ws cs) (length ws)) (termOf (powerOf f) ws cs n)) (length ws) =
-      map-tab (shift R theColumns) 0 (length theColumns) ∙ rw e (tab-ext _ _ (length ws) (λ j l. rw (zero-add j) (shift_is j l))) in
-      let b : each (group R theColumns) (countFrom 1 (q - 1)) ≡ blocks (λ i. group R theColumns (suc i)) (q - 1) =
-      each-blocks (group R theColumns) 1 (q - 1) ∙ blocks-ext (λ j. group R theColumns (1 + j)) _ (q - 1) (λ j l. ap (group R theColumns) (omega arith)) in
+  pub record_parts : record_of R the_columns
+      ≡ tab (λ n. xor (sum_to (term_of (power_of f) ws cs) (length ws)) (term_of (power_of f) ws cs n)) (length ws) ++ blocks (λ i. group R the_columns (suc i)) (q - 1)
+  unfolding record_of shifts
+  record_parts =
+      let e : length the_columns ≡ length ws = length-columns q ws cs in
+      let a : map (shift R the_columns) (up_to (length the_columns)) ≡ tab (λ n. xor (sum_to (term_of (power_of f) ws cs) (length ws)) (term_of (power_of f) ws cs n)) (length ws) =
+      map-tab (shift R the_columns) 0 (length the_columns) ∙ rw e (tab_ext _ _ (length ws) (λ j l. rw (zero-add j) (shift_is j l))) in
+      let b : each (group R the_columns) (count_from 1 (q - 1)) ≡ blocks (λ i. group R the_columns (suc i)) (q - 1) =
+      each-blocks (group R the_columns) 1 (q - 1) ∙ blocks_ext (λ j. group R the_columns (1 + j)) _ (q - 1) (λ j l. ap (group R the_columns) (omega arith)) in
       ap₂ (λ x y. x ++ y) a b

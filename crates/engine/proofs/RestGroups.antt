@@ -11,29 +11,29 @@ use lib.ListN.{length, length-append}
 use borrow.Author.Tests.{lt-ltb, le-ltb}
 use native.Mathlib.Decide.{dec_lt}
 use Rattle.trellis.specs.Lists.{pick, blocks, each, keep, up_to}
-use Rattle.trellis.specs.Check.{Rule, Column, sentAt, extra}
+use Rattle.trellis.specs.Check.{Rule, Column, sent_at, extra}
 use Rattle.trellis.specs.Record.{above, group}
 use Rattle.trellis.proofs.Places.{length-each}
-use Rattle.trellis.proofs.Loops.{blocks-ext, blocks-front, each-blocks}
-use Rattle.trellis.proofs.Sent.{Proper, extra-sent, extra-le, above-few}
-use Rattle.engine.specs.inner.Rests.{mostTo}
-use Rattle.engine.specs.inner.Groups.{pushed, listedColumn, listedRest, listedGroup}
+use Rattle.trellis.proofs.Loops.{blocks_ext, blocks-front, each-blocks}
+use Rattle.trellis.proofs.Sent.{Proper, extra-sent, extra_le, above-few}
+use Rattle.engine.specs.inner.Rests.{most_to}
+use Rattle.engine.specs.inner.Groups.{pushed, listed_column, listed_rest, listed_group}
 
-pub most-ge : (f : ℕ → ℕ) (n j : ℕ) → j < n → f j ≤ mostTo f n
-most-ge f zero j h = absurd (omega arith)
-most-ge f (suc n) j h =
+pub most_ge : (f : ℕ → ℕ) (n j : ℕ) → j < n → f j ≤ most_to f n
+most_ge f zero j h = absurd (omega arith)
+most_ge f (suc n) j h =
     elim (ℕ_discrete j n) [
       | yes e ↦ rw e (omega arith)
-      | no e ↦ omega (arith, most-ge f n j (omega arith))
+      | no e ↦ omega (arith, most_ge f n j (omega arith))
     ]
 
-pub most-le : (f : ℕ → ℕ) (n m : ℕ) → ((j : ℕ) → j < n → f j ≤ m) → mostTo f n ≤ m
-most-le f zero m k = omega arith
-most-le f (suc n) m k = omega (arith, most-le f n m (λ j l. k j (omega arith)), k n (omega arith))
+pub most_le : (f : ℕ → ℕ) (n m : ℕ) → ((j : ℕ) → j < n → f j ≤ m) → most_to f n ≤ m
+most_le f zero m k = omega arith
+most_le f (suc n) m k = omega (arith, most_le f n m (λ j l. k j (omega arith)), k n (omega arith))
 
-pub most-ext : (f g : ℕ → ℕ) (n : ℕ) → ((j : ℕ) → j < n → f j ≡ g j) → mostTo f n ≡ mostTo g n
-most-ext f g zero h = refl
-most-ext f g (suc n) h = ap₂ max (most-ext f g n (λ j l. h j (omega arith))) (h n (omega arith))
+pub most_ext : (f g : ℕ → ℕ) (n : ℕ) → ((j : ℕ) → j < n → f j ≡ g j) → most_to f n ≡ most_to g n
+most_ext f g zero h = refl
+most_ext f g (suc n) h = ap₂ max (most_ext f g n (λ j l. h j (omega arith))) (h n (omega arith))
 
 abbrev unused : ℕ → List ℕ
 unused i = 0xFF ∷ 0x00 ∷ []
@@ -55,10 +55,10 @@ module _ (S : ℕ → ℕ) (e d : ℕ) where
   count (suc i) = pick (low (d - suc i)) (suc (count i)) (count i)
 
   abbrev listed : ℕ → ℕ → List ℕ
-  listed i j = listedColumn S e d i j ∷ (255 - listedRest S e d i j) ∷ []
+  listed i j = listed_column S e d i j ∷ (255 - listed_rest S e d i j) ∷ []
 
   abbrev state : Bool → ℕ → ℕ → List ℕ
-  state t i j = pushed t (d - suc i) (listedColumn S e d i) j ∷ (255 - pushed t (S (d - suc i)) (listedRest S e d i) j) ∷ []
+  state t i j = pushed t (d - suc i) (listed_column S e d i) j ∷ (255 - pushed t (S (d - suc i)) (listed_rest S e d i) j) ∷ []
 
   keeps : (i j : ℕ) → state false i j ≡ listed i j
   keeps i zero = refl
@@ -72,10 +72,10 @@ module _ (S : ℕ → ℕ) (e d : ℕ) where
   turn i ih true (suc k) h = blocks-front (state true i) k
       ∙ ap {B = List ℕ} (λ l. (d - suc i) ∷ (255 - S (d - suc i)) ∷ l)
       (ih k (omega arith) ∙ ap (λ y. found i ++ blocks unused y) (let q : k - count i ≡ suc k - suc (count i) = omega arith in q))
-  turn i ih false k h = blocks-ext (state false i) (listed i) k (λ j l. keeps i j) ∙ ih k h
+  turn i ih false k h = blocks_ext (state false i) (listed i) k (λ j l. keeps i j) ∙ ih k h
 
   listed-are : (i k : ℕ) → count i ≤ k → blocks (listed i) k ≡ found i ++ blocks unused (k - count i)
-  unfolding listedColumn listedRest count found
+  unfolding listed_column listed_rest count found
   listed-are zero k h = ap (blocks unused) (let q : k ≡ k - 0 = omega arith in q)
   listed-are (suc i) k h = turn i (listed-are i) (low (d - suc i)) k h
 
@@ -85,16 +85,16 @@ module _ (S : ℕ → ℕ) (e d : ℕ) where
   found-blocks (suc i) h =
       sym (blocks-front (λ j. pair_at (d - suc i + j)) i
       ∙ ap₂ {C = List ℕ} (λ x y. x ++ y) (ap pair_at (add-zero (d - suc i)))
-      (blocks-ext _ _ i (λ j l. ap pair_at (let q : d - suc i + suc j ≡ d - i + j = omega arith in q))
+      (blocks_ext _ _ i (λ j l. ap pair_at (let q : d - suc i + suc j ≡ d - i + j = omega arith in q))
       ∙ sym (found-blocks i (omega arith))))
 
   pub found_all : found d ≡ blocks pair_at d
-  found_all = found-blocks d (omega arith) ∙ blocks-ext _ _ d (λ j l. ap pair_at (let q : d - d + j ≡ j = omega arith in q))
+  found_all = found-blocks d (omega arith) ∙ blocks_ext _ _ d (λ j l. ap pair_at (let q : d - d + j ≡ j = omega arith in q))
 
-  pub found-length : (i : ℕ) → length (found i) ≡ 2 * count i
+  pub found_length : (i : ℕ) → length (found i) ≡ 2 * count i
   unfolding found count
-  found-length zero = refl
-  found-length (suc i) = length-append (pair_at (d - suc i)) (found i) ∙ go (low (d - suc i)) (found-length i)
+  found_length zero = refl
+  found_length (suc i) = length-append (pair_at (d - suc i)) (found i) ∙ go (low (d - suc i)) (found_length i)
     where
       go : (t : Bool) → length (found i) ≡ 2 * count i
           → length (pick t ((d - suc i) ∷ (255 - S (d - suc i)) ∷ []) []) + length (found i) ≡ 2 * pick t (suc (count i)) (count i)
@@ -111,55 +111,55 @@ each_keep f p (x ∷ l) = go (p x) (each_keep f p l)
     go false e = e
 
 module _ (R : Rule) (cs : List Column) (P : Proper R cs) (a : ℕ) (small : a < R.size)
-    (bytes : (n : ℕ) → n < length cs → sentAt R cs n a ≤ 255) (S : ℕ → ℕ)
-    (S-is : (n : ℕ) → n < length cs → S n ≡ 255 - sentAt R cs n a) where
+    (bytes : (n : ℕ) → n < length cs → sent_at R cs n a ≤ 255) (S : ℕ → ℕ)
+    (S-is : (n : ℕ) → n < length cs → S n ≡ 255 - sent_at R cs n a) where
   abbrev d : ℕ
   d = length cs
 
   abbrev E : ℕ
-  E = mostTo S d
+  E = most_to S d
 
   -- E is the least of the S_n, so its rest is the best of theirs
   extra-most : extra R cs a ≡ 255 - E
   extra-most =
       let r = extra-sent R cs P a small in
-      let u = most-ge S d r.0 r.1 in
-      let v = most-le S d (255 - extra R cs a) (λ j h. omega (arith, S-is j h, extra-le R cs P a small j h)) in
+      let u = most_ge S d r.0 r.1 in
+      let v = most_le S d (255 - extra R cs a) (λ j h. omega (arith, S-is j h, extra_le R cs P a small j h)) in
       omega (arith, u, v, S-is r.0 r.1, r.2, bytes r.0 r.1)
 
-  same_test : (n : ℕ) → n < d → ltb (extra R cs a) (sentAt R cs n a) ≡ ltb (S n) E
+  same_test : (n : ℕ) → n < d → ltb (extra R cs a) (sent_at R cs n a) ≡ ltb (S n) E
   same_test n l =
       let e = S-is n l in
       let f = extra-most in
       let b = bytes n l in
-      let g = most-le S d 255 (λ j h. omega (arith, S-is j h)) in
+      let g = most_le S d 255 (λ j h. omega (arith, S-is j h)) in
       elim (dec_lt (S n) E) [
-        | yes h ↦ lt-ltb (extra R cs a) (sentAt R cs n a) (omega arith) ∙ sym (lt-ltb (S n) E h)
-        | no h ↦ le-ltb (extra R cs a) (sentAt R cs n a) (omega arith) ∙ sym (le-ltb (S n) E (omega arith))
+        | yes h ↦ lt-ltb (extra R cs a) (sent_at R cs n a) (omega arith) ∙ sym (lt-ltb (S n) E h)
+        | no h ↦ le-ltb (extra R cs a) (sent_at R cs n a) (omega arith) ∙ sym (le-ltb (S n) E (omega arith))
       ]
 
-  pairs-are : each (λ n. n ∷ sentAt R cs n a ∷ []) (above R cs a) ≡ found S E d d
+  pairs-are : each (λ n. n ∷ sent_at R cs n a ∷ []) (above R cs a) ≡ found S E d d
   unfolding above
   pairs-are =
-      each_keep (λ n. n ∷ sentAt R cs n a ∷ []) (λ n. ltb (extra R cs a) (sentAt R cs n a)) (up_to d) ∙ each-blocks _ 0 d
-      ∙ blocks-ext _ _ d (λ j l. rw (zero-add j)
+      each_keep (λ n. n ∷ sent_at R cs n a ∷ []) (λ n. ltb (extra R cs a) (sent_at R cs n a)) (up_to d) ∙ each-blocks _ 0 d
+      ∙ blocks_ext _ _ d (λ j l. rw (zero-add j)
       (ap₂ {C = List ℕ} (λ t s. pick t (j ∷ s ∷ []) []) (same_test j l)
-      (let q : sentAt R cs j a ≡ 255 - S j = omega (arith, S-is j l, bytes j l) in q)))
+      (let q : sent_at R cs j a ≡ 255 - S j = omega (arith, S-is j l, bytes j l) in q)))
       ∙ sym (found_all S E d)
 
   above-count : length (above R cs a) ≡ count S E d d
   above-count = omega (
     arith,
-    length-each (λ n. n ∷ sentAt R cs n a ∷ []) 2 (above R cs a)
+    length-each (λ n. n ∷ sent_at R cs n a ∷ []) 2 (above R cs a)
         (λ x. refl),
     ap length pairs-are,
-    found-length S E d d,
+    found_length S E d d,
   )
 
   -- the bytes of a, for any S that has the rests of the costs sent
-  pub group-is : group R cs a ≡ listedGroup R.most d S
-  unfolding group listedGroup
-  group-is =
+  pub group_is : group R cs a ≡ listed_group R.most d S
+  unfolding group listed_group
+  group_is =
       ap₂ {C = List ℕ} (λ x y. extra R cs a ∷ (x ++ y)) pairs-are
       (each-blocks unused 0 (R.most - length (above R cs a)) ∙ ap (λ c. blocks unused (R.most - c)) above-count)
       ∙ ap₂ {C = List ℕ} (λ x y. x ∷ y) extra-most

@@ -7,17 +7,17 @@ use native.Mathlib.Omega.{arith}
 use lib.ListN.{length, take, drop, length-take, length-drop}
 use lib.Seq.{get_or-take, get_or-drop, drop-cons, take-suc}
 use Rattle.trellis.specs.Lists.{others}
-use Rattle.trellis.specs.Check.{column, blank, Rule, Column, shift, sentAt}
+use Rattle.trellis.specs.Check.{column, blank, Rule, Column, shift, sent_at}
 use Rattle.trellis.proofs.Sent.{Sound, Proper, sent_is}
 use Rattle.engine.specs.inner.Rests.{rest, line_at, grown, between}
-use Rattle.engine.proofs.BestRests.{best-one, Meets}
-use Rattle.engine.proofs.Rests.{All, rest-best, rest-one, rest_more, rest-first, rest-between, rest-turn}
+use Rattle.engine.proofs.BestRests.{best_one, Meets}
+use Rattle.engine.proofs.Rests.{All, rest_best, rest-one, rest_more, rest-first, rest-between, rest_turn}
 
-others-split : {A : Type 0} (n : ℕ) (cs : List A) → take n cs ++ drop (suc n) cs ≡ others n cs
-others-split zero [] = refl
-others-split (suc n) [] = refl
-others-split zero (c ∷ cs) = refl
-others-split {A} (suc n) (c ∷ cs) = ap {B = List A} (λ l. c ∷ l) (others-split n cs)
+others_split : {A : Type 0} (n : ℕ) (cs : List A) → take n cs ++ drop (suc n) cs ≡ others n cs
+others_split zero [] = refl
+others_split (suc n) [] = refl
+others_split zero (c ∷ cs) = refl
+others_split {A} (suc n) (c ∷ cs) = ap {B = List A} (λ l. c ∷ l) (others_split n cs)
 
 module _ (R : Rule) (cs : List Column) (P : Proper R cs) (meet : ℕ → ℕ → ℕ) (M : Meets R.join meet) where
   sound-take : (n : ℕ) → All R (take n cs)
@@ -43,7 +43,7 @@ module _ (R : Rule) (cs : List Column) (P : Proper R cs) (meet : ℕ → ℕ →
       → rest R (drop n cs) j a ≡ grown meet R.size (line_at R (column cs n)) (rest R (drop (suc n) cs)) j a
   after_more n j a i h l =
       ap (λ y. rest R y j a) (drop-cons cs n blank i)
-      ∙ rest-turn R meet M P.p P.power (column cs n ∷ []) (drop (suc n) cs) (single n i) (sound-drop (suc n)) j a l
+      ∙ rest_turn R meet M P.p P.power (column cs n ∷ []) (drop (suc n) cs) (single n i) (sound-drop (suc n)) j a l
       ∙ one_more (column cs n) (P.sound n i) (drop (suc n) cs) (sound-drop (suc n)) j a h l
     where
       single : (n : ℕ) → n < length cs → All R (column cs n ∷ [])
@@ -70,36 +70,36 @@ module _ (R : Rule) (cs : List Column) (P : Proper R cs) (meet : ℕ → ℕ →
           empty (x ∷ l) e = absurd (omega arith)
 
   -- the rest of the cost sent to column n
-  sent-rest : (n a : ℕ) → n < length cs → a < R.size → 255 - sentAt R cs n a ≡ rest R (others n cs) R.most a
+  sent-rest : (n a : ℕ) → n < length cs → a < R.size → 255 - sent_at R cs n a ≡ rest R (others n cs) R.most a
   unfolding shift
   sent-rest n a l h =
       let i = sent_is R cs P a h n l in
-      best-one
+      best_one
       record {
         attained = inr (
-          sentAt R cs n a,
+          sent_at R cs n a,
           (i.choice, record { fits = i.allowed.fits; few = i.allowed.few; sum = i.allowed.sum }, i.attained),
           refl,
         );
         best = λ x s. omega (arith, i.least s.0 record { fits = s.1.fits; few = s.1.few; sum = s.1.sum }, s.2);
       }
-      (rest-best R (others n cs) R.most a)
+      (rest_best R (others n cs) R.most a)
 
   -- the tables before and after column n, joined
   pub sent-between : (n a : ℕ) → n < length cs → a < R.size
-      → 255 - sentAt R cs n a ≡ between meet R.size R.most (rest R (take n cs)) (rest R (drop (suc n) cs)) a
+      → 255 - sent_at R cs n a ≡ between meet R.size R.most (rest R (take n cs)) (rest R (drop (suc n) cs)) a
   sent-between n a l h =
-      sent-rest n a l h ∙ ap (λ y. rest R y R.most a) (sym (others-split n cs))
+      sent-rest n a l h ∙ ap (λ y. rest R y R.most a) (sym (others_split n cs))
       ∙ rest-between R meet M P.p P.power (take n cs) (drop (suc n) cs) (sound-take n) (sound-drop (suc n)) R.most a h
 
   -- the ends: no column before the first, none after the last
-  pub sent-first : (a : ℕ) → a < R.size → 255 - sentAt R cs 0 a ≡ rest R (drop 1 cs) R.most a
-  sent-first a h = sent-rest 0 a (omega (arith, P.two)) h ∙ ap (λ y. rest R y R.most a) (sym (others-split 0 cs))
+  pub sent-first : (a : ℕ) → a < R.size → 255 - sent_at R cs 0 a ≡ rest R (drop 1 cs) R.most a
+  sent-first a h = sent-rest 0 a (omega (arith, P.two)) h ∙ ap (λ y. rest R y R.most a) (sym (others_split 0 cs))
 
-  pub sent-last : (n a : ℕ) → suc n ≡ length cs → a < R.size → 255 - sentAt R cs n a ≡ rest R (take n cs) R.most a
+  pub sent-last : (n a : ℕ) → suc n ≡ length cs → a < R.size → 255 - sent_at R cs n a ≡ rest R (take n cs) R.most a
   sent-last n a e h =
       sent-rest n a (omega arith) h ∙ ap (λ y. rest R y R.most a)
-      (sym (others-split n cs) ∙ ap (λ y. take n cs ++ y) (none_left (drop (suc n) cs) (omega (arith, length-drop (suc n) cs)))
+      (sym (others_split n cs) ∙ ap (λ y. take n cs ++ y) (none_left (drop (suc n) cs) (omega (arith, length-drop (suc n) cs)))
       ∙ append-nil (take n cs))
     where
       none_left : (l : List Column) → length l ≡ 0 → l ≡ []

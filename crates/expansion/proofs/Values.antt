@@ -4,17 +4,17 @@ use Prim.Native.Nat.{ℕ, ◌*◌, ◌≤◌}
 use native.Mathlib.Nat.{mul-le-mul}
 use lib.Dec.{ltb}
 use lib.ListN.{length}
-use Rattle.trellis.specs.Record.{recordTests}
-use Rattle.trellis.specs.Rules.{ruleFor, powerOf, size_of}
+use Rattle.trellis.specs.Record.{record_tests}
+use Rattle.trellis.specs.Rules.{rule_for, power_of, size_of}
 use Rattle.trellis.specs.Refusals.{when}
 use Rattle.trellis.specs.Reply.{accepted}
 use Rattle.trellis.proofs.Recurrence.{size_64}
 use Rattle.field.proofs.Values.{Short, short-under, short-by}
-use Rattle.expansion.specs.Answers.{expandReply}
+use Rattle.expansion.specs.Answers.{expand_reply}
 
-pub expand-short : (first : ℕ) (ws r out : List ℕ) → (expandReply first ws r out).value ≤ 2048
-unfolding expandReply
-expand-short first ws r out =
+pub expand_short : (first : ℕ) (ws r out : List ℕ) → (expand_reply first ws r out).value ≤ 2048
+unfolding expand_reply
+expand_short first ws r out =
     (short-under first ws _ (λ W.
-    let l : Short (accepted (length ws * size_of first)) = record { small = mul-le-mul W.few (size_64 (powerOf first) W.high) } in
-    short-by (recordTests (ruleFor first) (length ws) r ++ (when (ltb (length out) (length ws * size_of first)) 2 ∷ [])) l)).small
+    let l : Short (accepted (length ws * size_of first)) = record { small = mul-le-mul W.few (size_64 (power_of first) W.high) } in
+    short-by (record_tests (rule_for first) (length ws) r ++ (when (ltb (length out) (length ws * size_of first)) 2 ∷ [])) l)).small

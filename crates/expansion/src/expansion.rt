@@ -3,10 +3,10 @@
 ghost use Rattle.std.specs.Prelude.{◌≡◌, cond, ℕ, ◌+◌, ◌-◌, ◌*◌, ◌≤◌, ◌<◌, eqb, length, take, get_or};
 ghost use Rattle.trellis.specs.Lists.{tab, blocks};
 ghost use Rattle.trellis.specs.Record.{expansion};
-ghost use Rattle.trellis.specs.Rules.{ruleFor, powerOf, size_of, most_of};
-ghost use Rattle.trellis.specs.Sizes.{mostSize};
+ghost use Rattle.trellis.specs.Rules.{rule_for, power_of, size_of, most_of};
+ghost use Rattle.trellis.specs.Sizes.{most_size};
 ghost use Rattle.expansion.specs.inner.Asks.{ExpandRoom};
-ghost use Rattle.expansion.specs.inner.Transposed.{zeroRow, everyAt, unpacked, besideIn, valueIn, bySymbol, turned};
+ghost use Rattle.expansion.specs.inner.Transposed.{zero_row, every_at, unpacked, beside_in, value_in, by_symbol, turned};
 ghost use Rattle.expansion.specs.inner.Transposed.{UnpackRoom, ListsRoom, ShiftRoom, TurnRoom};
 
 use scalar::sizes;
@@ -16,7 +16,7 @@ const MOST_LISTS: usize = (1 + 2 * sizes::MOST_DEVIATIONS) * sizes::MOST_SIZE;
 
 // What list i has in row 0: "the byte is 0 if a is 0", and no column is FF.
 fn zero_row(i: usize) -> u8
-    ensures { result ≡ zeroRow i }
+    ensures { result ≡ zero_row i }
 {
     if i % 2 == 1 { 0xFF } else { 0x00 }
 }
@@ -25,7 +25,7 @@ fn zero_row(i: usize) -> u8
 fn every(r: &[u8], at: usize, g: usize, first: u8, out: &mut [u8])
     requires in_bounds { 1 ≤ length out.old }
     requires by_index { (b : ℕ) → b + 1 < length out.old → at + g * b < length r.now }
-    ensures { out.new ≡ tab (everyAt r.now at g first) (length out.old) }
+    ensures { out.new ≡ tab (every_at r.now at g first) (length out.old) }
 {
     out[0] = first;
     let mut a = 1;
@@ -71,7 +71,7 @@ fn chosen(c: u8, n: u8, s: u8, v: u8) -> u8
 // One pair of all rows in v.
 fn pair(c: &[u8], s: &[u8], n: u8, v: &mut [u8])
     requires { (length v.old ≤ length c.now) × (length v.old ≤ length s.now) }
-    ensures { v.new ≡ tab (besideIn c.now s.now n v.old) (length v.old) }
+    ensures { v.new ≡ tab (beside_in c.now s.now n v.old) (length v.old) }
 {
     let mut a = 0;
     while a < v.len() {
@@ -82,8 +82,8 @@ fn pair(c: &[u8], s: &[u8], n: u8, v: &mut [u8])
 
 // "the S beside n if a's pairs list n, else E(a)", for the rows from row at on. The first pair that lists n has the last word.
 fn rows_from(t: &[u8], q: usize, k: usize, n: u8, at: usize, v: &mut [u8])
-    requires { (k ≤ 3) × ((q ≤ mostSize) × (2 * k * q + (at + length v.old) ≤ length t.now)) }
-    ensures { v.new ≡ tab (λ a. valueIn k t.now q n (at + a)) (length v.old) }
+    requires { (k ≤ 3) × ((q ≤ most_size) × (2 * k * q + (at + length v.old) ≤ length t.now)) }
+    ensures { v.new ≡ tab (λ a. value_in k t.now q n (at + a)) (length v.old) }
 {
     copy(&t[at..], v);
     let mut j = k;
@@ -98,8 +98,8 @@ fn rows_from(t: &[u8], q: usize, k: usize, n: u8, at: usize, v: &mut [u8])
 // The values of one column, row by row, sixteen rows at a time: with fewer than sixteen the rest is read and not used.
 fn values(t: &[u8], q: usize, k: usize, n: u8, v: &mut [u8])
     requires lists_room { ListsRoom k q t.now }
-    requires v_len { length v.old ≡ mostSize }
-    ensures { take q v.new ≡ tab (valueIn k t.now q n) q }
+    requires v_len { length v.old ≡ most_size }
+    ensures { take q v.new ≡ tab (value_in k t.now q n) q }
 {
     let mut a = 0;
     while a < q {
@@ -113,7 +113,7 @@ fn values(t: &[u8], q: usize, k: usize, n: u8, v: &mut [u8])
 fn by_symbol(v: &[u8], s: u8, out: &mut [u8])
     requires shift_room { ShiftRoom out.old s }
     requires v_len { length v.now ≡ length out.old }
-    ensures { out.new ≡ tab (bySymbol v.now out.old s) (length out.old) }
+    ensures { out.new ≡ tab (by_symbol v.now out.old s) (length out.old) }
 {
     let mut x = 0;
     while x < out.len() {
@@ -126,8 +126,8 @@ fn by_symbol(v: &[u8], s: u8, out: &mut [u8])
 fn column_in(t: &[u8], q: usize, k: usize, n: u8, s: u8, v: &mut [u8], out: &mut [u8])
     requires lists_room { ListsRoom k q t.now }
     requires shift_room { ShiftRoom out.old s }
-    requires v_len { (length v.old ≡ mostSize) × (length out.old ≡ q) }
-    ensures { out.new ≡ tab (bySymbol (tab (valueIn k t.now q n) q) out.old s) q }
+    requires v_len { (length v.old ≡ most_size) × (length out.old ≡ q) }
+    ensures { out.new ≡ tab (by_symbol (tab (value_in k t.now q n) q) out.old s) q }
 {
     values(t, q, k, n, v);
     by_symbol(&v[..q], s, out);
@@ -138,7 +138,7 @@ fn column(t: &[u8], q: usize, k: usize, n: u8, s: u8, out: &mut [u8])
     requires lists_room { ListsRoom k q t.now }
     requires shift_room { ShiftRoom out.old s }
     requires out_len { length out.old ≡ q }
-    ensures { out.new ≡ tab (bySymbol (tab (valueIn k t.now q n) q) out.old s) q }
+    ensures { out.new ≡ tab (by_symbol (tab (value_in k t.now q n) q) out.old s) q }
 {
     let mut v = [0u8; sizes::MOST_SIZE];
     column_in(t, q, k, n, s, &mut v, out);
@@ -161,8 +161,8 @@ fn columns(d: usize, q: usize, k: usize, r: &[u8], t: &[u8], out: &mut [u8])
 
 // The lists, in the part of the room that they take, and the columns from them.
 fn in_room(d: usize, q: usize, k: usize, r: &[u8], t: &mut [u8], out: &mut [u8])
-    requires k_bound { (k ≤ 3) × (((1 ≤ q) × (q ≤ mostSize)) × (length r.now ≡ d + (1 + 2 * k) * (q - 1))) }
-    requires most_size_in_bounds { (1 + 2 * k) * mostSize ≤ length t.old }
+    requires k_bound { (k ≤ 3) × (((1 ≤ q) × (q ≤ most_size)) × (length r.now ≡ d + (1 + 2 * k) * (q - 1))) }
+    requires most_size_in_bounds { (1 + 2 * k) * most_size ≤ length t.old }
     requires turn_room { TurnRoom d q r.now out.old }
     ensures lists { take ((1 + 2 * k) * q) t.new ≡ unpacked k d q r.now }
     ensures out_then { out.new ≡ blocks (turned k t.new q r.now out.old) d }
@@ -175,9 +175,9 @@ fn in_room(d: usize, q: usize, k: usize, r: &[u8], t: &mut [u8], out: &mut [u8])
 // The expansion, with the room that it takes: a group has at most three pairs. The products go straight into out, and each column is then
 // turned in place.
 pub fn expand_in(first: u8, q: usize, weights: &[u8], r: &[u8], out: &mut [u8])
-    requires expand_room { ExpandRoom (powerOf first) (most_of first) weights.now r.now }
-    requires q_le_most_size { (q ≤ mostSize) × ((q ≡ size_of first) × (length out.old ≡ length weights.now * size_of first)) }
-    ensures { out.new ≡ expansion (ruleFor first) weights.now r.now }
+    requires expand_room { ExpandRoom (power_of first) (most_of first) weights.now r.now }
+    requires q_le_most_size { (q ≤ most_size) × ((q ≡ size_of first) × (length out.old ≡ length weights.now * size_of first)) }
+    ensures { out.new ≡ expansion (rule_for first) weights.now r.now }
 {
     let rule = rules::rule_of(first);
     let k = scalar::u8_to_usize(rule.k);

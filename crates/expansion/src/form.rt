@@ -1,13 +1,13 @@
 // The form of an accepted record.
 ghost use Rattle.std.specs.Prelude.{◌≡◌, ◌+◌, ◌*◌, ◌≤◌, ltb, length, get_or};
-ghost use Rattle.trellis.specs.Lists.{allTo};
-ghost use Rattle.trellis.specs.Record.{pairTests, pairsOk, recordOk};
+ghost use Rattle.trellis.specs.Lists.{all_to};
+ghost use Rattle.trellis.specs.Record.{pair_tests, pairs_ok, record_ok};
 ghost use Rattle.trellis.specs.Refusals.{passes};
-ghost use Rattle.trellis.specs.Rules.{ruleFor};
+ghost use Rattle.trellis.specs.Rules.{rule_for};
 
 // Whether a pair, column c and its S, may stand beside e in a record of degree d: unused, or a column that is low or more.
 fn pair_ok(c: usize, s: u8, e: u8, d: usize, low: usize) -> bool
-    ensures { result ≡ passes (pairTests c s e d low) }
+    ensures { result ≡ passes (pair_tests c s e d low) }
 {
     if c == 0xFF {
         return s == 0x00;
@@ -25,7 +25,7 @@ fn pair_ok(c: usize, s: u8, e: u8, d: usize, low: usize) -> bool
 // mispredicted branch would cost more than the tests that are left.
 fn pairs_ok(r: &[u8], at: usize, d: usize, k: usize) -> bool
     requires { at + (1 + 2 * k) ≤ length r.now }
-    ensures { result ≡ pairsOk k r.now (at + 1) (get_or r.now at 0) d 0 }
+    ensures { result ≡ pairs_ok k r.now (at + 1) (get_or r.now at 0) d 0 }
 {
     let e = r[at];
     let mut ok = true;
@@ -45,7 +45,7 @@ fn pairs_ok(r: &[u8], at: usize, d: usize, k: usize) -> bool
 fn groups_ok(r: &[u8], d: usize, n: usize, k: usize) -> bool
     requires { (k ≤ 3) × (d + (1 + 2 * k) * n ≤ length r.now) }
     ensures* { λ b. ⌜
-        b ≡ allTo (λ b. pairsOk k r.now (d + (1 + 2 * k) * b + 1) (get_or r.now (d + (1 + 2 * k) * b) 0) d 0) n ⌝ }
+        b ≡ all_to (λ b. pairs_ok k r.now (d + (1 + 2 * k) * b + 1) (get_or r.now (d + (1 + 2 * k) * b) 0) d 0) n ⌝ }
 {
     let g = 1 + 2 * k;
     let mut ok = true;
@@ -59,7 +59,7 @@ fn groups_ok(r: &[u8], d: usize, n: usize, k: usize) -> bool
 
 fn shifts_ok(r: &[u8], d: usize, q: usize) -> bool
     requires { d ≤ length r.now }
-    ensures { result ≡ allTo (λ n. ltb (get_or r.now n 0) q) d }
+    ensures { result ≡ all_to (λ n. ltb (get_or r.now n 0) q) d }
 {
     let mut ok = true;
     let mut n = 0;
@@ -72,7 +72,7 @@ fn shifts_ok(r: &[u8], d: usize, q: usize) -> bool
 
 // Whether these bytes are a record of degree d of accepted form. The length first: d shifts, and the bytes of the groups.
 pub fn record_ok(first: u8, r: &[u8], d: usize) -> bool
-    ensures { result ≡ recordOk (ruleFor first) d r.now }
+    ensures { result ≡ record_ok (rule_for first) d r.now }
 {
     let groups = rules::groups(first);
     if r.len() < groups {

@@ -3,16 +3,16 @@ mod expansion;
 pub mod form;
 
 ghost use Rattle.std.specs.Prelude.{◌≡◌};
-ghost use Rattle.field.specs.Answers.{writtenReply};
-ghost use Rattle.expansion.specs.Answers.{expandReply, expandLeaves};
+ghost use Rattle.field.specs.Answers.{written_reply};
+ghost use Rattle.expansion.specs.Answers.{expand_reply, expand_leaves};
 
 use field::Written;
 
 // The expansion of a record: from the first code byte, d weights and a record, d times q bytes, column by column, each column by x.
 // Refused: 6, the first byte; 9, degree not 2 to 32; 11, a weight 0 or no element; 16, the record's form; 2, buffer too short.
 pub fn expand(first: u8, weights: &[u8], bytes: &[u8], out: &mut [u8]) -> Written
-    ensures reply { writtenReply result ≡ expandReply first weights.now bytes.now out.old }
-    ensures out_then { out.new ≡ expandLeaves first weights.now bytes.now out.old }
+    ensures reply { written_reply result ≡ expand_reply first weights.now bytes.now out.old }
+    ensures out_then { out.new ≡ expand_leaves first weights.now bytes.now out.old }
 {
     let k = field::weights_fault(first, weights);
     if k != 0 {

@@ -18,5 +18,5 @@ module _ (p a : ℕ) (h : p ≤ 6) (k : a < 2 ^ p) where
   unfolding xor
   doubled-set e q = rw (shifted p a h k, q) (sym (simp (eq-eqb (a * 2 / 2 ^ p % 2) 1 (rw (shifted p a h k) at e))))
 
-  pub doubled-clear : (a * 2 % 256 / 2 ^ p % 2 ≡ 1 → ⊥) → a * 2 % 256 ≡ doubled p a
-  doubled-clear e = rw (shifted p a h k) (sym (simp (ne_eqb (a * 2 / 2 ^ p % 2) 1 (rw (shifted p a h k) at e))))
+  pub doubled_clear : (a * 2 % 256 / 2 ^ p % 2 ≡ 1 → ⊥) → a * 2 % 256 ≡ doubled p a
+  doubled_clear e = rw (shifted p a h k) (sym (simp (ne_eqb (a * 2 / 2 ^ p % 2) 1 (rw (shifted p a h k) at e))))

@@ -15,46 +15,46 @@ use Rattle.trellis.specs.Field.{xor, doubled, product}
 use Rattle.engine.specs.inner.Terms.{bits_of}
 use Rattle.field.specs.Answers.{row_of}
 use Rattle.field.specs.inner.Asks.{Factor, Factors}
-use Rattle.trellis.proofs.Xor.{xor_assoc, xor_comm, xor-zero, xor-right}
+use Rattle.trellis.proofs.Xor.{xor_assoc, xor_comm, xor-zero, xor_right}
 use Rattle.trellis.proofs.Recurrence.{product-zero, product-step, size_64}
 use Rattle.trellis.proofs.Loops.{tab-more, length-tab, block_more}
 use Rattle.engine.proofs.Products.{bits_are}
 use Rattle.field.proofs.Blocks.{part_room}
 
 -- a column has a multiple of four symbols
-pub four-divides : (p : ℕ) → 2 ≤ p → 2 ^ p % 4 ≡ 0
-four-divides zero h = absurd (omega arith)
-four-divides (suc zero) h = absurd (omega arith)
-four-divides (suc (suc p)) h = simp unary_clauses (omega arith)
+pub four_divides : (p : ℕ) → 2 ≤ p → 2 ^ p % 4 ≡ 0
+four_divides zero h = absurd (omega arith)
+four_divides (suc zero) h = absurd (omega arith)
+four_divides (suc (suc p)) h = simp unary_clauses (omega arith)
 
-pub products-end : (f : ℕ → ℕ) (n m : ℕ) (l row : List ℕ) → n ≡ m → length l ≡ m → row ≡ tab f n ++ drop n l → row ≡ tab f m
-products-end f n m l row e h o = rw (o, e, ← h, drop-length) (append-nil (tab f (length l)))
+pub products_end : (f : ℕ → ℕ) (n m : ℕ) (l row : List ℕ) → n ≡ m → length l ≡ m → row ≡ tab f n ++ drop n l → row ≡ tab f m
+products_end f n m l row e h o = rw (o, e, ← h, drop-length) (append-nil (tab f (length l)))
 
 -- the code divides by powers of two where the definition halves
-pub bits-six : (a b c d e f x : ℕ) {A B C D E F : ℕ} → A ≡ cond (eqb (x % 2) 1) a 0 → B ≡ cond (eqb (x / 2 % 2) 1) b 0 → C ≡ cond (eqb (x / 4 % 2) 1) c 0
+pub bits_six : (a b c d e f x : ℕ) {A B C D E F : ℕ} → A ≡ cond (eqb (x % 2) 1) a 0 → B ≡ cond (eqb (x / 2 % 2) 1) b 0 → C ≡ cond (eqb (x / 4 % 2) 1) c 0
     → D ≡ cond (eqb (x / 8 % 2) 1) d 0 → E ≡ cond (eqb (x / 16 % 2) 1) e 0 → F ≡ cond (eqb (x / 32 % 2) 1) f 0
     → bit_xor A (bit_xor B (bit_xor C (bit_xor D (bit_xor E F)))) ≡ bits_of (a ∷ b ∷ c ∷ d ∷ e ∷ f ∷ []) x
 unfolding xor
-bits-six a b c d e f x p q r s t u =
+bits_six a b c d e f x p q r s t u =
     let c4 : x / 2 / 2 ≡ x / 4 = omega arith in
     let c8 : x / 4 / 2 ≡ x / 8 = omega arith in
     let c16 : x / 8 / 2 ≡ x / 16 = omega arith in
     let c32 : x / 16 / 2 ≡ x / 32 = omega arith in
-    rw (p, q, r, s, t, u, c4, c8, c16, c32, xor-right (cond (eqb (x / 32 % 2) 1) f 0))
+    rw (p, q, r, s, t, u, c4, c8, c16, c32, xor_right (cond (eqb (x / 32 % 2) 1) f 0))
 
 -- one product more
-pub products-turn : (p h x : ℕ) (l row : List ℕ) → p ≤ 6 → x < 2 ^ p → length l ≡ 2 ^ p → {b c d e f r : ℕ} → b ≡ doubled p h → c ≡ doubled p b → d ≡ doubled p c → e ≡ doubled p d → f ≡ doubled p e
+pub products_turn : (p h x : ℕ) (l row : List ℕ) → p ≤ 6 → x < 2 ^ p → length l ≡ 2 ^ p → {b c d e f r : ℕ} → b ≡ doubled p h → c ≡ doubled p b → d ≡ doubled p c → e ≡ doubled p d → f ≡ doubled p e
     → row ≡ tab (product p h) x ++ drop x l → r ≡ bits_of (h ∷ b ∷ c ∷ d ∷ e ∷ f ∷ []) x → set row x r ≡ tab (product p h) (x + 1) ++ drop (x + 1) l
-products-turn p h x l row i k n eb ec ed ee ef e o = rw (e, o, bits_are p h x i k eb ec ed ee ef) (tab-more (product p h) l x (omega arith))
+products_turn p h x l row i k n eb ec ed ee ef e o = rw (e, o, bits_are p h x i k eb ec ed ee ef) (tab-more (product p h) l x (omega arith))
 
 -- four stores fill a row of four
-pub set-four : (l : List ℕ) (a b c d : ℕ) → length l ≡ 4 → set (set (set (set l 0 a) 1 b) 2 c) 3 d ≡ a ∷ b ∷ c ∷ d ∷ []
-set-four [] a b c d h = absurd (omega arith)
-set-four (x ∷ []) a b c d h = absurd (omega arith)
-set-four (x ∷ y ∷ []) a b c d h = absurd (omega arith)
-set-four (x ∷ y ∷ z ∷ []) a b c d h = absurd (omega arith)
-set-four (x ∷ y ∷ z ∷ w ∷ []) a b c d h = refl
-set-four (x ∷ y ∷ z ∷ w ∷ v ∷ l) a b c d h = absurd (omega arith)
+pub set_four : (l : List ℕ) (a b c d : ℕ) → length l ≡ 4 → set (set (set (set l 0 a) 1 b) 2 c) 3 d ≡ a ∷ b ∷ c ∷ d ∷ []
+set_four [] a b c d h = absurd (omega arith)
+set_four (x ∷ []) a b c d h = absurd (omega arith)
+set_four (x ∷ y ∷ []) a b c d h = absurd (omega arith)
+set_four (x ∷ y ∷ z ∷ []) a b c d h = absurd (omega arith)
+set_four (x ∷ y ∷ z ∷ w ∷ []) a b c d h = refl
+set_four (x ∷ y ∷ z ∷ w ∷ v ∷ l) a b c d h = absurd (omega arith)
 
 module _ (p h : ℕ) {b c : ℕ} (eb : b ≡ doubled p h) (ec : c ≡ doubled p b) where
   -- a product by the two lowest bits of its symbol, and the others
@@ -70,7 +70,7 @@ module _ (p h : ℕ) {b c : ℕ} (eb : b ≡ doubled p h) (ec : c ≡ doubled p 
   base-is (suc y) m l k e =
       let f : suc y ≡ 4 = omega arith in
       let o : 1 < 2 ^ p = omega arith in
-      let u : product p c 1 ≡ c = rw (product-step p c 1 o, product-zero p p (doubled p c)) (xor-right c) in
+      let u : product p c 1 ≡ c = rw (product-step p c 1 o, product-zero p p (doubled p c)) (xor_right c) in
       e ∙ sym (product-two (suc y) k ∙ rw (f, u, xor-zero c) (xor-zero c))
 
   -- the others from the first
@@ -103,9 +103,9 @@ tab-add : (f : ℕ → ℕ) (a m : ℕ) → tab f a ++ tab (λ i. f (a + i)) m �
 tab-add f a zero = append-nil (tab f a) ∙ ap (tab f) (sym (add-zero a))
 tab-add f a (suc m) = sym (append_assoc (tab f a) (tab (λ i. f (a + i)) m) (f (a + m) ∷ [])) ∙ ap (λ l. l ++ (f (a + m) ∷ [])) (tab-add f a m) ∙ rw (add-suc a m)
 
-pub values-turn : (f : ℕ → ℕ) (l v : List ℕ) (a m e : ℕ) {x : List ℕ} → e ≡ a + m → v ≡ tab f a ++ drop a l → x ≡ tab (λ i. f (a + i)) m
+pub values_turn : (f : ℕ → ℕ) (l v : List ℕ) (a m e : ℕ) {x : List ℕ} → e ≡ a + m → v ≡ tab f a ++ drop a l → x ≡ tab (λ i. f (a + i)) m
     → take a v ++ (x ++ drop (e - a) (drop a v)) ≡ tab f e ++ drop e l
-values-turn f l v a m e u o y =
+values_turn f l v a m e u o y =
     let s : a + m - a ≡ m = add-sub_cancel_left a m in
     let t : take a (tab f a ++ drop a l) ≡ tab f a = take_at (tab f a) (drop a l) a (length-tab f a) in
     let d : drop a (tab f a ++ drop a l) ≡ drop a l = drop_at (tab f a) (drop a l) a (length-tab f a) in
@@ -113,28 +113,28 @@ values-turn f l v a m e u o y =
     rw (u, o, y, s, t, d, k) (sym (append_assoc (tab f a) (tab (λ i. f (a + i)) m) _) ∙ ap (λ x. x ++ drop (a + m) l) (tab-add f a m))
 
 -- four products more
-pub fours-turn : (p h x : ℕ) (l row : List ℕ) {b c base : ℕ} {r : List ℕ} → b ≡ doubled p h → c ≡ doubled p b → x % 4 ≡ 0 → x < 8
+pub fours_turn : (p h x : ℕ) (l row : List ℕ) {b c base : ℕ} {r : List ℕ} → b ≡ doubled p h → c ≡ doubled p b → x % 4 ≡ 0 → x < 8
     → x + 4 ≤ 2 ^ p → row ≡ tab (product p h) x ++ drop x l → base ≡ cond (eqb x 0) 0 c
     → r ≡ base ∷ xor base h ∷ xor base b ∷ xor base (xor h b) ∷ []
     → take x row ++ (r ++ drop (x + 4 - x) (drop x row)) ≡ tab (product p h) (x + 4) ++ drop (x + 4) l
-fours-turn p h x l row eb ec m i k e o s =
+fours_turn p h x l row eb ec m i k e o s =
     let first = base-is p h eb ec x m i (omega arith) o in
-    values-turn (product p h) l row x 4 (x + 4) refl e (s ∙ four_products p h eb ec x m k first)
+    values_turn (product p h) l row x 4 (x + 4) refl e (s ∙ four_products p h eb ec x m k first)
 
 -- the row of one weight, and one row more
 pub row-full : (p : ℕ) (ws : List ℕ) (n : ℕ) → length (row_of p ws n) ≡ 2 ^ p
 row-full p ws n = length-tab _ (2 ^ p)
 
-pub factor-at : {p : ℕ} {ws : List ℕ} → Factors p ws → (n : ℕ) → n < length ws → Factor p (get_or ws n 0)
-factor-at F n h = record { low = F.low; high = F.high; element = F.elements n h }
+pub factor_at : {p : ℕ} {ws : List ℕ} → Factors p ws → (n : ℕ) → n < length ws → Factor p (get_or ws n 0)
+factor_at F n h = record { low = F.low; high = F.high; element = F.elements n h }
 
-pub rows-turn : (p : ℕ) (ws : List ℕ) (n w : ℕ) (rows₀ rows : List ℕ) {r : List ℕ} → w ≡ 2 ^ p → rows ≡ blocks (row_of p ws) n ++ drop (n * 2 ^ p) rows₀
+pub rows_turn : (p : ℕ) (ws : List ℕ) (n w : ℕ) (rows₀ rows : List ℕ) {r : List ℕ} → w ≡ 2 ^ p → rows ≡ blocks (row_of p ws) n ++ drop (n * 2 ^ p) rows₀
     → r ≡ tab (product p (get_or ws n 0)) (2 ^ p)
     → take (n * w) rows ++ (r ++ drop (n * w + w - n * w) (drop (n * w) rows)) ≡ blocks (row_of p ws) (n + 1) ++ drop ((n + 1) * 2 ^ p) rows₀
-rows-turn p ws n w rows₀ rows e h k = rw e (block_more (row_of p ws) (2 ^ p) (row-full p ws) rows₀ rows n h k)
+rows_turn p ws n w rows₀ rows e h k = rw e (block_more (row_of p ws) (2 ^ p) (row-full p ws) rows₀ rows n h k)
 
 -- row n's place
-pub rows-room : {p : ℕ} {ws : List ℕ} → Factors p ws → (w : ℕ) → w ≡ 2 ^ p → (n : ℕ) → n < length ws → (n * w + w ≤ 2048) × (n * w + w ≤ length ws * 2 ^ p)
-rows-room {p} {ws} F w e n h =
+pub rows_room : {p : ℕ} {ws : List ℕ} → Factors p ws → (w : ℕ) → w ≡ 2 ^ p → (n : ℕ) → n < length ws → (n * w + w ≤ 2048) × (n * w + w ≤ length ws * 2 ^ p)
+rows_room {p} {ws} F w e n h =
     let a : n * w + w ≤ length ws * 2 ^ p = rw e (part_room n (length ws) (2 ^ p) h) in
     (omega (arith, a, mul-le-mul F.few (size_64 p F.high)), a)

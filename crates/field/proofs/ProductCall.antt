@@ -6,17 +6,17 @@ use native.Mathlib.Omega.{arith}
 use borrow.Author.Tests.{le-ltb, lt-leb}
 use Rattle.trellis.specs.Field.{product}
 use Rattle.trellis.specs.Reply.{Reply, accepted}
-use Rattle.field.specs.Answers.{elementReply, productReply}
+use Rattle.field.specs.Answers.{element_reply, product_reply}
 use Rattle.field.specs.declared.Element.{Element}
 use Rattle.field.specs.declared.Element.TheVariants.{Is, Refused}
 
-module _ (p a b : ℕ) (low : 2 ≤ p) (high : p ≤ 6) (h : a < 2 ^ p) (k : b < 2 ^ p) (e : Element) (r : elementReply e ≡ productReply p a b) where
-  accepts : elementReply e ≡ accepted (product p a b)
-  unfolding productReply
+module _ (p a b : ℕ) (low : 2 ≤ p) (high : p ≤ 6) (h : a < 2 ^ p) (k : b < 2 ^ p) (e : Element) (r : element_reply e ≡ product_reply p a b) where
+  accepts : element_reply e ≡ accepted (product p a b)
+  unfolding product_reply
   accepts = r ∙ rw (le-ltb p 2 low, le-ltb 6 p high, lt-leb (2 ^ p) a h, lt-leb (2 ^ p) b k)
 
-  pub is-product : (x : ℕ) → e ≡ Is x → x ≡ product p a b
-  is-product x i = ap (λ (r : Reply). r.value) (ap elementReply (sym i) ∙ accepts)
+  pub is_product : (x : ℕ) → e ≡ Is x → x ≡ product p a b
+  is_product x i = ap (λ (r : Reply). r.value) (ap element_reply (sym i) ∙ accepts)
 
-  pub never-refused : (n : ℕ) → e ≡ Refused n → ⊥
-  never-refused n i = let z : true ≡ false = ap (λ (r : Reply). r.refused) (ap elementReply (sym i) ∙ accepts) in let y : ◌≡◌ {A = ℕ} 0 1 = cc in omega arith
+  pub never_refused : (n : ℕ) → e ≡ Refused n → ⊥
+  never_refused n i = let z : true ≡ false = ap (λ (r : Reply). r.refused) (ap element_reply (sym i) ∙ accepts) in let y : ◌≡◌ {A = ℕ} 0 1 = cc in omega arith

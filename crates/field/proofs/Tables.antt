@@ -10,9 +10,9 @@ use lib.Dec.{T, eqb, eqb→eq}
 use lib.ListN.{length, get_or, set, drop}
 use Rattle.trellis.specs.Lists.{tab}
 use Rattle.trellis.specs.Field.{product}
-use Rattle.trellis.proofs.Tests.{fst-T, snd-T}
+use Rattle.trellis.proofs.Tests.{fst_T, snd_T}
 use Rattle.trellis.proofs.Loops.{tab-more}
-use Rattle.field.specs.inner.Table.{build, productTable}
+use Rattle.field.specs.inner.Table.{build, product_table}
 
 -- two lists with the same elements, by a test that computes
 abbrev pub same : List ℕ → List ℕ → Bool
@@ -21,33 +21,33 @@ same [] (y ∷ l) = false
 same (x ∷ k) [] = false
 same (x ∷ k) (y ∷ l) = eqb x y && same k l
 
-pub same-is : (k l : List ℕ) → T (same k l) → k ≡ l
-same-is [] [] t = refl
-same-is [] (y ∷ l) t = absurd t
-same-is (x ∷ k) [] t = absurd t
-same-is (x ∷ k) (y ∷ l) t = ap₂ (λ z m. z ∷ m) (eqb→eq x y (fst-T (eqb x y) (same k l) t)) (same-is k l (snd-T (eqb x y) (same k l) t))
+pub same_is : (k l : List ℕ) → T (same k l) → k ≡ l
+same_is [] [] t = refl
+same_is [] (y ∷ l) t = absurd t
+same_is (x ∷ k) [] t = absurd t
+same_is (x ∷ k) (y ∷ l) t = ap₂ (λ z m. z ∷ m) (eqb→eq x y (fst_T (eqb x y) (same k l) t)) (same_is k l (snd_T (eqb x y) (same k l) t))
 
-build-from : (f : ℕ → ℕ) (n i k : ℕ) → k < n → get_or (build f i n) k 0 ≡ f (i + k)
-build-from f zero i k h = absurd (not-suc-le-zero h)
-build-from f (suc n) i zero h = ap f (sym (add-zero i))
-build-from f (suc n) i (suc k) h = build-from f n (suc i) k (le_of_suc-le-suc h) ∙ ap f (suc-add i k ∙ sym (add-suc i k))
+build_from : (f : ℕ → ℕ) (n i k : ℕ) → k < n → get_or (build f i n) k 0 ≡ f (i + k)
+build_from f zero i k h = absurd (not-suc-le-zero h)
+build_from f (suc n) i zero h = ap f (sym (add-zero i))
+build_from f (suc n) i (suc k) h = build_from f n (suc i) k (le_of_suc-le-suc h) ∙ ap f (suc-add i k ∙ sym (add-suc i k))
 
 build-length : (f : ℕ → ℕ) (n i : ℕ) → length (build f i n) ≡ n
 build-length f zero i = refl
 build-length f (suc n) i = ap suc (build-length f n (suc i))
 
-pub table-length : length productTable ≡ 4096
-unfolding productTable
+pub table-length : length product_table ≡ 4096
+unfolding product_table
 table-length = build-length (λ k. product 6 (k / 64) (k % 64)) 4096 0
 
-pub table_at : (a b : ℕ) → a < 64 → b < 64 → get_or productTable (a * 64 + b) 0 ≡ product 6 a b
-unfolding productTable
+pub table_at : (a b : ℕ) → a < 64 → b < 64 → get_or product_table (a * 64 + b) 0 ≡ product 6 a b
+unfolding product_table
 table_at a b h k =
-    build-from (λ k. product 6 (k / 64) (k % 64)) 4096 0 (a * 64 + b) (omega arith)
+    build_from (λ k. product 6 (k / 64) (k % 64)) 4096 0 (a * 64 + b) (omega arith)
     ∙ ap (λ i. product 6 (i / 64) (i % 64)) (zero-add (a * 64 + b))
     ∙ ap₂ (product 6) (digits_div a k) (digits_mod a k)
 
 -- one turn of the loop that copies a row
-pub row-turn : (T l out : List ℕ) (h x : ℕ) {i : ℕ} → T ≡ productTable → h < 64 → x < 64 → x < length l → i ≡ h
+pub row_turn : (T l out : List ℕ) (h x : ℕ) {i : ℕ} → T ≡ product_table → h < 64 → x < 64 → x < length l → i ≡ h
     → out ≡ tab (product 6 h) x ++ drop x l → set out x (get_or T (i * 64 + x) 0) ≡ tab (product 6 h) (x + 1) ++ drop (x + 1) l
-row-turn T l out h x t a b c e o = rw (o, t, e, table_at h x a b) (tab-more (product 6 h) l x c)
+row_turn T l out h x t a b c e o = rw (o, t, e, table_at h x a b) (tab-more (product 6 h) l x c)

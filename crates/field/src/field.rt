@@ -1,12 +1,12 @@
 // The field's arithmetic: q, doubling, the product by its recurrence. No function here calls itself.
 ghost use Rattle.std.specs.Prelude.{◌≡◌, cond, ◌≤◌, ◌<◌, ◌^◌};
 ghost use Rattle.trellis.specs.Field.{xor, polynomial, doubled, product};
-ghost use Rattle.trellis.specs.Sizes.{mostSize};
+ghost use Rattle.trellis.specs.Sizes.{most_size};
 
 // q = 2 ^ p.
 pub fn size(p: u8) -> u8
     requires { (2 ≤ p) × (p ≤ 6) }
-    ensures { (result ≡ 2 ^ p) × ((4 ≤ result) × (result ≤ mostSize)) }
+    ensures { (result ≡ 2 ^ p) × ((4 ≤ result) × (result ≤ most_size)) }
 {
     1u8 << p
 }

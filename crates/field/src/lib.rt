@@ -6,7 +6,7 @@ mod refusals;
 mod table;
 
 ghost use Rattle.std.specs.Prelude.{◌≡◌};
-ghost use Rattle.field.specs.Answers.{elementReply, productReply, weightsFault, rowsLeave};
+ghost use Rattle.field.specs.Answers.{element_reply, product_reply, weights_fault, rows_leave};
 
 // A product, or the number of the refusal.
 #[derive(Drop)]
@@ -24,7 +24,7 @@ pub enum Written {
 
 // The product of two elements of the field of 2 ^ p. Refused: 6, p not 2 to 6; 11, a or b no element.
 pub fn product(p: u8, a: u8, b: u8) -> Element
-    ensures { elementReply result ≡ productReply p a b }
+    ensures { element_reply result ≡ product_reply p a b }
 {
     if p < 2 {
         return Element::Refused(6);
@@ -44,7 +44,7 @@ pub fn product(p: u8, a: u8, b: u8) -> Element
 
 // The number by which first byte and weights are refused, or 0: 6, the first byte; 9, degree not 2 to 32; 11, a weight 0 or no element.
 pub fn weights_fault(first: u8, weights: &[u8]) -> u8
-    ensures { result ≡ weightsFault first weights.now }
+    ensures { result ≡ weights_fault first weights.now }
 {
     refusals::weights_fault(first, weights)
 }
@@ -52,7 +52,7 @@ pub fn weights_fault(first: u8, weights: &[u8]) -> u8
 // The products of each weight with every symbol, 2 ^ p bytes a weight, end to end. Nothing changes where p is not 2 to 6, where there
 // are more than 32 weights, where a weight is no element, or where out has another length than these products.
 pub fn rows(p: u8, weights: &[u8], out: &mut [u8])
-    ensures { out.new ≡ rowsLeave p weights.now out.old }
+    ensures { out.new ≡ rows_leave p weights.now out.old }
 {
     if products::rows_fit(p, weights, out.len()) {
         products::fill(p, weights, out);

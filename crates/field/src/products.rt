@@ -3,7 +3,7 @@ ghost use Rattle.std.specs.Prelude.{◌≡◌, cond, [], ◌∷◌, ◌*◌, ◌
 ghost use Rattle.trellis.specs.Lists.{tab, blocks};
 ghost use Rattle.trellis.specs.Field.{xor, product};
 ghost use Rattle.engine.specs.inner.Terms.{bits_of};
-ghost use Rattle.field.specs.Answers.{row_of, elementsOk, rowsFit};
+ghost use Rattle.field.specs.Answers.{row_of, elements_ok, rows_fit};
 ghost use Rattle.field.specs.inner.Asks.{Factor, Factors};
 
 use crate::{field, table};
@@ -117,7 +117,7 @@ pub fn fill(p: u8, weights: &[u8], out: &mut [u8])
 
 // Whether every weight is an element.
 fn elements_ok(q: u8, weights: &[u8]) -> bool
-    ensures { result ≡ elementsOk q weights.now }
+    ensures { result ≡ elements_ok q weights.now }
 {
     let mut ok = true;
     let mut i = 0;
@@ -130,7 +130,7 @@ fn elements_ok(q: u8, weights: &[u8]) -> bool
 
 // Whether p and the weights are in range, and their products have `room` bytes.
 pub fn rows_fit(p: u8, weights: &[u8], room: usize) -> bool
-    ensures { result ≡ rowsFit p weights.now room }
+    ensures { result ≡ rows_fit p weights.now room }
 {
     if p < 2 {
         return false;

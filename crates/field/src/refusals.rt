@@ -1,13 +1,13 @@
 // The tests of a first code byte and of weights.
 ghost use Rattle.std.specs.Prelude.{◌≡◌};
-ghost use Rattle.field.specs.Answers.{weightOk, weightsOk, weightsFault};
+ghost use Rattle.field.specs.Answers.{weight_ok, weights_ok, weights_fault};
 
 use crate::field;
 use scalar::sizes;
 
 // A weight is an element other than 0.
 fn weight_ok(q: u8, h: u8) -> bool
-    ensures { result ≡ weightOk q h }
+    ensures { result ≡ weight_ok q h }
 {
     if h == 0 {
         return false;
@@ -16,7 +16,7 @@ fn weight_ok(q: u8, h: u8) -> bool
 }
 
 fn weights_ok(q: u8, weights: &[u8]) -> bool
-    ensures { result ≡ weightsOk q weights.now }
+    ensures { result ≡ weights_ok q weights.now }
 {
     let mut ok = true;
     let mut i = 0;
@@ -29,7 +29,7 @@ fn weights_ok(q: u8, weights: &[u8]) -> bool
 
 // 6, 9 or 11, in this order, or 0 for none of them.
 pub fn weights_fault(first: u8, weights: &[u8]) -> u8
-    ensures { result ≡ weightsFault first weights.now }
+    ensures { result ≡ weights_fault first weights.now }
 {
     if !rules::accepted(first) {
         return 6;

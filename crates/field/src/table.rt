@@ -4,7 +4,7 @@ ghost use Rattle.trellis.specs.Lists.{tab, blocks};
 ghost use Rattle.trellis.specs.Field.{product};
 ghost use Rattle.field.specs.Answers.{row_of};
 ghost use Rattle.field.specs.inner.Asks.{Factors};
-ghost use Rattle.field.specs.inner.Table.{productTable};
+ghost use Rattle.field.specs.inner.Table.{product_table};
 
 // a times b stands at 64 a + b.
 const PRODUCTS: [u8; 4096] = [
@@ -267,7 +267,7 @@ const PRODUCTS: [u8; 4096] = [
 
 // The whole table, taken once a call and handed on as a slice: a constant is copied to the stack wherever it is indexed or handed on.
 pub fn products() -> [u8; 4096]
-    ensures { result ≡ productTable }
+    ensures { result ≡ product_table }
 {
     PRODUCTS
 }
@@ -284,7 +284,7 @@ pub fn taken(p: u8, d: usize) -> bool
 
 // Row h of the table: h times each symbol.
 fn row_from(table: &[u8], h: u8, out: &mut [u8])
-    requires table_value { table.now ≡ productTable }
+    requires table_value { table.now ≡ product_table }
     requires h_bound { (h < 64) × (length out.old ≡ 64) }
     ensures { out.new ≡ tab (product 6 h) 64 }
 {
@@ -298,7 +298,7 @@ fn row_from(table: &[u8], h: u8, out: &mut [u8])
 
 // The rows of all weights, each a row of the table.
 pub fn rows_from(table: &[u8], weights: &[u8], out: &mut [u8])
-    requires table_value { table.now ≡ productTable }
+    requires table_value { table.now ≡ product_table }
     requires factors { Factors 6 weights.now }
     requires out_len { length out.old ≡ length weights.now * 64 }
     ensures { out.new ≡ blocks (row_of 6 weights.now) (length weights.now) }

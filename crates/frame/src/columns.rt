@@ -1,13 +1,13 @@
 // The tests of columns of costs: a cost of 0 in each, and no cost above 510.
 ghost use Rattle.std.specs.Prelude.{◌≡◌, ◌+◌, ◌*◌, ◌≤◌, length};
-ghost use Rattle.trellis.specs.Lists.{allTo};
-ghost use Rattle.machine.specs.CodeLine.{zeroIn};
-ghost use Rattle.frame.specs.Answers.{lowCost};
+ghost use Rattle.trellis.specs.Lists.{all_to};
+ghost use Rattle.machine.specs.CodeLine.{zero_in};
+ghost use Rattle.frame.specs.Answers.{low_cost};
 
 // Whether column c of q costs has a cost of 0: in a frame.
 fn zero_u8(frame: &[u8], q: usize, c: usize) -> bool
     requires { c * q + q ≤ length frame.now }
-    ensures { result ≡ zeroIn q frame.now c }
+    ensures { result ≡ zero_in q frame.now c }
 {
     let a = c * q;
     let e = a + q;
@@ -17,7 +17,7 @@ fn zero_u8(frame: &[u8], q: usize, c: usize) -> bool
 // And in a cost buffer.
 fn zero_u16(costs: &[u16], q: usize, c: usize) -> bool
     requires { c * q + q ≤ length costs.now }
-    ensures { result ≡ zeroIn q costs.now c }
+    ensures { result ≡ zero_in q costs.now c }
 {
     let a = c * q;
     let e = a + q;
@@ -27,7 +27,7 @@ fn zero_u16(costs: &[u16], q: usize, c: usize) -> bool
 // Whether each of a frame's n columns has.
 pub fn zeros_u8(frame: &[u8], q: usize, n: usize) -> bool
     requires { n * q ≤ length frame.now }
-    ensures { result ≡ allTo (zeroIn q frame.now) n }
+    ensures { result ≡ all_to (zero_in q frame.now) n }
 {
     let mut c = 0;
     while c < n {
@@ -42,7 +42,7 @@ pub fn zeros_u8(frame: &[u8], q: usize, n: usize) -> bool
 // And each of a cost buffer's.
 pub fn zeros_u16(costs: &[u16], q: usize, n: usize) -> bool
     requires { n * q ≤ length costs.now }
-    ensures { result ≡ allTo (zeroIn q costs.now) n }
+    ensures { result ≡ all_to (zero_in q costs.now) n }
 {
     let mut c = 0;
     while c < n {
@@ -57,7 +57,7 @@ pub fn zeros_u16(costs: &[u16], q: usize, n: usize) -> bool
 // Whether none of the first w costs is above 510.
 pub fn low_costs(costs: &[u16], w: usize) -> bool
     requires { w ≤ length costs.now }
-    ensures { result ≡ allTo (lowCost costs.now) w }
+    ensures { result ≡ all_to (low_cost costs.now) w }
 {
     let mut i = 0;
     while i < w {

@@ -4,15 +4,15 @@ mod columns;
 mod stored;
 
 ghost use Rattle.std.specs.Prelude.{◌≡◌, min, length};
-ghost use Rattle.machine.specs.inner.Tables.{bytesBefore};
-ghost use Rattle.slices.specs.Copies.{copiedTo};
-ghost use Rattle.frame.specs.Answers.{frameFaultOf, roomFaultOf, faultOf, resumeFault};
+ghost use Rattle.machine.specs.inner.Tables.{bytes_before};
+ghost use Rattle.slices.specs.Copies.{copied_to};
+ghost use Rattle.frame.specs.Answers.{frame_fault_of, room_fault_of, fault_of, resume_fault};
 
 use codeline::answers::Numbers;
 
 // "12, cost count wrong; 13, a column without a cost of 0"; 0 for none.
 pub fn frame_fault(numbers: Numbers, frame: &[u8]) -> u8
-    ensures { result ≡ frameFaultOf numbers.first numbers.columns frame.now }
+    ensures { result ≡ frame_fault_of numbers.first numbers.columns frame.now }
 {
     let n = scalar::u16_to_usize(numbers.columns);
     let q = rules::size(numbers.first);
@@ -28,7 +28,7 @@ pub fn frame_fault(numbers: Numbers, frame: &[u8]) -> u8
 // "as many bytes as the M record lengths add up to": of the first M of these degrees.
 pub fn used(numbers: Numbers, degrees: &[u8]) -> usize
     ensures { result
-        ≡ bytesBefore numbers.first degrees.now (min numbers.checks (length degrees.now)) }
+        ≡ bytes_before numbers.first degrees.now (min numbers.checks (length degrees.now)) }
 {
     let groups = rules::groups(numbers.first);
     let count = scalar::min_usize(scalar::u8_to_usize(numbers.checks), degrees.len());
@@ -52,7 +52,7 @@ pub fn room_fault(
     store: usize,
     margins: usize,
 ) -> u8
-    ensures { result ≡ roomFaultOf n w u symbols costs store margins }
+    ensures { result ≡ room_fault_of n w u symbols costs store margins }
 {
     if symbols < n {
         return 2;
@@ -80,7 +80,7 @@ pub fn fault(
     margins: &[u16],
 ) -> u8
     ensures { result
-        ≡ faultOf numbers degrees.now frame.now (length symbols.now)
+        ≡ fault_of numbers degrees.now frame.now (length symbols.now)
         (length costs.now) (length store.now) (length margins.now) }
 {
     let k = frame_fault(numbers, frame);
@@ -103,7 +103,7 @@ pub fn fault(
 
 // "Start: P is the frame". Nothing changes where the two have other lengths.
 pub fn copy(frame: &[u8], costs: &mut [u16])
-    ensures { costs.new ≡ copiedTo frame.now costs.old }
+    ensures { costs.new ≡ copied_to frame.now costs.old }
 {
     if frame.len() != costs.len() {
         return;
@@ -118,7 +118,7 @@ pub fn copy(frame: &[u8], costs: &mut [u16])
 // "then 13 for a cost above 510, or a column without a 0, in the cost buffer's used part, then, if t is not 0, 16 for each stored record";
 // 0 for none.
 pub fn resume_fault(numbers: Numbers, t: u8, degrees: &[u8], costs: &[u16], store: &[u8]) -> u8
-    ensures { result ≡ resumeFault numbers degrees.now t costs.now store.now }
+    ensures { result ≡ resume_fault numbers degrees.now t costs.now store.now }
 {
     let n = scalar::u16_to_usize(numbers.columns);
     let q = rules::size(numbers.first);

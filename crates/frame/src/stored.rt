@@ -1,7 +1,7 @@
 // Lent costs and records from which an iteration goes on: the costs of a column, and the form of each record.
 ghost use Rattle.std.specs.Prelude.{◌≡◌, ◌≤◌, length};
-ghost use Rattle.trellis.specs.Lists.{allTo};
-ghost use Rattle.frame.specs.Answers.{costsIn, formedAt, recordsIn};
+ghost use Rattle.trellis.specs.Lists.{all_to};
+ghost use Rattle.frame.specs.Answers.{costs_in, formed_at, records_in};
 
 use crate::columns;
 use expansion::form;
@@ -9,7 +9,7 @@ use expansion::form;
 // n columns of q costs, without "a cost above 510, or a column without a 0".
 pub fn costs_ok(costs: &[u16], q: usize, n: usize) -> bool
     requires { (n ≤ 65535) × (q ≤ 32768) }
-    ensures { result ≡ costsIn q n costs.now }
+    ensures { result ≡ costs_in q n costs.now }
 {
     let w = n * q;
     if costs.len() < w {
@@ -24,7 +24,7 @@ pub fn costs_ok(costs: &[u16], q: usize, n: usize) -> bool
 // Whether the records of the first `count` checks are of accepted form; one that the store does not hold whole is not.
 fn store_ok(first: u8, degrees: &[u8], count: usize, store: &[u8]) -> bool
     requires { count ≤ length degrees.now }
-    ensures { result ≡ allTo (formedAt first degrees.now store.now) count }
+    ensures { result ≡ all_to (formed_at first degrees.now store.now) count }
 {
     let groups = rules::groups(first);
     let mut m = 0;
@@ -48,7 +48,7 @@ fn store_ok(first: u8, degrees: &[u8], count: usize, store: &[u8]) -> bool
 // At t = 0 there is no record to test.
 pub fn records_ok(first: u8, t: u8, degrees: &[u8], count: usize, store: &[u8]) -> bool
     requires { count ≤ length degrees.now }
-    ensures { result ≡ recordsIn first degrees.now count t store.now }
+    ensures { result ≡ records_in first degrees.now count t store.now }
 {
     if t == 0 {
         return true;

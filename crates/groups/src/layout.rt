@@ -1,6 +1,6 @@
 // The shape of the rests, and where parts of a list start. A rest as a cost.
 ghost use Rattle.std.specs.Prelude.{◌≡◌, ◌+◌, ◌-◌, ◌*◌, ◌≤◌, ◌<◌};
-ghost use Rattle.trellis.specs.Sizes.{mostDegree};
+ghost use Rattle.trellis.specs.Sizes.{most_degree};
 
 // Rests of l rows a column, of which q are asked for; k pairs a group.
 #[derive(Drop)]
@@ -19,7 +19,7 @@ pub fn cost(r: u8) -> u8
 
 // Where part j of n parts, each width long, starts.
 pub fn part_at(j: usize, n: usize, width: usize) -> usize
-    requires { (j < n) × ((n ≤ mostDegree) × (width ≤ 192)) }
+    requires { (j < n) × ((n ≤ most_degree) × (width ≤ 192)) }
     ensures { (result ≡ j * width) × ((result + width ≤ n * width) × (n * width ≤ 6144)) }
 {
     j * width

@@ -5,7 +5,7 @@ mod list;
 
 ghost use Rattle.std.specs.Prelude.{◌≡◌, ◌≤◌};
 ghost use Rattle.tables.specs.inner.Tables.{Shaped};
-ghost use Rattle.groups.specs.Calls.{groupShape, groupsLeave};
+ghost use Rattle.groups.specs.Calls.{group_shape, groups_leave};
 
 use crate::layout::Shape;
 use rules::Rule;
@@ -13,7 +13,7 @@ use rules::Rule;
 // The shape of the rests: at least sixteen rows, for that many are taken at a time.
 fn shape_of(rule: Rule) -> Shape
     requires { ((2 ≤ rule.p) × (rule.p ≤ 6)) × ((2 ≤ rule.k) × (rule.k ≤ 3)) }
-    ensures shape { result ≡ groupShape rule.p rule.k }
+    ensures shape { result ≡ group_shape rule.p rule.k }
     ensures fits { Shaped result.q result.l result.k × (4 ≤ result.q) }
 {
     let q = 1usize << rule.p;
@@ -28,7 +28,7 @@ fn shape_of(rule: Rule) -> Shape
 // The groups of a record from the rests that `sent` writes: for each a from 1 to 2 ^ p - 1, E, then k pairs of column and cost. Nothing
 // changes where p is not 2 to 6, k not 2 to 3, d not 2 to 32, or a slice too short.
 pub fn groups(rule: Rule, d: usize, sent: &[u8], out: &mut [u8])
-    ensures { out.new ≡ groupsLeave rule.p rule.k d sent.now out.old }
+    ensures { out.new ≡ groups_leave rule.p rule.k d sent.now out.old }
 {
     if !tables::fits(rule, d) {
         return;

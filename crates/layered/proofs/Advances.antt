@@ -12,78 +12,78 @@ use lib.ListN.{length, get_or, set}
 use borrow.Author.Tests.{eq-eqb, ne_eqb}
 use Rattle.trellis.specs.Lists.{pick, upto, tab}
 use Rattle.trellis.specs.Check.{decide}
-use Rattle.machine.specs.CodeLine.{Code, size, check, edge_at, columnOf}
-use Rattle.machine.specs.Machine.{found, notFound, symbols, settled}
-use Rattle.machine.specs.Lent.{Lent, lent, ended, updateLent}
-use Rattle.machine.specs.inner.LentEarly.{nextLent, stopLent}
-use Rattle.machine.specs.inner.Tables.{edgesBefore, bytesBefore, table_at}
+use Rattle.machine.specs.CodeLine.{Code, size, check, edge_at, column_of}
+use Rattle.machine.specs.Machine.{found, not_found, symbols, settled}
+use Rattle.machine.specs.Lent.{Lent, lent, ended, update_lent}
+use Rattle.machine.specs.inner.LentEarly.{next_lent, stop_lent}
+use Rattle.machine.specs.inner.Tables.{edges_before, bytes_before, table_at}
 use Rattle.machine.specs.inner.InRange.{Advancing}
 use Rattle.trellis.proofs.Loops.{length-tab}
-use Rattle.machine.proofs.Changed.{redone, redecided-lent}
+use Rattle.machine.proofs.Changed.{redone, redecided_lent}
 use Rattle.machine.proofs.EarlyPassing.{next-check, check-small, advancing-start, advanced, next-formed}
-use Rattle.machine.proofs.InTables.{columns-length, degree-is, column-part}
+use Rattle.machine.proofs.InTables.{columns-length, degree_is, column-part}
 use Rattle.codeline.specs.declared.answers.Numbers.{Numbers}
-use Rattle.codeline.specs.Answers.{numbersIn}
+use Rattle.codeline.specs.Answers.{numbers_in}
 use Rattle.codeline.specs.inner.Coding.{code_of}
 use Rattle.layered.specs.declared.answers.Outcome.TheVariants.{Found, NotFound}
 use Rattle.layered.specs.declared.parity.CheckAt.{CheckAt}
 use Rattle.layered.specs.declared.place.Place.{Place}
 use Rattle.layered.specs.inner.Parity.{EdgeOf}
-use Rattle.layered.specs.inner.Iterations.{endedIn, RunRoom}
+use Rattle.layered.specs.inner.Iterations.{ended_in, RunRoom}
 use Rattle.layered.specs.inner.Places.{Stands, Around, Updatable}
-use Rattle.layered.specs.inner.Early.{decidedAgain, RetestRoom, Retested, Unsettled, Going}
-use Rattle.layered.proofs.Places.{stands-own}
-use Rattle.layered.proofs.Satisfied.{symbols-are}
+use Rattle.layered.specs.inner.Early.{decided_again, RetestRoom, Retested, Unsettled, Going}
+use Rattle.layered.proofs.Places.{stands_own}
+use Rattle.layered.proofs.Satisfied.{symbols_are}
 use Rattle.layered.proofs.Runs.{checks-count}
 
 -- loops whose steps agree
-upto-ext : {A : Type 0} (n : ℕ) (f g : ℕ → A → A) (s : A) → ((k : ℕ) → k < n → (x : A) → f k x ≡ g k x) → upto f n s ≡ upto g n s
-upto-ext zero f g s h = refl
-upto-ext (suc n) f g s h = h n (omega arith) (upto f n s) ∙ ap (g n) (upto-ext n f g s (λ k i. h k (omega arith)))
+upto_ext : {A : Type 0} (n : ℕ) (f g : ℕ → A → A) (s : A) → ((k : ℕ) → k < n → (x : A) → f k x ≡ g k x) → upto f n s ≡ upto g n s
+upto_ext zero f g s h = refl
+upto_ext (suc n) f g s h = h n (omega arith) (upto f n s) ∙ ap (g n) (upto_ext n f g s (λ k i. h k (omega arith)))
 
 -- behind the last check the first comes again
 module _ (first : ℕ) (ds : List ℕ) (n : ℕ) (p r : Place) (A : Around n p r) where
-  pub around-stands : Stands first ds p.check p → Stands first ds r.check r
-  unfolding bytesBefore
-  around-stands S = by (eqb p.check (n)) refl
+  pub around_stands : Stands first ds p.check p → Stands first ds r.check r
+  unfolding bytes_before
+  around_stands S = by (eqb p.check (n)) refl
     where
       by : (b : Bool) → eqb p.check (n) ≡ b → Stands first ds r.check r
       by true e =
-          let c : r.check ≡ 0 = A.check-is ∙ ap (λ b. pick b 0 p.check) e in
+          let c : r.check ≡ 0 = A.check_is ∙ ap (λ b. pick b 0 p.check) e in
           record {
-            check-is = refl;
-            edge-is = A.edge-is ∙ ap (λ b. pick b 0 p.edge) e ∙ sym (ap (edgesBefore ds) c);
-            byte-is = A.byte-is ∙ ap (λ b. pick b 0 p.byte) e ∙ sym (ap (bytesBefore first ds) c);
+            check_is = refl;
+            edge_is = A.edge_is ∙ ap (λ b. pick b 0 p.edge) e ∙ sym (ap (edges_before ds) c);
+            byte_is = A.byte_is ∙ ap (λ b. pick b 0 p.byte) e ∙ sym (ap (bytes_before first ds) c);
           }
       by false e =
-          let c : r.check ≡ p.check = A.check-is ∙ ap (λ b. pick b 0 p.check) e in
+          let c : r.check ≡ p.check = A.check_is ∙ ap (λ b. pick b 0 p.check) e in
           record {
-            check-is = refl;
-            edge-is = A.edge-is ∙ ap (λ b. pick b 0 p.edge) e ∙ S.edge-is ∙ sym (ap (edgesBefore ds) c);
-            byte-is = A.byte-is ∙ ap (λ b. pick b 0 p.byte) e ∙ S.byte-is ∙ sym (ap (bytesBefore first ds) c);
+            check_is = refl;
+            edge_is = A.edge_is ∙ ap (λ b. pick b 0 p.edge) e ∙ S.edge_is ∙ sym (ap (edges_before ds) c);
+            byte_is = A.byte_is ∙ ap (λ b. pick b 0 p.byte) e ∙ S.byte_is ∙ sym (ap (bytes_before first ds) c);
           }
 
-  pub around-next : (u c : ℕ) → 0 < n → c ≡ u % n → p.check ≡ c + 1 → r.check ≡ (u + 1) % n
-  around-next u c h e i =
+  pub around_next : (u c : ℕ) → 0 < n → c ≡ u % n → p.check ≡ c + 1 → r.check ≡ (u + 1) % n
+  around_next u c h e i =
       let k : p.check ≡ u % n + 1 = i ∙ ap (λ j. j + 1) e in
-      A.check-is ∙ ap (λ j. pick (eqb j n) 0 j) k ∙ sym (next-check u n h) ∙ ap (λ j. j % n) (sym (add-one u))
+      A.check_is ∙ ap (λ j. pick (eqb j n) 0 j) k ∙ sym (next-check u n h) ∙ ap (λ j. j % n) (sym (add-one u))
 
 -- what is left of the updates, after u of them that have not satisfied every check
-module _ (C : Code) (most u : ℕ) (l l₀ : Lent) (not : settled C l.costs ≡ false) (left : stopLent C (most - u) u l ≡ stopLent C most 0 l₀) where
-  pub stop-end : u ≡ most → ended notFound u l ≡ stopLent C most 0 l₀
-  unfolding stopLent
-  stop-end e = let z : most - u ≡ 0 = omega arith in sym (rw (z, not)) ∙ left
+module _ (C : Code) (most u : ℕ) (l l₀ : Lent) (not : settled C l.costs ≡ false) (left : stop_lent C (most - u) u l ≡ stop_lent C most 0 l₀) where
+  pub stop_end : u ≡ most → ended not_found u l ≡ stop_lent C most 0 l₀
+  unfolding stop_lent
+  stop_end e = let z : most - u ≡ 0 = omega arith in sym (rw (z, not)) ∙ left
 
-  module _ (h : u < most) (l' : Lent) (o : l' ≡ nextLent C u l) where
-    pub stop-more : stopLent C (most - (u + 1)) (u + 1) l' ≡ stopLent C most 0 l₀
-    unfolding stopLent
-    stop-more = let z : most - u ≡ suc (most - (u + 1)) = omega arith in ap (stopLent C (most - (u + 1)) (u + 1)) o ∙ sym (rw (z, not)) ∙ left
+  module _ (h : u < most) (l' : Lent) (o : l' ≡ next_lent C u l) where
+    pub stop_more : stop_lent C (most - (u + 1)) (u + 1) l' ≡ stop_lent C most 0 l₀
+    unfolding stop_lent
+    stop_more = let z : most - u ≡ suc (most - (u + 1)) = omega arith in ap (stop_lent C (most - (u + 1)) (u + 1)) o ∙ sym (rw (z, not)) ∙ left
 
-    pub stop-found : settled C l'.costs ≡ true → ended found (u + 1) l' ≡ stopLent C most 0 l₀
-    unfolding stopLent
-    stop-found e = sym (by (most - (u + 1))) ∙ stop-more
+    pub stop_found : settled C l'.costs ≡ true → ended found (u + 1) l' ≡ stop_lent C most 0 l₀
+    unfolding stop_lent
+    stop_found e = sym (by (most - (u + 1))) ∙ stop_more
       where
-        by : (k : ℕ) → stopLent C k (u + 1) l' ≡ ended found (u + 1) l'
+        by : (k : ℕ) → stop_lent C k (u + 1) l' ≡ ended found (u + 1) l'
         by zero = rw e
         by (suc k) = rw e
 
@@ -102,11 +102,11 @@ module _ (k : Numbers) (ds cs ws P s z : List ℕ) (u : ℕ) (U : Unsettled k ds
     here : m ≡ u % length C.checks
     here = e ∙ ap (λ k. u % k) (sym many)
 
-    in-checks : m < length C.checks
-    in-checks = omega (arith, here, check-small C U.coded.good u)
+    in_checks : m < length C.checks
+    in_checks = omega (arith, here, check-small C U.coded.good u)
 
     in_code : m < k.checks
-    in_code = omega (arith, in-checks, many)
+    in_code = omega (arith, in_checks, many)
 
     pub next-updatable : Updatable k ds cs ws b m P s
     next-updatable =
@@ -119,48 +119,48 @@ module _ (k : Numbers) (ds cs ws P s z : List ℕ) (u : ℕ) (U : Unsettled k ds
         }
 
     -- and after it
-    module _ (P' s' : List ℕ) (o : lent P' s' ≡ updateLent C b m (lent P s)) where
-      pub as-next : lent P' s' ≡ nextLent C u (lent P s)
-      as-next = o ∙ ap₂ (λ a k. updateLent C a k (lent P s)) (i ∙ ap (ltb u) (sym many)) here
+    module _ (P' s' : List ℕ) (o : lent P' s' ≡ update_lent C b m (lent P s)) where
+      pub as_next : lent P' s' ≡ next_lent C u (lent P s)
+      as_next = o ∙ ap₂ (λ a k. update_lent C a k (lent P s)) (i ∙ ap (ltb u) (sym many)) here
 
       next-advancing : Advancing C U.coded.good (suc u) (lent P' s')
-      next-advancing = rw as-next (advanced C U.coded.good u (lent P s) U.advancing)
+      next-advancing = rw as_next (advanced C U.coded.good u (lent P s) U.advancing)
 
       abbrev own : List ℕ
       own = table_at ds cs m
 
-      own-length : length own ≡ length (check C m)
-      own-length =
-          columns-length (numbersIn k) ds cs ws U.coded.for-columns U.coded.for-weights m in_code
-          ∙ sym (degree-is (numbersIn k) ds cs ws U.coded.for-columns U.coded.for-weights m in_code)
+      own_length : length own ≡ length (check C m)
+      own_length =
+          columns-length (numbers_in k) ds cs ws U.coded.for_columns U.coded.for_weights m in_code
+          ∙ sym (degree_is (numbers_in k) ds cs ws U.coded.for_columns U.coded.for_weights m in_code)
 
       own-column : (n : ℕ) → get_or own n 0 ≡ (edge_at (check C m) n).column
-      own-column = column-part (numbersIn k) ds cs ws U.coded.for-columns U.coded.for-weights m in_code
+      own-column = column-part (numbers_in k) ds cs ws U.coded.for_columns U.coded.for_weights m in_code
 
       -- its columns decided again give the decisions of the new costs
-      decided-then : decidedAgain (size C) P' own (length own) (symbols C P) ≡ symbols C P'
-      unfolding decidedAgain redone
+      decided-then : decided_again (size C) P' own (length own) (symbols C P) ≡ symbols C P'
+      unfolding decided_again redone
       decided-then =
-          let p : P' ≡ (updateLent C b m (lent P s)).costs = ap (λ (l : Lent). l.costs) o in
-          ap (λ y. decidedAgain (size C) P' own (length own) y) (sym (symbols-are k ds cs ws P))
-          ∙ ap (λ k. decidedAgain (size C) P' own k (tab (λ c. (decide (columnOf (size C) P c)).symbol) C.columns)) own-length
-          ∙ upto-ext (length (check C m)) _ _ _ (λ k h y. ap (λ c. set y c (decide (columnOf (size C) P' c)).symbol) (own-column k))
-          ∙ rw p (redecided-lent C U.coded.good (λ (l : List ℕ). (decide l).symbol) b (lent P s) U.advancing.ranged U.advancing.room m in-checks)
-          ∙ symbols-are k ds cs ws P'
+          let p : P' ≡ (update_lent C b m (lent P s)).costs = ap (λ (l : Lent). l.costs) o in
+          ap (λ y. decided_again (size C) P' own (length own) y) (sym (symbols_are k ds cs ws P))
+          ∙ ap (λ k. decided_again (size C) P' own k (tab (λ c. (decide (column_of (size C) P c)).symbol) C.columns)) own_length
+          ∙ upto_ext (length (check C m)) _ _ _ (λ k h y. ap (λ c. set y c (decide (column_of (size C) P' c)).symbol) (own-column k))
+          ∙ rw p (redecided_lent C U.coded.good (λ (l : List ℕ). (decide l).symbol) b (lent P s) U.advancing.ranged U.advancing.room m in_checks)
+          ∙ symbols_are k ds cs ws P'
 
-      pub next-retest : (p : Place) → p.check ≡ m → p.edge ≡ edgesBefore ds p.check → (from : CheckAt) → EdgeOf ds from → from.check < k.checks
+      pub next_retest : (p : Place) → p.check ≡ m → p.edge ≡ edges_before ds p.check → (from : CheckAt) → EdgeOf ds from → from.check < k.checks
           → (full : length z ≡ k.columns) → RetestRoom k ds cs ws p from P' z
-      next-retest p x y from v w full =
+      next_retest p x y from v w full =
           record {
             settled-room = record { coded = U.coded; ranged = next-advancing.ranged; symbols = full };
             inside = omega (arith, x, in_code);
-            edge-is = y;
-            from-edge = v;
-            from-inside = w;
+            edge_is = y;
+            from_edge = v;
+            from_inside = w;
             old = P;
             decided = U.decided;
             unsettled = U.unsettled;
-            again = ap (λ k. decidedAgain (size C) P' (table_at ds cs k) (length (table_at ds cs k)) (symbols C P)) x ∙ decided-then;
+            again = ap (λ k. decided_again (size C) P' (table_at ds cs k) (length (table_at ds cs k)) (symbols C P)) x ∙ decided-then;
           }
 
       -- where they do not satisfy every check either
@@ -168,7 +168,7 @@ module _ (k : Numbers) (ds cs ws P s z : List ℕ) (u : ℕ) (U : Unsettled k ds
       next-unsettled y d f = record { coded = U.coded; advancing = rw (add-one u) next-advancing; decided = d; unsettled = f }
 
   pub unsettled-full : length z ≡ k.columns
-  unsettled-full = ap length (U.decided ∙ sym (symbols-are k ds cs ws P)) ∙ length-tab (λ c. (decide (columnOf (size C) P c)).symbol) k.columns
+  unsettled-full = ap length (U.decided ∙ sym (symbols_are k ds cs ws P)) ∙ length-tab (λ c. (decide (column_of (size C) P c)).symbol) k.columns
 
 -- once around the loop
 module _ (k : Numbers) (ds cs ws : List ℕ) (most : ℕ) (l₀ : Lent) where
@@ -176,43 +176,43 @@ module _ (k : Numbers) (ds cs ws : List ℕ) (most : ℕ) (l₀ : Lent) where
   D = code_of k ds cs ws
 
   pub going_start : (P s z : List ℕ) → Unsettled k ds cs ws 0 P s z → lent P s ≡ l₀ → Going k ds cs ws most l₀ 0 (record { check = 0; edge = 0; byte = 0 }) (record { check = 0; edge = 0 }) P s z
-  unfolding bytesBefore
+  unfolding bytes_before
   going_start P s z U i =
       let h = some-check k ds cs ws P s z 0 U in
       record {
         at_most = omega arith;
-        check-is = sym (mod-eq_of_lt h);
-        stands = record { check-is = refl; edge-is = refl; byte-is = refl };
-        from-edge = refl;
-        from-inside = h;
+        check_is = sym (mod-eq_of_lt h);
+        stands = record { check_is = refl; edge_is = refl; byte_is = refl };
+        from_edge = refl;
+        from_inside = h;
         unsettled = U;
-        left = let z : most - 0 ≡ most = omega arith in ap₂ (λ k l. stopLent D k 0 l) z i;
+        left = let z : most - 0 ≡ most = omega arith in ap₂ (λ k l. stop_lent D k 0 l) z i;
       }
 
   module _ (u : ℕ) (here : Place) (from : CheckAt) (P s z : List ℕ) (G : Going k ds cs ws most l₀ u here from P s z) where
-    pub going_end : u ≡ most → endedIn (NotFound u) (lent P s) ≡ stopLent D most 0 l₀
-    going_end e = stop-end D most u (lent P s) l₀ G.unsettled.unsettled G.left e
+    pub going_end : u ≡ most → ended_in (NotFound u) (lent P s) ≡ stop_lent D most 0 l₀
+    going_end e = stop_end D most u (lent P s) l₀ G.unsettled.unsettled G.left e
 
     module _ (b : Bool) (i : b ≡ ltb u k.checks) where
-      pub going-updatable : Updatable k ds cs ws b here.check P s
-      going-updatable = next-updatable k ds cs ws P s z u G.unsettled here.check G.check-is b i
+      pub going_updatable : Updatable k ds cs ws b here.check P s
+      going_updatable = next-updatable k ds cs ws P s z u G.unsettled here.check G.check_is b i
 
-      module _ (P' s' : List ℕ) (o : lent P' s' ≡ updateLent D b here.check (lent P s)) where
-        pub going-retest : RetestRoom k ds cs ws here from P' z
-        going-retest =
-            next-retest k ds cs ws P s z u G.unsettled here.check G.check-is b i P' s' o here refl G.stands.edge-is from G.from-edge G.from-inside
+      module _ (P' s' : List ℕ) (o : lent P' s' ≡ update_lent D b here.check (lent P s)) where
+        pub going_retest : RetestRoom k ds cs ws here from P' z
+        going_retest =
+            next_retest k ds cs ws P s z u G.unsettled here.check G.check_is b i P' s' o here refl G.stands.edge_is from G.from_edge G.from_inside
             (unsettled-full k ds cs ws P s z u G.unsettled)
 
         module _ (h : u < most) (r : CheckAt) (R : Retested D ds P' r) (n : ℕ) (all : n ≡ k.checks) where
-          on : lent P' s' ≡ nextLent D u (lent P s)
-          on = as-next k ds cs ws P s z u G.unsettled here.check G.check-is b i P' s' o
+          on : lent P' s' ≡ next_lent D u (lent P s)
+          on = as_next k ds cs ws P s z u G.unsettled here.check G.check_is b i P' s' o
 
           checks-all : n ≡ length D.checks
           checks-all = all ∙ sym (checks-count k ds cs ws G.unsettled.coded)
 
-          pub going-found : r.check ≡ n → endedIn (Found (u + 1)) (lent P' s') ≡ stopLent D most 0 l₀
-          going-found e =
-              stop-found D most u (lent P s) l₀ G.unsettled.unsettled G.left h (lent P' s') on (sym R.test-is ∙ eq-eqb _ _ (e ∙ checks-all))
+          pub going_found : r.check ≡ n → ended_in (Found (u + 1)) (lent P' s') ≡ stop_lent D most 0 l₀
+          going_found e =
+              stop_found D most u (lent P s) l₀ G.unsettled.unsettled G.left h (lent P' s') on (sym R.test_is ∙ eq-eqb _ _ (e ∙ checks-all))
 
           pub going_next : (r.check ≡ n → ⊥) → (next here' : Place) → Stands k.first ds (here.check + 1) next → Around n next here'
               → (y : List ℕ) → y ≡ symbols D P' → Going k ds cs ws most l₀ (u + 1) here' r P' s' y
@@ -220,19 +220,19 @@ module _ (k : Numbers) (ds cs ws : List ℕ) (most : ℕ) (l₀ : Lent) where
               let f : r.check ≡ length D.checks → ⊥ = λ i. e (i ∙ sym checks-all) in
               record {
                 at_most = omega arith;
-                check-is = around-next k.first ds k.checks next here' (rw all at A) u here.check (some-check k ds cs ws P s z u G.unsettled) G.check-is S.check-is;
-                stands = around-stands k.first ds n next here' A (stands-own k.first ds _ next S);
-                from-edge = R.edge-is;
-                from-inside = omega (arith, R.high, f, checks-all, all);
-                unsettled = next-unsettled k ds cs ws P s z u G.unsettled here.check G.check-is b i P' s' o y d (sym R.test-is ∙ ne_eqb _ _ f);
-                left = stop-more D most u (lent P s) l₀ G.unsettled.unsettled G.left h (lent P' s') on;
+                check_is = around_next k.first ds k.checks next here' (rw all at A) u here.check (some-check k ds cs ws P s z u G.unsettled) G.check_is S.check_is;
+                stands = around_stands k.first ds n next here' A (stands_own k.first ds _ next S);
+                from_edge = R.edge_is;
+                from_inside = omega (arith, R.high, f, checks-all, all);
+                unsettled = next-unsettled k ds cs ws P s z u G.unsettled here.check G.check_is b i P' s' o y d (sym R.test_is ∙ ne_eqb _ _ f);
+                left = stop_more D most u (lent P s) l₀ G.unsettled.unsettled G.left h (lent P' s') on;
               }
 
 -- the first test
-pub stop-first : (C : Code) (k u : ℕ) (l : Lent) → settled C l.costs ≡ true → ended found u l ≡ stopLent C k u l
-unfolding stopLent
-stop-first C zero u l e = sym (rw e)
-stop-first C (suc k) u l e = sym (rw e)
+pub stop_first : (C : Code) (k u : ℕ) (l : Lent) → settled C l.costs ≡ true → ended found u l ≡ stop_lent C k u l
+unfolding stop_lent
+stop_first C zero u l e = sym (rw e)
+stop_first C (suc k) u l e = sym (rw e)
 
 pub first-unsettled : (k : Numbers) (ds cs ws P s z A S : List ℕ) → RunRoom k ds cs ws true P s z A S → (y : List ℕ) → y ≡ symbols (code_of k ds cs ws) P
     → settled (code_of k ds cs ws) P ≡ false → Unsettled k ds cs ws 0 P s y

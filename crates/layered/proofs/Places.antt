@@ -9,20 +9,20 @@ use native.Mathlib.Numerals.{add-one}
 use native.Mathlib.Omega.{arith}
 use lib.ListN.{length, get_or}
 use Rattle.trellis.specs.Lists.{part, patch}
-use Rattle.trellis.specs.Record.{groupLength, recordLength}
-use Rattle.trellis.specs.Rules.{size_of, ruleFor}
+use Rattle.trellis.specs.Record.{group_length, record_length}
+use Rattle.trellis.specs.Rules.{size_of, rule_for}
 use Rattle.trellis.proofs.Recurrence.{size_64}
 use Rattle.machine.specs.CodeLine.{Code, power, size, rule, check, edge_at}
 use Rattle.machine.specs.Machine.{place}
-use Rattle.machine.specs.inner.Tables.{edgesOf, edgesBefore, bytesBefore, table_at}
-use Rattle.machine.specs.Lent.{lent, recordAt, costsLent, recordLent, updateLent}
+use Rattle.machine.specs.inner.Tables.{edges_of, edges_before, bytes_before, table_at}
+use Rattle.machine.specs.Lent.{lent, record_at, costs_lent, record_lent, update_lent}
 use Rattle.machine.specs.inner.Accepted.{GoodCheck}
 use Rattle.machine.proofs.Ranges.{column-room}
 use Rattle.machine.proofs.Lent.{place-suc, place_mono}
 use Rattle.machine.proofs.Rooms.{used_high}
-use Rattle.machine.proofs.InTables.{count, in-columns, in-weights, check-is, weights-length, same_length, degree-is, column-part, weight-part, place_is}
+use Rattle.machine.proofs.InTables.{count, in_columns, in_weights, check_is, weights-length, same_length, degree_is, column-part, weight-part, place_is}
 use Rattle.codeline.specs.declared.answers.Numbers.{Numbers}
-use Rattle.codeline.specs.Answers.{numbersIn}
+use Rattle.codeline.specs.Answers.{numbers_in}
 use Rattle.codeline.specs.inner.Coding.{code_of}
 use Rattle.layered.specs.inner.Updates.{UpdateRoom}
 use Rattle.layered.specs.declared.place.Place.{Place}
@@ -30,56 +30,56 @@ use Rattle.layered.specs.inner.Places.{Stands, Updatable}
 use Rattle.machine.proofs.Places.{length_part}
 
 -- by its own number
-pub stands-own : (first : ℕ) (ds : List ℕ) (m : ℕ) (p : Place) → Stands first ds m p → Stands first ds p.check p
-stands-own first ds m p S =
+pub stands_own : (first : ℕ) (ds : List ℕ) (m : ℕ) (p : Place) → Stands first ds m p → Stands first ds p.check p
+stands_own first ds m p S =
     record {
-      check-is = refl;
-      edge-is = S.edge-is ∙ ap (edgesBefore ds) (sym S.check-is);
-      byte-is = S.byte-is ∙ ap (bytesBefore first ds) (sym S.check-is);
+      check_is = refl;
+      edge_is = S.edge_is ∙ ap (edges_before ds) (sym S.check_is);
+      byte_is = S.byte_is ∙ ap (bytes_before first ds) (sym S.check_is);
     }
 
 module _ (k : Numbers) (ds cs ws : List ℕ) (start : Bool) (m : ℕ) (P s : List ℕ) (U : Updatable k ds cs ws start m P s) where
   abbrev C : Code
   C = code_of k ds cs ws
 
-  abbrev hc : edgesBefore ds k.checks ≤ length cs
-  hc = U.coded.for-columns
+  abbrev hc : edges_before ds k.checks ≤ length cs
+  hc = U.coded.for_columns
 
-  abbrev hw : edgesBefore ds k.checks ≤ length ws
-  hw = U.coded.for-weights
+  abbrev hw : edges_before ds k.checks ≤ length ws
+  hw = U.coded.for_weights
 
-  pub check-there : m < length ds
-  check-there = omega (arith, U.in_code, U.coded.for-degrees)
+  pub check_there : m < length ds
+  check_there = omega (arith, U.in_code, U.coded.for_degrees)
 
-  pub in-checks : m < length C.checks
-  in-checks = omega (arith, U.in_code, count (numbersIn k) ds cs ws hc hw)
+  pub in_checks : m < length C.checks
+  in_checks = omega (arith, U.in_code, count (numbers_in k) ds cs ws hc hw)
 
   H : GoodCheck C.columns (size C) (check C m)
-  H = U.coded.good.each-check m in-checks
+  H = U.coded.good.each-check m in_checks
 
   degree : length (check C m) ≡ get_or ds m 0
-  degree = degree-is (numbersIn k) ds cs ws hc hw m U.in_code
+  degree = degree_is (numbers_in k) ds cs ws hc hw m U.in_code
 
-  byte : bytesBefore k.first ds m ≡ place C m
-  byte = place_is (numbersIn k) ds cs ws hc hw m (omega (arith, U.in_code))
+  byte : bytes_before k.first ds m ≡ place C m
+  byte = place_is (numbers_in k) ds cs ws hc hw m (omega (arith, U.in_code))
 
   -- the length of its record
   abbrev long : ℕ
-  long = recordLength (ruleFor k.first) (get_or ds m 0)
+  long = record_length (rule_for k.first) (get_or ds m 0)
 
-  record_is : part s (bytesBefore k.first ds m) long ≡ recordAt C m s
-  record_is = ap₂ (λ a d. part s a (recordLength (rule C) d)) byte (sym degree)
+  record_is : part s (bytes_before k.first ds m) long ≡ record_at C m s
+  record_is = ap₂ (λ a d. part s a (record_length (rule C) d)) byte (sym degree)
 
-  in-store : bytesBefore k.first ds m + long ≤ length s
-  in-store = rw (byte, ← degree) (omega (arith, U.room, place-suc C m, place_mono C (suc m) (length C.checks) in-checks))
+  in-store : bytes_before k.first ds m + long ≤ length s
+  in-store = rw (byte, ← degree) (omega (arith, U.room, place-suc C m, place_mono C (suc m) (length C.checks) in_checks))
 
   room_at : (Q S : List ℕ) → length Q ≡ get_or ds m 0 * size C → length S ≡ get_or ds m 0 * size C
-      → UpdateRoom k.first k.scale start (table_at ds cs m) (table_at ds ws m) P (part s (bytesBefore k.first ds m) long) Q S
+      → UpdateRoom k.first k.scale start (table_at ds cs m) (table_at ds ws m) P (part s (bytes_before k.first ds m) long) Q S
   room_at Q S i j =
-      let d : length (table_at ds ws m) ≡ get_or ds m 0 = weights-length (numbersIn k) ds cs ws hc hw m U.in_code in
-      let e : length (table_at ds cs m) ≡ length (table_at ds ws m) = same_length (numbersIn k) ds cs ws hc hw m U.in_code in
-      let w : (n : ℕ) → get_or (table_at ds ws m) n 0 ≡ (edge_at (check C m) n).weight = weight-part (numbersIn k) ds cs ws hc hw m U.in_code in
-      let v : (n : ℕ) → get_or (table_at ds cs m) n 0 ≡ (edge_at (check C m) n).column = column-part (numbersIn k) ds cs ws hc hw m U.in_code in
+      let d : length (table_at ds ws m) ≡ get_or ds m 0 = weights-length (numbers_in k) ds cs ws hc hw m U.in_code in
+      let e : length (table_at ds cs m) ≡ length (table_at ds ws m) = same_length (numbers_in k) ds cs ws hc hw m U.in_code in
+      let w : (n : ℕ) → get_or (table_at ds ws m) n 0 ≡ (edge_at (check C m) n).weight = weight-part (numbers_in k) ds cs ws hc hw m U.in_code in
+      let v : (n : ℕ) → get_or (table_at ds cs m) n 0 ≡ (edge_at (check C m) n).column = column-part (numbers_in k) ds cs ws hc hw m U.in_code in
       record {
         recall = record {
           weighed = record {
@@ -96,55 +96,55 @@ module _ (k : Numbers) (ds cs ws : List ℕ) (start : Bool) (m : ℕ) (P s : Lis
         columns = λ n u. rw (v n) (omega (arith, U.ranged.full, column-room (edge_at (check C m) n).column C.columns (size C) (H.each-edge n (omega (arith, degree))).column-small));
         small = U.ranged.small;
         scale = U.coded.good.scale-high;
-        for-record = length_part s (bytesBefore k.first ds m) long in-store ∙ ap (recordLength (rule C)) (sym d);
-        for-costs = i ∙ ap (λ x. x * size C) (sym d);
+        for_record = length_part s (bytes_before k.first ds m) long in-store ∙ ap (record_length (rule C)) (sym d);
+        for_costs = i ∙ ap (λ x. x * size C) (sym d);
       }
 
-  fits : (edgesBefore ds m + get_or ds m 0 ≤ length cs)
-      × (edgesBefore ds m + get_or ds m 0 ≤ length ws)
-      × (bytesBefore k.first ds m + long ≤ length s)
+  fits : (edges_before ds m + get_or ds m 0 ≤ length cs)
+      × (edges_before ds m + get_or ds m 0 ≤ length ws)
+      × (bytes_before k.first ds m + long ≤ length s)
       × (get_or ds m 0 * size_of k.first ≤ 2048)
   fits = (
-    in-columns (numbersIn k) ds cs ws hc hw m U.in_code,
-    in-weights (numbersIn k) ds cs ws hc hw m U.in_code,
+    in_columns (numbers_in k) ds cs ws hc hw m U.in_code,
+    in_weights (numbers_in k) ds cs ws hc hw m U.in_code,
     in-store,
     mul-le-mul {n₁ = get_or ds m 0} {n₂ = 32} (rw (← degree) H.high) (size_64 (power C) U.coded.good.p-high),
   )
 
   -- and no place in the store is high
-  byte_high : bytesBefore k.first ds m + long ≤ 57472
-  byte_high = rw (byte, ← degree) (omega (arith, place-suc C m, place_mono C (suc m) (length C.checks) in-checks, used_high C U.coded.good))
+  byte_high : bytes_before k.first ds m + long ≤ 57472
+  byte_high = rw (byte, ← degree) (omega (arith, place-suc C m, place_mono C (suc m) (length C.checks) in_checks, used_high C U.coded.good))
 
   -- at the places that the code has
-  module _ (at place d q groups : ℕ) (a : at ≡ edgesBefore ds m) (b : place ≡ bytesBefore k.first ds m) (i : d ≡ get_or ds m 0) (e : q ≡ size_of k.first) (j : groups ≡ groupLength (ruleFor k.first) * (size_of k.first - 1)) where
+  module _ (at place d q groups : ℕ) (a : at ≡ edges_before ds m) (b : place ≡ bytes_before k.first ds m) (i : d ≡ get_or ds m 0) (e : q ≡ size_of k.first) (j : groups ≡ group_length (rule_for k.first) * (size_of k.first - 1)) where
     record-end : d + groups ≡ long
     record-end = rw (j, i)
 
-    pub places-inside : (at + d ≤ length cs) × ((at + d ≤ length ws) × ((place + (d + groups) ≤ length s) × (d * q ≤ 2048)))
-    places-inside = (rw (a, i) fits.0, (rw (a, i) fits.1, (rw (b, record-end) fits.2, rw (i, e) fits.3)))
+    pub places_inside : (at + d ≤ length cs) × ((at + d ≤ length ws) × ((place + (d + groups) ≤ length s) × (d * q ≤ 2048)))
+    places_inside = (rw (a, i) fits.0, (rw (a, i) fits.1, (rw (b, record-end) fits.2, rw (i, e) fits.3)))
 
     pub byte_fits : place + (d + groups) ≤ 57472
     byte_fits = rw (b, record-end) byte_high
 
-    pub next-byte : place + (d + groups) ≡ bytesBefore k.first ds (m + 1)
-    unfolding bytesBefore
+    pub next-byte : place + (d + groups) ≡ bytes_before k.first ds (m + 1)
+    unfolding bytes_before
     next-byte = rw (add-one m, b, record-end)
 
-    pub update-asks : (Q S : List ℕ) → length Q ≡ d * q → length S ≡ d * q
+    pub update_asks : (Q S : List ℕ) → length Q ≡ d * q → length S ≡ d * q
         → UpdateRoom k.first k.scale start (part cs at (at + d - at)) (part ws at (at + d - at)) P (part s place (place + (d + groups) - place)) Q S
-    update-asks Q S x y =
+    update_asks Q S x y =
         let u : at + d - at ≡ d = add-sub_cancel_left at d in
         let v : place + (d + groups) - place ≡ d + groups = add-sub_cancel_left place (d + groups) in
         let w : d * q ≡ get_or ds m 0 * size_of k.first = ap₂ (λ a b. a * b) i e in
         rw (u, v, record-end, a, b, i) (room_at Q S (x ∙ w) (y ∙ w))
 
     pub update-done : (P' r : List ℕ)
-        → P' ≡ costsLent (rule C) k.scale start (edgesOf (part cs at (at + d - at)) (part ws at (at + d - at))) (part s place (place + (d + groups) - place)) P
-        → r ≡ recordLent (rule C) k.scale start (edgesOf (part cs at (at + d - at)) (part ws at (at + d - at))) (part s place (place + (d + groups) - place)) P
-        → lent P' (patch s place (place + (d + groups) - place) r) ≡ updateLent C start m (lent P s)
-    unfolding updateLent
+        → P' ≡ costs_lent (rule C) k.scale start (edges_of (part cs at (at + d - at)) (part ws at (at + d - at))) (part s place (place + (d + groups) - place)) P
+        → r ≡ record_lent (rule C) k.scale start (edges_of (part cs at (at + d - at)) (part ws at (at + d - at))) (part s place (place + (d + groups) - place)) P
+        → lent P' (patch s place (place + (d + groups) - place) r) ≡ update_lent C start m (lent P s)
+    unfolding update_lent
     update-done P' r x y =
         let u : at + d - at ≡ d = add-sub_cancel_left at d in
         let v : place + (d + groups) - place ≡ d + groups = add-sub_cancel_left place (d + groups) in
-        let l : recordLength (rule C) (length (check C m)) ≡ long = ap (recordLength (rule C)) degree in
-        rw (x, y, u, v, record-end, a, b, i, ← check-is (numbersIn k) ds cs ws hc hw m U.in_code, record_is, byte, l)
+        let l : record_length (rule C) (length (check C m)) ≡ long = ap (record_length (rule C)) degree in
+        rw (x, y, u, v, record-end, a, b, i, ← check_is (numbers_in k) ds cs ws hc hw m U.in_code, record_is, byte, l)

@@ -12,44 +12,44 @@ use lib.ListN.{length, get_or, length-map, length-append}
 use lib.Seq.{take_at, drop_at, drop-length, ext_get_or, get_or-take, get_or-drop}
 use lib.Pow.{pow_pos}
 use borrow.Author.Tests.{eq-eqb, le-ltb}
-use Rattle.trellis.specs.Lists.{up_to, each, upto, allTo, tab, part, patch, blocks}
-use Rattle.trellis.specs.Check.{Column, column, blank, allSent}
-use Rattle.trellis.specs.Record.{recordOf, recordLength, recordOk, expandAt, expansion}
-use Rattle.trellis.specs.Rules.{powerOf, size_of, ruleFor, columnsOf, costsAt}
+use Rattle.trellis.specs.Lists.{up_to, each, upto, all_to, tab, part, patch, blocks}
+use Rattle.trellis.specs.Check.{Column, column, blank, all_sent}
+use Rattle.trellis.specs.Record.{record_of, record_length, record_ok, expand_at, expansion}
+use Rattle.trellis.specs.Rules.{power_of, size_of, rule_for, columns_of, costs_at}
 use Rattle.trellis.specs.Ready.{Ready}
-use Rattle.trellis.proofs.Tests.{to-true, all_of}
-use Rattle.trellis.proofs.Lists.{of-upTo}
-use Rattle.trellis.proofs.Places.{map-ext, slice-each, length-count}
-use Rattle.trellis.proofs.Loops.{length-tab, getD-tab}
+use Rattle.trellis.proofs.Tests.{to_true, all_of}
+use Rattle.trellis.proofs.Lists.{of_up_to}
+use Rattle.trellis.proofs.Places.{map_ext, slice_each, length-count}
+use Rattle.trellis.proofs.Loops.{length-tab, get_d_tab}
 use Rattle.trellis.proofs.Instances.{first-zero}
 use Rattle.trellis.proofs.Ready.{length-columns, column-at}
-use Rattle.trellis.proofs.Messages.{ready-messages}
+use Rattle.trellis.proofs.Messages.{ready_messages}
 use Rattle.field.proofs.Weighed.{weights-accepted, rest-case, ready-weighed}
-use Rattle.expansion.proofs.Cases.{expand-case}
-use Rattle.checknode.specs.Answers.{zeroOk, messagesCases, messagesLeaves, messagesSent}
-use Rattle.expansion.specs.Answers.{expandLeaves}
-use Rattle.machine.specs.CodeLine.{edge_at, columnOf}
+use Rattle.expansion.proofs.Cases.{expand_case}
+use Rattle.checknode.specs.Answers.{zero_ok, messages_cases, messages_leaves, messages_sent}
+use Rattle.expansion.specs.Answers.{expand_leaves}
+use Rattle.machine.specs.CodeLine.{edge_at, column_of}
 use Rattle.machine.specs.Machine.{scaled, incoming, outgoing, arriving, spread}
-use Rattle.machine.specs.Lent.{weightsOf, messageLent, arrivingLent, recordLent, costsLent}
-use Rattle.machine.specs.inner.Tables.{edgesOf}
-use Rattle.machine.proofs.Lists.{at-upTo, map-after}
+use Rattle.machine.specs.Lent.{weights_of, message_lent, arriving_lent, record_lent, costs_lent}
+use Rattle.machine.specs.inner.Tables.{edges_of}
+use Rattle.machine.proofs.Lists.{at_up_to, map-after}
 use Rattle.machine.proofs.Updates.{length-incoming, zero-incoming}
 use Rattle.machine.proofs.Ranges.{column-room}
-use Rattle.machine.proofs.Lent.{arriving-ext, spread-ext}
+use Rattle.machine.proofs.Lent.{arriving_ext, spread_ext}
 use Rattle.machine.proofs.Edges.{length-edges, column-edge, weight-edge, weights-edges}
-use Rattle.layered.specs.inner.Columns.{oneColumn, gathered as gatheredCosts, GatherRoom, scattered, ScatterRoom}
-use Rattle.layered.specs.inner.Updates.{oldCosts, Weighed, RecallRoom, SendRoom, UpdateRoom}
+use Rattle.layered.specs.inner.Columns.{one_column, gathered as gathered_costs, GatherRoom, scattered, ScatterRoom}
+use Rattle.layered.specs.inner.Updates.{old_costs, Weighed, RecallRoom, SendRoom, UpdateRoom}
 use Rattle.machine.proofs.Places.{length_part}
 use Rattle.layered.proofs.Columns.{scaled_at, length-gathered}
 
 -- a check's columns as a list over its edges
-columns-map : (q : ℕ) (ws l : List ℕ) → columnsOf q ws l ≡ map (λ n. record { weight = get_or ws n 0; costs = part l (n * q) q }) (up_to (length ws))
+columns-map : (q : ℕ) (ws l : List ℕ) → columns_of q ws l ≡ map (λ n. record { weight = get_or ws n 0; costs = part l (n * q) q }) (up_to (length ws))
 columns-map q ws l =
     let f : ℕ → Column = λ n. record { weight = get_or ws n 0; costs = part l (n * q) q } in
     let k : length (map f (up_to (length ws))) ≡ length ws = length-map (up_to (length ws)) f ∙ length-count 0 (length ws) in
-    ext_get_or blank (columnsOf q ws l) (map f (up_to (length ws))) (length-columns q ws l ∙ sym k) (λ n h.
+    ext_get_or blank (columns_of q ws l) (map f (up_to (length ws))) (length-columns q ws l ∙ sym k) (λ n h.
     let i : n < length ws = omega (arith, length-columns q ws l) in
-    column-at q ws l n i ∙ sym (at-upTo f (length ws) n blank i))
+    column-at q ws l n i ∙ sym (at_up_to f (length ws) n blank i))
 
 -- a block of q of them
 block_at : (f : ℕ → List ℕ) (q : ℕ) → ((m : ℕ) → length (f m) ≡ q) → (n : ℕ) (r : List ℕ) (m : ℕ) → m < n → part (blocks f n ++ r) (m * q) q ≡ f m
@@ -65,54 +65,54 @@ block_at f q l (suc n) r m h =
     len (suc n) = rw (length-append (blocks f n), len n, l n) (omega (arith, suc-mul n q))
 
 -- what gather leaves for column n
-gathered-at : (P cs old : List ℕ) (g q : ℕ) (d : List ℕ) (n k : ℕ) → 0 < q → n < k → part (gatheredCosts P cs old g q k d) (n * q) q ≡ oneColumn P cs old g q n
-unfolding gatheredCosts
-gathered-at P cs old g q d n k some h = block_at (oneColumn P cs old g q) q (λ m. length-incoming q some _ _) k _ n h
+gathered-at : (P cs old : List ℕ) (g q : ℕ) (d : List ℕ) (n k : ℕ) → 0 < q → n < k → part (gathered_costs P cs old g q k d) (n * q) q ≡ one_column P cs old g q n
+unfolding gathered_costs
+gathered-at P cs old g q d n k some h = block_at (one_column P cs old g q) q (λ m. length-incoming q some _ _) k _ n h
 
 module _ (first : ℕ) (cs ws : List ℕ) (same : length cs ≡ length ws) where
   -- what gather leaves is the update's columns
   gathered-arriving : (P old d : List ℕ) (g : ℕ)
-      → columnsOf (size_of first) ws (gatheredCosts P cs old g (size_of first) (length cs) d) ≡ arriving (size_of first) (edgesOf cs ws) (λ n. map (scaled g) (part old (n * size_of first) (size_of first))) P
+      → columns_of (size_of first) ws (gathered_costs P cs old g (size_of first) (length cs) d) ≡ arriving (size_of first) (edges_of cs ws) (λ n. map (scaled g) (part old (n * size_of first) (size_of first))) P
   unfolding arriving
   gathered-arriving P old d g =
-      columns-map (size_of first) ws (gatheredCosts P cs old g (size_of first) (length cs) d)
+      columns-map (size_of first) ws (gathered_costs P cs old g (size_of first) (length cs) d)
       ∙ rw (length-edges cs ws same, same)
-      (map-ext {l = up_to (length ws)} (λ n i.
+      (map_ext {l = up_to (length ws)} (λ n i.
       ap₂ (λ h (c : List ℕ). record { weight = h; costs = c }) (sym (weight-edge cs ws same n))
-      (gathered-at P cs old g (size_of first) d n (length ws) (pow_pos (powerOf first)) (of-upTo i)
-      ∙ ap (λ c. incoming (size_of first) (columnOf (size_of first) P c) (map (scaled g) (part old (n * size_of first) (size_of first)))) (sym (column-edge cs ws same n)))))
+      (gathered-at P cs old g (size_of first) d n (length ws) (pow_pos (power_of first)) (of_up_to i)
+      ∙ ap (λ c. incoming (size_of first) (column_of (size_of first) P c) (map (scaled g) (part old (n * size_of first) (size_of first)))) (sym (column-edge cs ws same n)))))
 
   -- what scatter leaves is P after the update
   scattered-spread : (P Q new : List ℕ) (g : ℕ)
-      → scattered Q new cs g (size_of first) (length cs) P ≡ spread (size_of first) (edgesOf cs ws) (columnsOf (size_of first) ws Q) (λ n. map (scaled g) (part new (n * size_of first) (size_of first))) P
+      → scattered Q new cs g (size_of first) (length cs) P ≡ spread (size_of first) (edges_of cs ws) (columns_of (size_of first) ws Q) (λ n. map (scaled g) (part new (n * size_of first) (size_of first))) P
   unfolding scattered spread
   scattered-spread P Q new g = rw (length-edges cs ws same) (go (length cs) (omega arith))
     where
       go : (k : ℕ) → k ≤ length cs
           → upto (λ k (P : List ℕ). patch P (get_or cs k 0 * size_of first) (size_of first) (outgoing (size_of first) (part Q (k * size_of first) (size_of first)) (map (scaled g) (part new (k * size_of first) (size_of first))))) k P
-          ≡ upto (λ n (P : List ℕ). patch P ((edge_at (edgesOf cs ws) n).column * size_of first) (size_of first) (outgoing (size_of first) (column (columnsOf (size_of first) ws Q) n).costs (map (scaled g) (part new (n * size_of first) (size_of first))))) k P
+          ≡ upto (λ n (P : List ℕ). patch P ((edge_at (edges_of cs ws) n).column * size_of first) (size_of first) (outgoing (size_of first) (column (columns_of (size_of first) ws Q) n).costs (map (scaled g) (part new (n * size_of first) (size_of first))))) k P
       go zero h = refl
       go (suc k) h = rw (column-edge cs ws same k, column-at (size_of first) ws Q k (omega arith), go k (omega arith))
 
 -- what an expansion has for column n, scaled
-message-expansion : (first g : ℕ) (ws r : List ℕ) (n : ℕ) → n < length ws → map (scaled g) (part (expansion (ruleFor first) ws r) (n * size_of first) (size_of first)) ≡ messageLent (ruleFor first) g false ws r n
-unfolding messageLent expansion
+message-expansion : (first g : ℕ) (ws r : List ℕ) (n : ℕ) → n < length ws → map (scaled g) (part (expansion (rule_for first) ws r) (n * size_of first) (size_of first)) ≡ message_lent (rule_for first) g false ws r n
+unfolding message_lent expansion
 message-expansion first g ws r n h =
-    let f : ℕ → List ℕ = λ n. map (expandAt (ruleFor first) ws r n) (up_to (size_of first)) in
+    let f : ℕ → List ℕ = λ n. map (expand_at (rule_for first) ws r n) (up_to (size_of first)) in
     let e : part (each f (up_to (length ws))) (n * size_of first) (size_of first) ≡ f n =
     ap (λ a. part (each f (up_to (length ws))) a (size_of first)) (mul_comm n (size_of first))
-    ∙ slice-each f (size_of first) 0 (length ws) n (λ m i j. length-map (up_to (size_of first)) (expandAt (ruleFor first) ws r m) ∙ length-count 0 (size_of first)) h
+    ∙ slice_each f (size_of first) 0 (length ws) n (λ m i j. length-map (up_to (size_of first)) (expand_at (rule_for first) ws r m) ∙ length-count 0 (size_of first)) h
     ∙ ap f (omega arith) in
-    rw e (map-after (scaled g) (expandAt (ruleFor first) ws r n) (up_to (size_of first)))
+    rw e (map-after (scaled g) (expand_at (rule_for first) ws r n) (up_to (size_of first)))
 
 -- and zeros
-message-zeros : (first g : ℕ) (ws r : List ℕ) (n : ℕ) → n < length ws → map (scaled g) (part (tab (λ x. 0) (length ws * size_of first)) (n * size_of first) (size_of first)) ≡ messageLent (ruleFor first) g true ws r n
-unfolding messageLent
+message-zeros : (first g : ℕ) (ws r : List ℕ) (n : ℕ) → n < length ws → map (scaled g) (part (tab (λ x. 0) (length ws * size_of first)) (n * size_of first) (size_of first)) ≡ message_lent (rule_for first) g true ws r n
+unfolding message_lent
 message-zeros first g ws r n h =
     ext_get_or 0 (map (scaled g) (part z (n * q) q)) (map (λ x. 0) (up_to q)) (a ∙ sym (length-map (up_to q) (λ x. 0) ∙ length-count 0 q)) (λ x i.
     let j : x < q = omega (arith, a) in
-    let y : get_or (part z (n * q) q) x 0 ≡ 0 = rw (get_or-take, get_or-drop) (getD-tab (λ x. 0) (length ws * q) (n * q + x) (omega (arith, column-room n (length ws) q h))) in
-    scaled_at g (part z (n * q) q) x ∙ rw (y, mul-zero g) (sym (at-upTo (λ x. 0) q x 0 j)))
+    let y : get_or (part z (n * q) q) x 0 ≡ 0 = rw (get_or-take, get_or-drop) (get_d_tab (λ x. 0) (length ws * q) (n * q + x) (omega (arith, column-room n (length ws) q h))) in
+    scaled_at g (part z (n * q) q) x ∙ rw (y, mul-zero g) (sym (at_up_to (λ x. 0) q x 0 j)))
   where
     q : ℕ
     q = size_of first
@@ -126,60 +126,60 @@ message-zeros first g ws r n h =
     a : length (map (scaled g) (part z (n * q) q)) ≡ q
     a = length-map (part z (n * q) q) (scaled g) ∙ length_part z (n * q) q room
 
-pub message-old : (first g : ℕ) (start : Bool) (ws r : List ℕ) (n : ℕ) → n < length ws → map (scaled g) (part (oldCosts first start ws r) (n * size_of first) (size_of first)) ≡ messageLent (ruleFor first) g start ws r n
-unfolding oldCosts
+pub message-old : (first g : ℕ) (start : Bool) (ws r : List ℕ) (n : ℕ) → n < length ws → map (scaled g) (part (old_costs first start ws r) (n * size_of first) (size_of first)) ≡ message_lent (rule_for first) g start ws r n
+unfolding old_costs
 message-old first g true ws r n h = message-zeros first g ws r n h
 message-old first g false ws r n h = message-expansion first g ws r n h
 
 -- check and expand accept: none of 6, 9, 11, nor 16 nor 2
-pub expand-accepts : (first : ℕ) (ws r out : List ℕ) → Weighed first ws → recordOk (ruleFor first) (length ws) r ≡ true → length out ≡ length ws * size_of first → expandLeaves first ws r out ≡ expansion (ruleFor first) ws r
-unfolding expandLeaves
-expand-accepts first ws r out W f e =
-    sym (expand-case first ws (weights-accepted first ws W.accepted W.two W.few W.some W.small) (length out) (λ k. out) _ r f (omega arith))
-    ∙ rw (← e, drop-length out) (append-nil (expansion (ruleFor first) ws r))
+pub expand_accepts : (first : ℕ) (ws r out : List ℕ) → Weighed first ws → record_ok (rule_for first) (length ws) r ≡ true → length out ≡ length ws * size_of first → expand_leaves first ws r out ≡ expansion (rule_for first) ws r
+unfolding expand_leaves
+expand_accepts first ws r out W f e =
+    sym (expand_case first ws (weights-accepted first ws W.accepted W.two W.few W.some W.small) (length out) (λ k. out) _ r f (omega arith))
+    ∙ rw (← e, drop-length out) (append-nil (expansion (rule_for first) ws r))
 
 -- what the old record sent
-pub recall-first : (first : ℕ) (start : Bool) (ws r out new : List ℕ) → RecallRoom first start ws r out → start ≡ true → new ≡ tab (λ x. 0) (length out) → new ≡ oldCosts first start ws r
-unfolding oldCosts
+pub recall-first : (first : ℕ) (start : Bool) (ws r out new : List ℕ) → RecallRoom first start ws r out → start ≡ true → new ≡ tab (λ x. 0) (length out) → new ≡ old_costs first start ws r
+unfolding old_costs
 recall-first first start ws r out new R f e = e ∙ rw (f, R.full)
 
-pub recall-later : (first : ℕ) (start : Bool) (ws r out new : List ℕ) → RecallRoom first start ws r out → start ≡ false → new ≡ expandLeaves first ws r out → new ≡ oldCosts first start ws r
-unfolding oldCosts
-recall-later first start ws r out new R f e = e ∙ expand-accepts first ws r out R.weighed (R.form f) R.full ∙ rw f
+pub recall-later : (first : ℕ) (start : Bool) (ws r out new : List ℕ) → RecallRoom first start ws r out → start ≡ false → new ≡ expand_leaves first ws r out → new ≡ old_costs first start ws r
+unfolding old_costs
+recall-later first start ws r out new R f e = e ∙ expand_accepts first ws r out R.weighed (R.form f) R.full ∙ rw f
 
 module _ (first : ℕ) (ws Q : List ℕ) (D : Ready first ws Q) where
   -- nor 12, 13, 4 or 2
-  messages-pass : (r out : List ℕ) → length r ≡ recordLength (ruleFor first) (length ws) → length out ≡ length ws * size_of first
-      → {A : Type 0} (bad : ℕ → A) (good : A) → messagesCases first ws Q (length r) (length out) bad good ≡ good
-  unfolding zeroOk
+  messages-pass : (r out : List ℕ) → length r ≡ record_length (rule_for first) (length ws) → length out ≡ length ws * size_of first
+      → {A : Type 0} (bad : ℕ → A) (good : A) → messages_cases first ws Q (length r) (length out) bad good ≡ good
+  unfolding zero_ok
   messages-pass r out e f bad good =
-      let z : allTo (zeroOk (size_of first) Q) (length ws) ≡ true = to-true (all_of _ (length ws) (λ n h. lt→ltb _ _ (D.zeros n h))) in
+      let z : all_to (zero_ok (size_of first) Q) (length ws) ≡ true = to_true (all_of _ (length ws) (λ n h. lt→ltb _ _ (D.zeros n h))) in
       rest-case first ws (ready-weighed first ws Q D) bad _
       ∙ rw (
         eq-eqb (length Q) (length ws * size_of first) D.count,
         z,
-        le-ltb (length r) (recordLength (ruleFor first) (length ws)) (omega arith),
+        le-ltb (length r) (record_length (rule_for first) (length ws)) (omega arith),
         le-ltb (length out) (length ws * size_of first) (omega arith),
       )
 
   -- the record and the sent costs fill their buffers
-  pub sent_is : (r out new last : List ℕ) → length r ≡ recordLength (ruleFor first) (length ws) → length out ≡ length ws * size_of first → new ≡ messagesLeaves first ws Q r out → last ≡ messagesSent first ws Q r out
-      → (new ≡ recordOf (ruleFor first) (columnsOf (size_of first) ws Q)) × (last ≡ allSent (ruleFor first) (columnsOf (size_of first) ws Q))
-  unfolding messagesLeaves messagesSent
+  pub sent_is : (r out new last : List ℕ) → length r ≡ record_length (rule_for first) (length ws) → length out ≡ length ws * size_of first → new ≡ messages_leaves first ws Q r out → last ≡ messages_sent first ws Q r out
+      → (new ≡ record_of (rule_for first) (columns_of (size_of first) ws Q)) × (last ≡ all_sent (rule_for first) (columns_of (size_of first) ws Q))
+  unfolding messages_leaves messages_sent
   sent_is r out new last e f n o = (
-    n ∙ messages-pass r out e f (λ k. r) _ ∙ rw (← e, drop-length r) (append-nil (recordOf (ruleFor first) (columnsOf (size_of first) ws Q))),
-    o ∙ messages-pass r out e f (λ k. out) _ ∙ rw (← f, drop-length out) (append-nil (allSent (ruleFor first) (columnsOf (size_of first) ws Q))),
+    n ∙ messages-pass r out e f (λ k. r) _ ∙ rw (← e, drop-length r) (append-nil (record_of (rule_for first) (columns_of (size_of first) ws Q))),
+    o ∙ messages-pass r out e f (λ k. out) _ ∙ rw (← f, drop-length out) (append-nil (all_sent (rule_for first) (columns_of (size_of first) ws Q))),
   )
 
 module _ (first g : ℕ) (start : Bool) (cs ws P r Q S : List ℕ) (U : UpdateRoom first g start cs ws P r Q S) where
   abbrev pub arrived : List ℕ
-  arrived = gatheredCosts P cs (oldCosts first start ws r) g (size_of first) (length cs) Q
+  arrived = gathered_costs P cs (old_costs first start ws r) g (size_of first) (length cs) Q
 
-  pub arrived-columns : columnsOf (size_of first) ws arrived ≡ arrivingLent (ruleFor first) g start (edgesOf cs ws) r P
+  pub arrived-columns : columns_of (size_of first) ws arrived ≡ arriving_lent (rule_for first) g start (edges_of cs ws) r P
   arrived-columns =
-      let e : length (edgesOf cs ws) ≡ length cs = length-edges cs ws U.same in
-      gathered-arriving first cs ws U.same P (oldCosts first start ws r) Q g
-      ∙ arriving-ext (size_of first) (edgesOf cs ws) _ _ P (λ n h. message-old first g start ws r n (omega (arith, U.same)) ∙ ap (λ w. messageLent (ruleFor first) g start w r n) (sym (weights-edges cs ws U.same)))
+      let e : length (edges_of cs ws) ≡ length cs = length-edges cs ws U.same in
+      gathered-arriving first cs ws U.same P (old_costs first start ws r) Q g
+      ∙ arriving_ext (size_of first) (edges_of cs ws) _ _ P (λ n h. message-old first g start ws r n (omega (arith, U.same)) ∙ ap (λ w. message_lent (rule_for first) g start w r n) (sym (weights-edges cs ws U.same)))
 
   pub arrived-ready : Ready first ws arrived
   arrived-ready =
@@ -190,52 +190,52 @@ module _ (first g : ℕ) (start : Bool) (cs ws P r Q S : List ℕ) (U : UpdateRo
         few = W.few;
         weight-some = W.some;
         weight-small = W.small;
-        count = length-gathered P cs (oldCosts first start ws r) g (size_of first) Q (length cs) (pow_pos (powerOf first)) (rw (U.same, U.for-costs) (omega arith)) ∙ U.for-costs;
+        count = length-gathered P cs (old_costs first start ws r) g (size_of first) Q (length cs) (pow_pos (power_of first)) (rw (U.same, U.for_costs) (omega arith)) ∙ U.for_costs;
         zeros = λ n h.
             let k : n < length cs = omega (arith, U.same) in
-            let e : costsAt (size_of first) arrived n ≡ oneColumn P cs (oldCosts first start ws r) g (size_of first) n = gathered-at P cs (oldCosts first start ws r) g (size_of first) Q n (length cs) (pow_pos (powerOf first)) k in
-            let l = length-incoming (size_of first) (pow_pos (powerOf first)) (columnOf (size_of first) P (get_or cs n 0)) (map (scaled g) (part (oldCosts first start ws r) (n * size_of first) (size_of first))) in
-            let z = zero-incoming (size_of first) (pow_pos (powerOf first)) (columnOf (size_of first) P (get_or cs n 0)) (map (scaled g) (part (oldCosts first start ws r) (n * size_of first) (size_of first))) in
+            let e : costs_at (size_of first) arrived n ≡ one_column P cs (old_costs first start ws r) g (size_of first) n = gathered-at P cs (old_costs first start ws r) g (size_of first) Q n (length cs) (pow_pos (power_of first)) k in
+            let l = length-incoming (size_of first) (pow_pos (power_of first)) (column_of (size_of first) P (get_or cs n 0)) (map (scaled g) (part (old_costs first start ws r) (n * size_of first) (size_of first))) in
+            let z = zero-incoming (size_of first) (pow_pos (power_of first)) (column_of (size_of first) P (get_or cs n 0)) (map (scaled g) (part (old_costs first start ws r) (n * size_of first) (size_of first))) in
             rw e (omega (arith, (first-zero z).0));
       }
 
   -- what each call of an update asks
-  pub gather-fits : (q : ℕ) (old : List ℕ) → q ≡ size_of first → length old ≡ length S → GatherRoom P cs old g q Q
-  gather-fits q old e l =
+  pub gather_fits : (q : ℕ) (old : List ℕ) → q ≡ size_of first → length old ≡ length S → GatherRoom P cs old g q Q
+  gather_fits q old e l =
       rw e
       record {
         columns = U.columns;
-        for-old = rw (U.same, l, U.recall.full) (omega arith);
-        for-out = rw (U.same, U.for-costs) (omega arith);
+        for_old = rw (U.same, l, U.recall.full) (omega arith);
+        for_out = rw (U.same, U.for_costs) (omega arith);
         small = U.small;
         scale = U.scale;
-        some = pow_pos (powerOf first);
+        some = pow_pos (power_of first);
       }
 
-  pub send-fits : (q : ℕ) (old new out : List ℕ) → q ≡ size_of first → old ≡ oldCosts first start ws r → new ≡ gatheredCosts P cs old g q (length cs) Q → length out ≡ length S → SendRoom first ws new r out
-  send-fits q old new out e o n l = rw (n, o, e) record { ready = arrived-ready; for-record = U.for-record; full = l ∙ U.recall.full }
+  pub send_fits : (q : ℕ) (old new out : List ℕ) → q ≡ size_of first → old ≡ old_costs first start ws r → new ≡ gathered_costs P cs old g q (length cs) Q → length out ≡ length S → SendRoom first ws new r out
+  send_fits q old new out e o n l = rw (n, o, e) record { ready = arrived-ready; for_record = U.for_record; full = l ∙ U.recall.full }
 
-  pub scatter-fits : (q : ℕ) (now new : List ℕ) → q ≡ size_of first → length now ≡ length Q → length new ≡ length S → ScatterRoom now new cs g q P
-  scatter-fits q now new e k l =
-      rw e record { columns = U.columns; for-q = rw (U.same, k, U.for-costs) (omega arith); for-new = rw (U.same, l, U.recall.full) (omega arith); scale = U.scale; some = pow_pos (powerOf first) }
+  pub scatter_fits : (q : ℕ) (now new : List ℕ) → q ≡ size_of first → length now ≡ length Q → length new ≡ length S → ScatterRoom now new cs g q P
+  scatter_fits q now new e k l =
+      rw e record { columns = U.columns; for_q = rw (U.same, k, U.for_costs) (omega arith); for_new = rw (U.same, l, U.recall.full) (omega arith); scale = U.scale; some = pow_pos (power_of first) }
 
   -- and what they leave
-  costs-is : scattered arrived (expansion (ruleFor first) ws (recordOf (ruleFor first) (columnsOf (size_of first) ws arrived))) cs g (size_of first) (length cs) P ≡ costsLent (ruleFor first) g start (edgesOf cs ws) r P
-  unfolding costsLent
-  costs-is =
-      let k : length (edgesOf cs ws) ≡ length cs = length-edges cs ws U.same in
-      let new : List ℕ = recordOf (ruleFor first) (columnsOf (size_of first) ws arrived) in
-      scattered-spread first cs ws U.same P arrived (expansion (ruleFor first) ws new) g
-      ∙ spread-ext (size_of first) (edgesOf cs ws) (columnsOf (size_of first) ws arrived) _ (messageLent (ruleFor first) g false (weightsOf (edgesOf cs ws)) new) P (λ n h.
-      message-expansion first g ws new n (omega (arith, U.same)) ∙ ap (λ w. messageLent (ruleFor first) g false w new n) (sym (weights-edges cs ws U.same)))
-      ∙ ap (λ c. spread (size_of first) (edgesOf cs ws) c (messageLent (ruleFor first) g false (weightsOf (edgesOf cs ws)) (recordOf (ruleFor first) c)) P) arrived-columns
+  costs_is : scattered arrived (expansion (rule_for first) ws (record_of (rule_for first) (columns_of (size_of first) ws arrived))) cs g (size_of first) (length cs) P ≡ costs_lent (rule_for first) g start (edges_of cs ws) r P
+  unfolding costs_lent
+  costs_is =
+      let k : length (edges_of cs ws) ≡ length cs = length-edges cs ws U.same in
+      let new : List ℕ = record_of (rule_for first) (columns_of (size_of first) ws arrived) in
+      scattered-spread first cs ws U.same P arrived (expansion (rule_for first) ws new) g
+      ∙ spread_ext (size_of first) (edges_of cs ws) (columns_of (size_of first) ws arrived) _ (message_lent (rule_for first) g false (weights_of (edges_of cs ws)) new) P (λ n h.
+      message-expansion first g ws new n (omega (arith, U.same)) ∙ ap (λ w. message_lent (rule_for first) g false w new n) (sym (weights-edges cs ws U.same)))
+      ∙ ap (λ c. spread (size_of first) (edges_of cs ws) c (message_lent (rule_for first) g false (weights_of (edges_of cs ws)) (record_of (rule_for first) c)) P) arrived-columns
 
-  pub update-is : (q : ℕ) (old now bytes new last : List ℕ) → q ≡ size_of first → old ≡ oldCosts first start ws r → now ≡ gatheredCosts P cs old g q (length cs) Q
-      → bytes ≡ recordOf (ruleFor first) (columnsOf (size_of first) ws now)
-      → new ≡ allSent (ruleFor first) (columnsOf (size_of first) ws now)
+  pub update_is : (q : ℕ) (old now bytes new last : List ℕ) → q ≡ size_of first → old ≡ old_costs first start ws r → now ≡ gathered_costs P cs old g q (length cs) Q
+      → bytes ≡ record_of (rule_for first) (columns_of (size_of first) ws now)
+      → new ≡ all_sent (rule_for first) (columns_of (size_of first) ws now)
       → last ≡ scattered now new cs g q (length cs) P
-      → (last ≡ costsLent (ruleFor first) g start (edgesOf cs ws) r P) × (bytes ≡ recordLent (ruleFor first) g start (edgesOf cs ws) r P)
-  unfolding recordLent
-  update-is q old now bytes new last e o n b s l =
+      → (last ≡ costs_lent (rule_for first) g start (edges_of cs ws) r P) × (bytes ≡ record_lent (rule_for first) g start (edges_of cs ws) r P)
+  unfolding record_lent
+  update_is q old now bytes new last e o n b s l =
       let i : now ≡ arrived = n ∙ rw (o, e) in
-      (l ∙ rw (s, i, e, ← ready-messages first ws arrived arrived-ready) costs-is, b ∙ rw i (ap (recordOf (ruleFor first)) arrived-columns))
+      (l ∙ rw (s, i, e, ← ready_messages first ws arrived arrived-ready) costs_is, b ∙ rw i (ap (record_of (rule_for first)) arrived-columns))

@@ -2,7 +2,7 @@
 ghost use Rattle.std.specs.Prelude.{◌≡◌, map, ◌+◌, ◌-◌, ◌≤◌, ◌<◌, length};
 ghost use Rattle.machine.specs.Machine.{scaled, incoming, outgoing};
 ghost use Rattle.machine.specs.inner.InRange.{Below};
-ghost use Rattle.layered.specs.inner.Columns.{leastRaised, gathered, GatherRoom, leastSummed, scattered, ScatterRoom};
+ghost use Rattle.layered.specs.inner.Columns.{least_raised, gathered, GatherRoom, least_summed, scattered, ScatterRoom};
 
 // A cost less a scaled cost, 255 higher, so that it is not below 0.
 fn raise(c: u16, s: u8, g: u16) -> u16
@@ -16,7 +16,7 @@ fn raise(c: u16, s: u8, g: u16) -> u16
 
 fn least_raised(costs: &[u16], old: &[u8], g: u16) -> u16
     requires { (length old.now ≡ length costs.now) × (Below 510 costs.now × (g ≤ 16)) }
-    ensures { result ≡ leastRaised g costs.now old.now (length costs.now) }
+    ensures { result ≡ least_raised g costs.now old.now (length costs.now) }
 {
     let mut least: u16 = 1000;
     let mut i = 0;
@@ -73,7 +73,7 @@ fn sum(c: u8, s: u8, g: u16) -> u16
 
 fn least_summed(qs: &[u8], new: &[u8], g: u16) -> u16
     requires { (length new.now ≡ length qs.now) × (g ≤ 16) }
-    ensures { result ≡ leastSummed g qs.now new.now (length qs.now) }
+    ensures { result ≡ least_summed g qs.now new.now (length qs.now) }
 {
     let mut least: u16 = 1000;
     let mut i = 0;

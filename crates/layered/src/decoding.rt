@@ -1,15 +1,15 @@
 // Decoding over lent tables and lists to work in: the code is read, then its refusals, or the run. `early`: it may stop inside an
 // iteration.
 ghost use Rattle.std.specs.Prelude.{◌≡◌, true, ◌≤◌, length};
-ghost use Rattle.trellis.specs.Sizes.{mostSymbols};
-ghost use Rattle.machine.specs.CodeLine.{parse, numbersOf, columnsRead};
-ghost use Rattle.machine.specs.Machine.{symbols as symbolsOf, margins as marginsOf};
+ghost use Rattle.trellis.specs.Sizes.{most_symbols};
+ghost use Rattle.machine.specs.CodeLine.{parse, numbers_of, columns_read};
+ghost use Rattle.machine.specs.Machine.{symbols as symbols_of, margins as margins_of};
 ghost use Rattle.machine.specs.Lent.{lent};
 ghost use Rattle.machine.specs.Decoding.{lending, Leaves};
-ghost use Rattle.layered.specs.Answers.{answerReply};
+ghost use Rattle.layered.specs.Answers.{answer_reply};
 ghost use Rattle.codeline.specs.inner.Coding.{code_of};
-ghost use Rattle.layered.specs.inner.Iterations.{endedIn, RunRoom};
-ghost use Rattle.layered.specs.inner.Calls.{runLent, decodingOf, called, CodeRoom};
+ghost use Rattle.layered.specs.inner.Iterations.{ended_in, RunRoom};
+ghost use Rattle.layered.specs.inner.Calls.{run_lent, decoding_of, called, CodeRoom};
 
 use crate::answers::{Answer, Counted, Outcome};
 use crate::{early, iterate, parity};
@@ -31,11 +31,11 @@ fn run(
 ) -> Outcome
     requires { RunRoom numbers degrees.now columns.now weights.now true
         costs.old store.old symbols.old arrived.old sent.old }
-    ensures ends { endedIn result (lent costs.new store.new)
-        ≡ runLent early numbers (code_of numbers degrees.now columns.now weights.now)
+    ensures ends { ended_in result (lent costs.new store.new)
+        ≡ run_lent early numbers (code_of numbers degrees.now columns.now weights.now)
         (lent costs.old store.old) }
     ensures symbols_then { symbols.new
-        ≡ symbolsOf (code_of numbers degrees.now columns.now weights.now)
+        ≡ symbols_of (code_of numbers degrees.now columns.now weights.now)
         costs.new }
 {
     if early {
@@ -65,14 +65,14 @@ fn run_to_margins(
     requires { RunRoom numbers degrees.now columns.now weights.now true
         costs.old store.old symbols.old arrived.old sent.old
         × (length margins.old ≡ numbers.columns) }
-    ensures ends { endedIn result (lent costs.new store.new)
-        ≡ runLent early numbers (code_of numbers degrees.now columns.now weights.now)
+    ensures ends { ended_in result (lent costs.new store.new)
+        ≡ run_lent early numbers (code_of numbers degrees.now columns.now weights.now)
         (lent costs.old store.old) }
     ensures symbols_then { symbols.new
-        ≡ symbolsOf (code_of numbers degrees.now columns.now weights.now)
+        ≡ symbols_of (code_of numbers degrees.now columns.now weights.now)
         costs.new }
     ensures margins_then { margins.new
-        ≡ marginsOf (code_of numbers degrees.now columns.now weights.now)
+        ≡ margins_of (code_of numbers degrees.now columns.now weights.now)
         costs.new }
 {
     let o = run(
@@ -99,9 +99,9 @@ fn under_code(
 ) -> Answer
     requires { CodeRoom numbers degrees.now columns.now weights.now arrived.old sent.old }
     ensures { Leaves
-        (decodingOf early (code_of numbers degrees.now columns.now weights.now)
+        (decoding_of early (code_of numbers degrees.now columns.now weights.now)
         frame.now (lending symbols.old costs.old store.old margins.old))
-        (answerReply result)
+        (answer_reply result)
         (lending symbols.new costs.new store.new margins.new) }
 {
     let n = scalar::u16_to_usize(numbers.columns);
@@ -144,9 +144,9 @@ pub fn decode_in(
 ) -> Counted
     ensures leaves { Leaves
         (called early code.now frame.now
-        (lending symbols.old costs.old store.old margins.old)) (answerReply result.answer)
+        (lending symbols.old costs.old store.old margins.old)) (answer_reply result.answer)
         (lending symbols.new costs.new store.new margins.new) }
-    ensures columns { (result.columns ≡ columnsRead (numbersOf (parse code.now))) × (result.columns ≤ mostSymbols) }
+    ensures columns { (result.columns ≡ columns_read (numbers_of (parse code.now))) × (result.columns ≤ most_symbols) }
 {
     match codeline::code_tables(code, degrees, columns, weights) {
         Header::Refused(k) => Counted {

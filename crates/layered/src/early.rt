@@ -1,16 +1,16 @@
 // Stopping inside an iteration: the checks are updated one after the other, and after each update its columns are decided again and the
 // test is made where a symbol changed, from a check on that was not satisfied at the last test.
 ghost use Rattle.std.specs.Prelude.{◌≡◌, true, ◌+◌, ◌*◌, ◌≤◌, ◌<◌, length, set};
-ghost use Rattle.trellis.specs.Check.{decide as decideOf};
-ghost use Rattle.trellis.specs.Sizes.{mostSize};
-ghost use Rattle.machine.specs.CodeLine.{columnOf};
-ghost use Rattle.machine.specs.Machine.{symbols as symbolsOf};
+ghost use Rattle.trellis.specs.Check.{decide as decide_of};
+ghost use Rattle.trellis.specs.Sizes.{most_size};
+ghost use Rattle.machine.specs.CodeLine.{column_of};
+ghost use Rattle.machine.specs.Machine.{symbols as symbols_of};
 ghost use Rattle.machine.specs.Lent.{lent};
-ghost use Rattle.machine.specs.inner.LentEarly.{stopLent};
+ghost use Rattle.machine.specs.inner.LentEarly.{stop_lent};
 ghost use Rattle.codeline.specs.inner.Coding.{code_of};
 ghost use Rattle.layered.specs.inner.Parity.{ParityRoom, FromTo, SomeNot};
-ghost use Rattle.layered.specs.inner.Iterations.{endedIn, RunRoom};
-ghost use Rattle.layered.specs.inner.Early.{decidedAgain, AgainRoom, RetestRoom, Retested, GoRoom};
+ghost use Rattle.layered.specs.inner.Iterations.{ended_in, RunRoom};
+ghost use Rattle.layered.specs.inner.Early.{decided_again, AgainRoom, RetestRoom, Retested, GoRoom};
 
 use crate::answers::Outcome;
 use crate::parity::CheckAt;
@@ -20,9 +20,9 @@ use codeline::answers::Numbers;
 
 // Decides column c again; 1 where its symbol is another one now, else 0.
 fn decide_at(costs: &[u16], q: usize, c: usize, symbols: &mut [u8]) -> usize
-    requires { (c * q + q ≤ length costs.now) × ((c < length symbols.old) × (q ≤ mostSize)) }
+    requires { (c * q + q ≤ length costs.now) × ((c < length symbols.old) × (q ≤ most_size)) }
     ensures symbols_then { symbols.new
-        ≡ set symbols.old c (decideOf (columnOf q costs.now c)).symbol }
+        ≡ set symbols.old c (decide_of (column_of q costs.now c)).symbol }
     ensures changed { (result ≤ 1) × (result ≡ 0 → symbols.new ≡ symbols.old) }
 {
     let z = parity::decided(costs, q, c).symbol as u8;
@@ -37,7 +37,7 @@ fn decide_at(costs: &[u16], q: usize, c: usize, symbols: &mut [u8]) -> usize
 fn decide_again(costs: &[u16], q: usize, columns: &[u16], symbols: &mut [u8]) -> usize
     requires { AgainRoom q costs.now columns.now symbols.old }
     ensures symbols_then { symbols.new
-        ≡ decidedAgain q costs.now columns.now (length columns.now) symbols.old }
+        ≡ decided_again q costs.now columns.now (length columns.now) symbols.old }
     ensures changed { result ≡ 0 → symbols.new ≡ symbols.old }
 {
     let mut changed = 0;
@@ -97,7 +97,7 @@ fn tested_again(
     ensures test { Retested (code_of numbers degrees.now columns.now weights.now)
         degrees.now costs.now result }
     ensures symbols_then { symbols.new
-        ≡ symbolsOf (code_of numbers degrees.now columns.now weights.now)
+        ≡ symbols_of (code_of numbers degrees.now columns.now weights.now)
         costs.now }
 {
     let m = here.check;
@@ -126,11 +126,11 @@ fn go_on(
 ) -> Outcome
     requires { GoRoom numbers degrees.now columns.now weights.now
         costs.old store.old symbols.old arrived.old sent.old }
-    ensures ends { endedIn result (lent costs.new store.new)
-        ≡ stopLent (code_of numbers degrees.now columns.now weights.now)
+    ensures ends { ended_in result (lent costs.new store.new)
+        ≡ stop_lent (code_of numbers degrees.now columns.now weights.now)
         most 0 (lent costs.old store.old) }
     ensures symbols_then { symbols.new
-        ≡ symbolsOf (code_of numbers degrees.now columns.now weights.now)
+        ≡ symbols_of (code_of numbers degrees.now columns.now weights.now)
         costs.new }
 {
     let count = scalar::u8_to_usize(numbers.checks);
@@ -189,11 +189,11 @@ pub fn run(
 ) -> Outcome
     requires { RunRoom numbers degrees.now columns.now weights.now true
         costs.old store.old symbols.old arrived.old sent.old }
-    ensures ends { endedIn result (lent costs.new store.new)
-        ≡ stopLent (code_of numbers degrees.now columns.now weights.now)
+    ensures ends { ended_in result (lent costs.new store.new)
+        ≡ stop_lent (code_of numbers degrees.now columns.now weights.now)
         (numbers.checks * numbers.limit) 0 (lent costs.old store.old) }
     ensures symbols_then { symbols.new
-        ≡ symbolsOf (code_of numbers degrees.now columns.now weights.now)
+        ≡ symbols_of (code_of numbers degrees.now columns.now weights.now)
         costs.new }
 {
     if parity::settled(numbers, degrees, columns, weights, costs, symbols) {

@@ -1,9 +1,9 @@
 // One iteration and the run, over the lent buffers and the tables of a code.
 ghost use Rattle.std.specs.Prelude.{◌≡◌, true};
-ghost use Rattle.machine.specs.Machine.{symbols as symbolsOf};
-ghost use Rattle.machine.specs.Lent.{lent, iterationLent, goLent};
+ghost use Rattle.machine.specs.Machine.{symbols as symbols_of};
+ghost use Rattle.machine.specs.Lent.{lent, iteration_lent, go_lent};
 ghost use Rattle.codeline.specs.inner.Coding.{code_of};
-ghost use Rattle.layered.specs.inner.Iterations.{endedIn, IterateRoom, RunRoom};
+ghost use Rattle.layered.specs.inner.Iterations.{ended_in, IterateRoom, RunRoom};
 
 use crate::answers::Outcome;
 use crate::place::Place;
@@ -25,7 +25,7 @@ pub fn iterate(
     requires { IterateRoom numbers degrees.now columns.now weights.now start
         costs.old store.old arrived.old sent.old }
     ensures { lent costs.new store.new
-        ≡ iterationLent (code_of numbers degrees.now columns.now weights.now)
+        ≡ iteration_lent (code_of numbers degrees.now columns.now weights.now)
         start (lent costs.old store.old) }
 {
     let count = scalar::u8_to_usize(numbers.checks);
@@ -55,11 +55,11 @@ pub fn run(
 ) -> Outcome
     requires { RunRoom numbers degrees.now columns.now weights.now true
         costs.old store.old symbols.old arrived.old sent.old }
-    ensures ends { endedIn result (lent costs.new store.new)
-        ≡ goLent (code_of numbers degrees.now columns.now weights.now)
+    ensures ends { ended_in result (lent costs.new store.new)
+        ≡ go_lent (code_of numbers degrees.now columns.now weights.now)
         numbers.limit 0 (lent costs.old store.old) }
     ensures symbols_then { symbols.new
-        ≡ symbolsOf (code_of numbers degrees.now columns.now weights.now)
+        ≡ symbols_of (code_of numbers degrees.now columns.now weights.now)
         costs.new }
 {
     let limit = scalar::u8_to_u16(numbers.limit);

@@ -10,12 +10,12 @@ pub mod stages;
 mod update;
 
 ghost use Rattle.std.specs.Prelude.{◌≡◌, ◌≤◌};
-ghost use Rattle.trellis.specs.Sizes.{mostSymbols};
-ghost use Rattle.machine.specs.CodeLine.{parse, numbersOf, columnsRead};
+ghost use Rattle.trellis.specs.Sizes.{most_symbols};
+ghost use Rattle.machine.specs.CodeLine.{parse, numbers_of, columns_read};
 ghost use Rattle.machine.specs.Decoding.{lending, Decodes};
 ghost use Rattle.machine.specs.Early.{DecodesEarly};
 ghost use Rattle.machine.specs.Moments.{Moves, loading, iterating};
-ghost use Rattle.layered.specs.Answers.{answerReply, stageOf};
+ghost use Rattle.layered.specs.Answers.{answer_reply, stage_of};
 
 use crate::answers::{Answer, Counted, Stage};
 use scalar::sizes;
@@ -32,7 +32,7 @@ pub fn decode(
     margins: &mut [u16],
 ) -> Answer
     ensures { Decodes code.now frame.now
-        (lending symbols.old costs.old store.old margins.old) (answerReply result)
+        (lending symbols.old costs.old store.old margins.old) (answer_reply result)
         (lending symbols.new costs.new store.new margins.new) }
 {
     decode_counted(code, frame, symbols, costs, store, margins).answer
@@ -48,9 +48,9 @@ pub fn decode_counted(
     margins: &mut [u16],
 ) -> Counted
     ensures leaves { Decodes code.now frame.now
-        (lending symbols.old costs.old store.old margins.old) (answerReply result.answer)
+        (lending symbols.old costs.old store.old margins.old) (answer_reply result.answer)
         (lending symbols.new costs.new store.new margins.new) }
-    ensures columns { (result.columns ≡ columnsRead (numbersOf (parse code.now))) × (result.columns ≤ mostSymbols) }
+    ensures columns { (result.columns ≡ columns_read (numbers_of (parse code.now))) × (result.columns ≤ most_symbols) }
 {
     let mut degrees = [0u8; sizes::MOST_CHECKS];
     let mut columns = [0u16; sizes::MOST_EDGES];
@@ -85,7 +85,7 @@ pub fn decode_early(
     margins: &mut [u16],
 ) -> Answer
     ensures { DecodesEarly code.now frame.now
-        (lending symbols.old costs.old store.old margins.old) (answerReply result)
+        (lending symbols.old costs.old store.old margins.old) (answer_reply result)
         (lending symbols.new costs.new store.new margins.new) }
 {
     let mut degrees = [0u8; sizes::MOST_CHECKS];
@@ -121,7 +121,7 @@ pub fn load(
     margins: &mut [u16],
 ) -> Stage
     ensures { Moves (loading code.now frame.now
-        (lending symbols.old costs.old store.now margins.old)) (stageOf result)
+        (lending symbols.old costs.old store.now margins.old)) (stage_of result)
         (lending symbols.new costs.new store.now margins.new) }
 {
     let mut degrees = [0u8; sizes::MOST_CHECKS];
@@ -152,7 +152,7 @@ pub fn step(
     margins: &mut [u16],
 ) -> Stage
     ensures { Moves (iterating code.now frame.now t
-        (lending symbols.old costs.old store.old margins.old)) (stageOf result)
+        (lending symbols.old costs.old store.old margins.old)) (stage_of result)
         (lending symbols.new costs.new store.new margins.new) }
 {
     let mut degrees = [0u8; sizes::MOST_CHECKS];

@@ -1,16 +1,16 @@
 // The decisions with their margins, and whether they satisfy every check.
 ghost use Rattle.std.specs.Prelude.{◌≡◌, ◌+◌, ◌*◌, ◌^◌, ◌≤◌, ◌<◌, length};
 ghost use Rattle.trellis.specs.Lists.{tab};
-ghost use Rattle.trellis.specs.Check.{decide as decideOf};
+ghost use Rattle.trellis.specs.Check.{decide as decide_of};
 ghost use Rattle.trellis.specs.Field.{product};
-ghost use Rattle.trellis.specs.Rules.{powerOf};
-ghost use Rattle.trellis.specs.Sizes.{mostSize};
+ghost use Rattle.trellis.specs.Rules.{power_of};
+ghost use Rattle.trellis.specs.Sizes.{most_size};
 ghost use Rattle.machine.specs.inner.Tables.{term};
-ghost use Rattle.machine.specs.CodeLine.{columnOf};
-ghost use Rattle.machine.specs.Machine.{settled as settled_of, symbols as symbolsOf};
+ghost use Rattle.machine.specs.CodeLine.{column_of};
+ghost use Rattle.machine.specs.Machine.{settled as settled_of, symbols as symbols_of};
 ghost use Rattle.codeline.specs.inner.Coding.{code_of};
 ghost use Rattle.machine.specs.inner.Tables.{EdgeRoom};
-ghost use Rattle.layered.specs.inner.Parity.{allHold, ParityRoom, FromTo, FirstNot, SettledRoom};
+ghost use Rattle.layered.specs.inner.Parity.{all_hold, ParityRoom, FromTo, FirstNot, SettledRoom};
 
 use codeline::answers::Numbers;
 use decision::answers::Decision;
@@ -19,8 +19,8 @@ use field::Element;
 // The decision of column c of q costs.
 pub fn decided(costs: &[u16], q: usize, c: usize) -> Decision
     requires { c * q + q ≤ length costs.now }
-    ensures symbol { (result.symbol ≡ (decideOf (columnOf q costs.now c)).symbol) × (result.symbol ≤ q) }
-    ensures margin { result.margin ≡ (decideOf (columnOf q costs.now c)).margin }
+    ensures symbol { (result.symbol ≡ (decide_of (column_of q costs.now c)).symbol) × (result.symbol ≤ q) }
+    ensures margin { result.margin ≡ (decide_of (column_of q costs.now c)).margin }
 {
     let a = c * q;
     let e = a + q;
@@ -29,9 +29,9 @@ pub fn decided(costs: &[u16], q: usize, c: usize) -> Decision
 
 // The symbol of each column.
 fn decisions(costs: &[u16], q: usize, symbols: &mut [u8])
-    requires { (length symbols.old * q ≤ length costs.now) × (q ≤ mostSize) }
+    requires { (length symbols.old * q ≤ length costs.now) × (q ≤ most_size) }
     ensures { symbols.new
-        ≡ tab (λ c. (decideOf (columnOf q costs.now c)).symbol) (length symbols.old) }
+        ≡ tab (λ c. (decide_of (column_of q costs.now c)).symbol) (length symbols.old) }
 {
     let mut c = 0;
     while c < symbols.len() {
@@ -44,7 +44,7 @@ fn decisions(costs: &[u16], q: usize, symbols: &mut [u8])
 pub fn margins(costs: &[u16], q: usize, margins: &mut [u16])
     requires { length margins.old * q ≤ length costs.now }
     ensures { margins.new
-        ≡ tab (λ c. (decideOf (columnOf q costs.now c)).margin) (length margins.old) }
+        ≡ tab (λ c. (decide_of (column_of q costs.now c)).margin) (length margins.old) }
 {
     let mut c = 0;
     while c < margins.len() {
@@ -66,8 +66,8 @@ fn times(p: u8, a: u8, b: u8) -> u8
 
 // What one edge adds to its check's sum.
 fn term_at(numbers: Numbers, columns: &[u16], weights: &[u8], symbols: &[u8], edge: usize) -> u8
-    requires { EdgeRoom (powerOf numbers.first) columns.now weights.now symbols.now edge }
-    ensures { result ≡ term (powerOf numbers.first) columns.now weights.now symbols.now edge }
+    requires { EdgeRoom (power_of numbers.first) columns.now weights.now symbols.now edge }
+    ensures { result ≡ term (power_of numbers.first) columns.now weights.now symbols.now edge }
 {
     let c = scalar::u16_to_usize(columns[edge]);
     times(rules::power(numbers.first), weights[edge], symbols[c])
@@ -123,7 +123,7 @@ pub fn unsatisfied(
 // Whether the symbols satisfy every check.
 fn holds(numbers: Numbers, degrees: &[u8], columns: &[u16], weights: &[u8], symbols: &[u8]) -> bool
     requires { ParityRoom numbers degrees.now columns.now weights.now symbols.now }
-    ensures { result ≡ allHold (code_of numbers degrees.now columns.now weights.now)
+    ensures { result ≡ all_hold (code_of numbers degrees.now columns.now weights.now)
         symbols.now }
 {
     let count = scalar::u8_to_usize(numbers.checks);
@@ -144,7 +144,7 @@ pub fn settled(
     ensures test { result ≡ settled_of (code_of numbers degrees.now columns.now weights.now)
         costs.now }
     ensures symbols_then { symbols.new
-        ≡ symbolsOf (code_of numbers degrees.now columns.now weights.now)
+        ≡ symbols_of (code_of numbers degrees.now columns.now weights.now)
         costs.now }
 {
     decisions(costs, rules::size(numbers.first), symbols);

@@ -1,6 +1,6 @@
 // A check in the tables and the store: where it stands, one update of it, and the check behind it.
 ghost use Rattle.std.specs.Prelude.{◌≡◌, ◌+◌};
-ghost use Rattle.machine.specs.Lent.{lent, updateLent};
+ghost use Rattle.machine.specs.Lent.{lent, update_lent};
 ghost use Rattle.codeline.specs.inner.Coding.{code_of};
 ghost use Rattle.layered.specs.inner.Places.{Stands, Around, PlaceRoom};
 
@@ -31,7 +31,7 @@ pub fn update_at(
     requires { PlaceRoom numbers degrees.now columns.now weights.now start here
         costs.old store.old arrived.old sent.old }
     ensures buffers { lent costs.new store.new
-        ≡ updateLent (code_of numbers degrees.now columns.now weights.now)
+        ≡ update_lent (code_of numbers degrees.now columns.now weights.now)
         start here.check (lent costs.old store.old) }
     ensures next { Stands numbers.first degrees.now (here.check + 1) result }
 {

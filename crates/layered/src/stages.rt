@@ -1,14 +1,14 @@
 // A load and one iteration: decoding's refusals, then the first test, or the iteration from the lent costs and records and the test after
 // it.
 ghost use Rattle.std.specs.Prelude.{◌≡◌};
-ghost use Rattle.machine.specs.Machine.{settled, symbols as symbolsOf, margins as marginsOf};
-ghost use Rattle.machine.specs.Lent.{lent, iterationLent};
+ghost use Rattle.machine.specs.Machine.{settled, symbols as symbols_of, margins as margins_of};
+ghost use Rattle.machine.specs.Lent.{lent, iteration_lent};
 ghost use Rattle.machine.specs.Decoding.{lending};
 ghost use Rattle.machine.specs.Moments.{Moves, loading, iterating};
 ghost use Rattle.layered.specs.inner.Calls.{CodeRoom};
 ghost use Rattle.codeline.specs.inner.Coding.{code_of, Coded};
-ghost use Rattle.layered.specs.Answers.{stageOf};
-ghost use Rattle.layered.specs.inner.Stages.{stageAfter, loadingOf, iteratingOf, TestRoom, StepRoom};
+ghost use Rattle.layered.specs.Answers.{stage_of};
+ghost use Rattle.layered.specs.inner.Stages.{stage_after, loading_of, iterating_of, TestRoom, StepRoom};
 
 use crate::answers::Stage;
 use crate::{iterate, parity};
@@ -17,7 +17,7 @@ use scalar::sizes;
 
 // "2 if the test holds, else 3 if t is I or more, else 1".
 pub fn stage_after(found: bool, t: u16, limit: u8) -> Stage
-    ensures { stageOf result ≡ stageAfter found t limit }
+    ensures { stage_of result ≡ stage_after found t limit }
 {
     if found {
         return Stage::Found;
@@ -43,10 +43,10 @@ pub fn tested(
     ensures test { result ≡ settled (code_of numbers degrees.now columns.now weights.now)
         costs.now }
     ensures symbols_then { symbols.new
-        ≡ symbolsOf (code_of numbers degrees.now columns.now weights.now)
+        ≡ symbols_of (code_of numbers degrees.now columns.now weights.now)
         costs.now }
     ensures margins_then { margins.new
-        ≡ marginsOf (code_of numbers degrees.now columns.now weights.now)
+        ≡ margins_of (code_of numbers degrees.now columns.now weights.now)
         costs.now }
 {
     parity::margins(costs, rules::size(numbers.first), margins);
@@ -72,13 +72,13 @@ pub fn iterated(
     ensures test { result ≡ settled (code_of numbers degrees.now columns.now weights.now)
         costs.new }
     ensures buffers { lent costs.new store.new
-        ≡ iterationLent (code_of numbers degrees.now columns.now weights.now)
+        ≡ iteration_lent (code_of numbers degrees.now columns.now weights.now)
         start (lent costs.old store.old) }
     ensures symbols_then { symbols.new
-        ≡ symbolsOf (code_of numbers degrees.now columns.now weights.now)
+        ≡ symbols_of (code_of numbers degrees.now columns.now weights.now)
         costs.new }
     ensures margins_then { margins.new
-        ≡ marginsOf (code_of numbers degrees.now columns.now weights.now)
+        ≡ margins_of (code_of numbers degrees.now columns.now weights.now)
         costs.new }
 {
     iterate::iterate(
@@ -101,9 +101,9 @@ fn load_under(
 ) -> Stage
     requires { Coded numbers degrees.now columns.now weights.now }
     ensures { Moves
-        (loadingOf (code_of numbers degrees.now columns.now weights.now)
+        (loading_of (code_of numbers degrees.now columns.now weights.now)
         frame.now (lending symbols.old costs.old store.now margins.old))
-        (stageOf result)
+        (stage_of result)
         (lending symbols.new costs.new store.now margins.new) }
 {
     let n = scalar::u16_to_usize(numbers.columns);
@@ -143,9 +143,9 @@ fn step_under(
 ) -> Stage
     requires { CodeRoom numbers degrees.now columns.now weights.now arrived.old sent.old }
     ensures { Moves
-        (iteratingOf (code_of numbers degrees.now columns.now weights.now)
+        (iterating_of (code_of numbers degrees.now columns.now weights.now)
         frame.now t (lending symbols.old costs.old store.old margins.old))
-        (stageOf result)
+        (stage_of result)
         (lending symbols.new costs.new store.new margins.new) }
 {
     let n = scalar::u16_to_usize(numbers.columns);
@@ -187,7 +187,7 @@ pub fn load_in(
     weights: &mut [u8; sizes::MOST_EDGES],
 ) -> Stage
     ensures { Moves (loading code.now frame.now
-        (lending symbols.old costs.old store.now margins.old)) (stageOf result)
+        (lending symbols.old costs.old store.now margins.old)) (stage_of result)
         (lending symbols.new costs.new store.now margins.new) }
 {
     match codeline::code_tables(code, degrees, columns, weights) {
@@ -214,7 +214,7 @@ pub fn step_in(
     sent: &mut [u8; sizes::MOST_EXPANSION],
 ) -> Stage
     ensures { Moves (iterating code.now frame.now t
-        (lending symbols.old costs.old store.old margins.old)) (stageOf result)
+        (lending symbols.old costs.old store.old margins.old)) (stage_of result)
         (lending symbols.new costs.new store.new margins.new) }
 {
     match codeline::code_tables(code, degrees, columns, weights) {

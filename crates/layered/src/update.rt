@@ -1,12 +1,12 @@
 // One update of a check: Q from the costs and the old record, the new record, and the costs again.
 ghost use Rattle.std.specs.Prelude.{◌≡◌, length};
 ghost use Rattle.trellis.specs.Lists.{tab};
-ghost use Rattle.trellis.specs.Check.{allSent};
-ghost use Rattle.trellis.specs.Record.{recordOf};
-ghost use Rattle.trellis.specs.Rules.{ruleFor, size_of, columnsOf};
-ghost use Rattle.machine.specs.Lent.{costsLent, recordLent};
-ghost use Rattle.machine.specs.inner.Tables.{edgesOf};
-ghost use Rattle.layered.specs.inner.Updates.{oldCosts, RecallRoom, SendRoom, UpdateRoom};
+ghost use Rattle.trellis.specs.Check.{all_sent};
+ghost use Rattle.trellis.specs.Record.{record_of};
+ghost use Rattle.trellis.specs.Rules.{rule_for, size_of, columns_of};
+ghost use Rattle.machine.specs.Lent.{costs_lent, record_lent};
+ghost use Rattle.machine.specs.inner.Tables.{edges_of};
+ghost use Rattle.layered.specs.inner.Updates.{old_costs, RecallRoom, SendRoom, UpdateRoom};
 
 use crate::column;
 use codeline::answers::Numbers;
@@ -24,7 +24,7 @@ fn clear(out: &mut [u8])
 // What the old record sent, before scaling; "0 if none".
 fn recall(first: u8, start: bool, weights: &[u8], bytes: &[u8], out: &mut [u8])
     requires { RecallRoom first start weights.now bytes.now out.old }
-    ensures { out.new ≡ oldCosts first start weights.now bytes.now }
+    ensures { out.new ≡ old_costs first start weights.now bytes.now }
 {
     if start {
         clear(out);
@@ -37,9 +37,9 @@ fn recall(first: u8, start: bool, weights: &[u8], bytes: &[u8], out: &mut [u8])
 fn send(first: u8, weights: &[u8], costs: &[u8], bytes: &mut [u8], out: &mut [u8])
     requires { SendRoom first weights.now costs.now bytes.old out.old }
     ensures bytes_then { bytes.new
-        ≡ recordOf (ruleFor first) (columnsOf (size_of first) weights.now costs.now) }
+        ≡ record_of (rule_for first) (columns_of (size_of first) weights.now costs.now) }
     ensures out_then { out.new
-        ≡ allSent (ruleFor first) (columnsOf (size_of first) weights.now costs.now) }
+        ≡ all_sent (rule_for first) (columns_of (size_of first) weights.now costs.now) }
 {
     checknode::messages(first, weights, costs, bytes, out);
 }
@@ -58,11 +58,11 @@ pub fn update(
     requires { UpdateRoom numbers.first numbers.scale start
         columns.now weights.now costs.old bytes.old arrived.old sent.old }
     ensures costs_then { costs.new
-        ≡ costsLent (ruleFor numbers.first) numbers.scale start
-        (edgesOf columns.now weights.now) bytes.old costs.old }
+        ≡ costs_lent (rule_for numbers.first) numbers.scale start
+        (edges_of columns.now weights.now) bytes.old costs.old }
     ensures bytes_then { bytes.new
-        ≡ recordLent (ruleFor numbers.first) numbers.scale start
-        (edgesOf columns.now weights.now) bytes.old costs.old }
+        ≡ record_lent (rule_for numbers.first) numbers.scale start
+        (edges_of columns.now weights.now) bytes.old costs.old }
 {
     let q = rules::size(numbers.first);
     let g = scalar::u8_to_u16(numbers.scale);

@@ -4,11 +4,11 @@
 -- equation that it makes false before a proof whose text it no longer fits.
 use mathlib.Core.Path.{◌≡◌, refl}
 use Rattle.trellis.specs.Field.{xor}
-use Rattle.trellis.specs.Check.{sent, leastCost, choices}
+use Rattle.trellis.specs.Check.{sent, least_cost, choices}
 use Rattle.machine.specs.Machine.{iteration, update, spread, arriving, outgoing, incoming, message}
-use Rattle.machine.proofs.Examples.{code-3, frame-6}
-use Rattle.machine.proofs.Offset.{beforeUpdate, edgeCostIn, oldIn}
+use Rattle.machine.proofs.Examples.{code_3, frame_6}
+use Rattle.machine.proofs.Offset.{before_update, edge_cost_in, old_in}
 
-pub attained : (edgeCostIn code-3 (beforeUpdate code-3 frame-6 1 0) 0 2 1 ≡ 0) × (oldIn code-3 (beforeUpdate code-3 frame-6 1 0) 0 2 1 ≡ 255)
-unfolding iteration update spread arriving outgoing incoming message sent leastCost choices xor
+pub attained : (edge_cost_in code_3 (before_update code_3 frame_6 1 0) 0 2 1 ≡ 0) × (old_in code_3 (before_update code_3 frame_6 1 0) 0 2 1 ≡ 255)
+unfolding iteration update spread arriving outgoing incoming message sent least_cost choices xor
 attained = (refl, refl)

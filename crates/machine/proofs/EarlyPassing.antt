@@ -15,7 +15,7 @@ use Rattle.trellis.specs.Lists.{pick}
 use Rattle.machine.specs.CodeLine.{Code}
 use Rattle.machine.specs.Machine.{used}
 use Rattle.machine.specs.Lent.{Lent}
-use Rattle.machine.specs.inner.LentEarly.{nextLent}
+use Rattle.machine.specs.inner.LentEarly.{next_lent}
 use Rattle.machine.specs.inner.Accepted.{GoodCode}
 use Rattle.machine.specs.inner.InRange.{Advancing, Ranged, Formed}
 use Rattle.machine.proofs.Passing.{lent-ranged, update-length, update-formed, update-others}
@@ -46,7 +46,7 @@ module _ (C : Code) (G : GoodCode C) where
   advancing-start l R r = record { ranged = R; room = r; done = λ m h i. absurd (not-suc-le-zero i) }
 
   -- one update more
-  pub advanced : (u : ℕ) (l : Lent) → Advancing C G u l → Advancing C G (suc u) (nextLent C u l)
+  pub advanced : (u : ℕ) (l : Lent) → Advancing C G u l → Advancing C G (suc u) (next_lent C u l)
   advanced u l A =
       let k = check-small u in
       record {

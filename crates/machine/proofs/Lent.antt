@@ -13,27 +13,27 @@ use lib.Seq.{take_at, drop_at, take-add}
 use borrow.Author.Tests.{ne_eqb}
 use Rattle.trellis.specs.Lists.{pick, upto, part, patch, blocks}
 use Rattle.trellis.specs.Check.{Column}
-use Rattle.trellis.specs.Record.{recordLength, recordOf}
+use Rattle.trellis.specs.Record.{record_length, record_of}
 use Rattle.machine.specs.CodeLine.{Edge, Code, size, rule, check}
-use Rattle.machine.specs.Machine.{Last, none, made, State, last_of, scaled, message, arriving, spread, update, iteration, start, Result, result, go, run, settled, found, notFound, place, used, recordIn, records, piece_of, held}
-use Rattle.machine.specs.Lent.{Lent, weightsOf, messageLent, arrivingLent, costsLent, recordLent, updateLent, iterationLent, Ended, ended, goLent}
-use Rattle.trellis.proofs.Lists.{of-upTo}
-use Rattle.trellis.proofs.Places.{map-ext}
-use Rattle.trellis.proofs.Records.{expand-record}
-use Rattle.trellis.proofs.Form.{record-length}
-use Rattle.trellis.proofs.Loops.{length-blocks, blocks-ext}
+use Rattle.machine.specs.Machine.{Last, none, made, State, last_of, scaled, message, arriving, spread, update, iteration, start, Result, result, go, run, settled, found, not_found, place, used, record_in, records, piece_of, held}
+use Rattle.machine.specs.Lent.{Lent, weights_of, message_lent, arriving_lent, costs_lent, record_lent, update_lent, iteration_lent, Ended, ended, go_lent}
+use Rattle.trellis.proofs.Lists.{of_up_to}
+use Rattle.trellis.proofs.Places.{map_ext}
+use Rattle.trellis.proofs.Records.{expand_record}
+use Rattle.trellis.proofs.Form.{record_length_lem}
+use Rattle.trellis.proofs.Loops.{length-blocks, blocks_ext}
 use Rattle.machine.specs.inner.Accepted.{GoodCheck, GoodCode}
-use Rattle.machine.proofs.Updates.{Made, made-proper, arriving-made, Fine, IsMade, GoodUpdates, MadeTo, updates-kept, last-same, last-other, iteration-kept}
+use Rattle.machine.proofs.Updates.{Made, made_proper, arriving-made, Fine, IsMade, GoodUpdates, MadeTo, updates-kept, last-same, last-other, iteration-kept}
 
 -- blocks: one of them, and one of them replaced
-blocks-split : (f : ℕ → List ℕ) (n : ℕ) (r : List ℕ) (m : ℕ) → m < n → (t : List ℕ) × (blocks f n ++ r ≡ blocks f m ++ (f m ++ t))
+blocks_split : (f : ℕ → List ℕ) (n : ℕ) (r : List ℕ) (m : ℕ) → m < n → (t : List ℕ) × (blocks f n ++ r ≡ blocks f m ++ (f m ++ t))
     × ((g : ℕ → List ℕ) → ((k : ℕ) → k < n → k ≢ m → g k ≡ f k) → blocks g n ++ r ≡ blocks f m ++ (g m ++ t))
-blocks-split f zero r m h = absurd (not-suc-le-zero h)
-blocks-split f (suc n) r m h =
+blocks_split f zero r m h = absurd (not-suc-le-zero h)
+blocks_split f (suc n) r m h =
     elim (ℕ_discrete m n) [
-      | yes e ↦ (r, rw e (append_assoc (blocks f n) (f n) r), λ g k. rw (e, append_assoc (blocks g n) (g n) r) (ap (λ b. b ++ (g n ++ r)) (blocks-ext g f n (λ j i. k j (omega arith) (omega arith)))))
+      | yes e ↦ (r, rw e (append_assoc (blocks f n) (f n) r), λ g k. rw (e, append_assoc (blocks g n) (g n) r) (ap (λ b. b ++ (g n ++ r)) (blocks_ext g f n (λ j i. k j (omega arith) (omega arith)))))
       | no e ↦
-          let s = blocks-split f n (f n ++ r) m (omega arith) in (
+          let s = blocks_split f n (f n ++ r) m (omega arith) in (
             s.0,
             append_assoc (blocks f n) (f n) r ∙ s.1,
             λ g k. append_assoc (blocks g n) (g n) r ∙ ap (λ b. blocks g n ++ (b ++ r)) (k n (omega arith) (omega arith)) ∙ s.2 g (λ j i. k j (omega arith)),
@@ -46,21 +46,21 @@ part_at x y t a n e k = rw (drop_at x (y ++ t) a e) (take_at y t n k)
 patch-at : (x y t s : List ℕ) (a n : ℕ) → length x ≡ a → length y ≡ n → patch (x ++ (y ++ t)) a n s ≡ x ++ (s ++ t)
 patch-at x y t s a n e k = rw (take_at x (y ++ t) a e, drop_at x (y ++ t) a e, drop_at y t n k)
 
-pub arriving-ext : (p : ℕ) (es : List Edge) (f g : ℕ → List ℕ) (P : List ℕ) → ((n : ℕ) → n < length es → f n ≡ g n) → arriving p es f P ≡ arriving p es g P
+pub arriving_ext : (p : ℕ) (es : List Edge) (f g : ℕ → List ℕ) (P : List ℕ) → ((n : ℕ) → n < length es → f n ≡ g n) → arriving p es f P ≡ arriving p es g P
 unfolding arriving
-arriving-ext p es f g P h = map-ext (λ n i. rw (h n (of-upTo i)))
+arriving_ext p es f g P h = map_ext (λ n i. rw (h n (of_up_to i)))
 
-pub spread-ext : (p : ℕ) (es : List Edge) (cs : List Column) (f g : ℕ → List ℕ) (P : List ℕ) → ((n : ℕ) → n < length es → f n ≡ g n) → spread p es cs f P ≡ spread p es cs g P
+pub spread_ext : (p : ℕ) (es : List Edge) (cs : List Column) (f g : ℕ → List ℕ) (P : List ℕ) → ((n : ℕ) → n < length es → f n ≡ g n) → spread p es cs f P ≡ spread p es cs g P
 unfolding spread
-spread-ext p es cs f g P h = upto-ext (length es) _ _ P (λ n i Q. rw (h n i))
+spread_ext p es cs f g P h = upto_ext (length es) _ _ P (λ n i Q. rw (h n i))
   where
-    upto-ext : (k : ℕ) (a b : ℕ → List ℕ → List ℕ) (P : List ℕ) → ((n : ℕ) → n < k → (Q : List ℕ) → a n Q ≡ b n Q) → upto a k P ≡ upto b k P
-    upto-ext zero a b P h = refl
-    upto-ext (suc k) a b P h = h k (omega arith) (upto a k P) ∙ ap (b k) (upto-ext k a b P (λ n i. h n (omega arith)))
+    upto_ext : (k : ℕ) (a b : ℕ → List ℕ → List ℕ) (P : List ℕ) → ((n : ℕ) → n < k → (Q : List ℕ) → a n Q ≡ b n Q) → upto a k P ≡ upto b k P
+    upto_ext zero a b P h = refl
+    upto_ext (suc k) a b P h = h k (omega arith) (upto a k P) ∙ ap (b k) (upto_ext k a b P (λ n i. h n (omega arith)))
 
 module _ (C : Code) where
   abbrev pub len : ℕ → ℕ
-  len m = recordLength (rule C) (length (check C m))
+  len m = record_length (rule C) (length (check C m))
 
   pub place-suc : (m : ℕ) → place C (suc m) ≡ place C m + len m
   unfolding place
@@ -88,7 +88,7 @@ module _ (C : Code) (G : GoodCode C) (s₀ : List ℕ) (room : used C ≤ length
       let k : place C m + len C m ≤ length s₀ = omega (arith, place-suc C m, place_mono C (suc m) (length C.checks) h) in
       simp (length-take, length-drop) (omega arith)
   length-piece m h (made cs) f =
-      record-length (rule C) cs (made-proper C G (check C m) (G.each-check m h) cs f) ∙ ap (recordLength (rule C)) f.count
+      record_length_lem (rule C) cs (made_proper C G (check C m) (G.each-check m h) cs f) ∙ ap (record_length (rule C)) f.count
 
   module _ (s : State) (K : GoodUpdates C s) where
     length_front : (m : ℕ) → m ≤ length C.checks → length (blocks (λ m. piece_of C s₀ m (last_of s m)) m) ≡ place C m
@@ -103,43 +103,43 @@ module _ (C : Code) (G : GoodCode C) (s₀ : List ℕ) (room : used C ≤ length
       pub held-part : part (held C s₀ s) (place C m) (len C m) ≡ piece_of C s₀ m (last_of s m)
       unfolding held
       held-part =
-          let b = blocks-split (λ m. piece_of C s₀ m (last_of s m)) (length C.checks) (drop (used C) s₀) m h in
+          let b = blocks_split (λ m. piece_of C s₀ m (last_of s m)) (length C.checks) (drop (used C) s₀) m h in
           rw b.1 (part_at (blocks (λ m. piece_of C s₀ m (last_of s m)) m) _ b.0 _ _ (length_front m (omega arith)) (length-piece m h (last_of s m) (K.fine m h)))
 
       pub held_update : (s' : State) (cs : List Column) → last_of s' m ≡ made cs → ((k : ℕ) → k ≢ m → last_of s' k ≡ last_of s k)
-          → held C s₀ s' ≡ patch (held C s₀ s) (place C m) (len C m) (recordOf (rule C) cs)
+          → held C s₀ s' ≡ patch (held C s₀ s) (place C m) (len C m) (record_of (rule C) cs)
       unfolding held
       held_update s' cs e o =
-          let b = blocks-split (λ m. piece_of C s₀ m (last_of s m)) (length C.checks) (drop (used C) s₀) m h in
-          let x : piece_of C s₀ m (last_of s' m) ≡ recordOf (rule C) cs = ap (piece_of C s₀ m) e in
+          let b = blocks_split (λ m. piece_of C s₀ m (last_of s m)) (length C.checks) (drop (used C) s₀) m h in
+          let x : piece_of C s₀ m (last_of s' m) ≡ record_of (rule C) cs = ap (piece_of C s₀ m) e in
           b.2 (λ m. piece_of C s₀ m (last_of s' m)) (λ k i n. ap (piece_of C s₀ k) (o k n))
           ∙ ap (λ y. blocks (λ m. piece_of C s₀ m (last_of s m)) m ++ (y ++ b.0)) x
-          ∙ sym (ap (λ y. patch y (place C m) (len C m) (recordOf (rule C) cs)) b.1
-          ∙ patch-at (blocks (λ m. piece_of C s₀ m (last_of s m)) m) (piece_of C s₀ m (last_of s m)) b.0 (recordOf (rule C) cs) _ _ (length_front m (omega arith)) (length-piece m h (last_of s m) (K.fine m h)))
+          ∙ sym (ap (λ y. patch y (place C m) (len C m) (record_of (rule C) cs)) b.1
+          ∙ patch-at (blocks (λ m. piece_of C s₀ m (last_of s m)) m) (piece_of C s₀ m (last_of s m)) b.0 (record_of (rule C) cs) _ _ (length_front m (omega arith)) (length-piece m h (last_of s m) (K.fine m h)))
 
   -- what a record's expansion says is what its columns were sent
   pub message-made : (es : List Edge) → GoodCheck C.columns (size C) es → (cs : List Column) → Made C es cs → (n : ℕ) → n < length es
-      → messageLent (rule C) C.scale false (weightsOf es) (recordOf (rule C) cs) n ≡ message (rule C) C.scale (made cs) n
-  unfolding messageLent message
+      → message_lent (rule C) C.scale false (weights_of es) (record_of (rule C) cs) n ≡ message (rule C) C.scale (made cs) n
+  unfolding message_lent message
   message-made es H cs M n h =
-      rw (← M.same) (map-ext (λ x i. ap (scaled C.scale) (expand-record (rule C) cs (made-proper C G es H cs M) n x (omega (arith, M.count)) (of-upTo i))))
+      rw (← M.same) (map_ext (λ x i. ap (scaled C.scale) (expand_record (rule C) cs (made_proper C G es H cs M) n x (omega (arith, M.count)) (of_up_to i))))
 
   message-lent : (es : List Edge) → GoodCheck C.columns (size C) es → (start : Bool) (m : ℕ) (l : Last) → Fine C es l → When C start l → (n : ℕ) → n < length es
-      → messageLent (rule C) C.scale start (weightsOf es) (piece_of C s₀ m l) n ≡ message (rule C) C.scale l n
-  unfolding messageLent message
+      → message_lent (rule C) C.scale start (weights_of es) (piece_of C s₀ m l) n ≡ message (rule C) C.scale l n
+  unfolding message_lent message
   message-lent es H true m none f w n h = refl
   message-lent es H true m (made cs) f w n h = let z : ◌≡◌ {A = ℕ} 0 1 = cc in absurd (omega arith)
   message-lent es H false m none f w n h = absurd w
   message-lent es H false m (made cs) f w n h = message-made es H cs f n h
 
   pub update-stands : (start : Bool) (s : State) → GoodUpdates C s → (m : ℕ) → m < length C.checks → When C start (last_of s m)
-      → updateLent C start m (lent_of C s₀ s) ≡ lent_of C s₀ (update C m s)
-  unfolding updateLent costsLent recordLent update
+      → update_lent C start m (lent_of C s₀ s) ≡ lent_of C s₀ (update C m s)
+  unfolding update_lent costs_lent record_lent update
   update-stands start s K m h w =
       ap₂ (λ a b. record { costs = a; store = b })
-      (ap (λ cs. spread (size C) es cs (messageLent (rule C) C.scale false (weightsOf es) (recordOf (rule C) cs)) s.costs) same
-      ∙ spread-ext (size C) es now _ _ s.costs (message-made es H now M))
-      (ap (λ cs. patch (held C s₀ s) (place C m) (len C m) (recordOf (rule C) cs)) same ∙ sym (held_update s K m h (update C m s) now (last-same C G s K m h) (last-other C G s K m h)))
+      (ap (λ cs. spread (size C) es cs (message_lent (rule C) C.scale false (weights_of es) (record_of (rule C) cs)) s.costs) same
+      ∙ spread_ext (size C) es now _ _ s.costs (message-made es H now M))
+      (ap (λ cs. patch (held C s₀ s) (place C m) (len C m) (record_of (rule C) cs)) same ∙ sym (held_update s K m h (update C m s) now (last-same C G s K m h) (last-other C G s K m h)))
     where
       es : List Edge
       es = check C m
@@ -153,10 +153,10 @@ module _ (C : Code) (G : GoodCode C) (s₀ : List ℕ) (room : used C ≤ length
       M : Made C es now
       M = arriving-made C es H _ s.costs
 
-      same : arrivingLent (rule C) C.scale start es (part (held C s₀ s) (place C m) (len C m)) s.costs ≡ now
+      same : arriving_lent (rule C) C.scale start es (part (held C s₀ s) (place C m) (len C m)) s.costs ≡ now
       same =
           rw (held-part s K m h)
-          (arriving-ext (size C) es _ _ s.costs (message-lent es H start m (last_of s m) (K.fine m h) w))
+          (arriving_ext (size C) es _ _ s.costs (message-lent es H start m (last_of s m) (K.fine m h) w))
 
   -- the checks from k on are as they were
   pub untouched : (s : State) → GoodUpdates C s → (k : ℕ) → k ≤ length C.checks → (j : ℕ) → k ≤ j → last_of (upto (update C) k s) j ≡ last_of s j
@@ -164,17 +164,17 @@ module _ (C : Code) (G : GoodCode C) (s₀ : List ℕ) (room : used C ≤ length
   untouched s K (suc k) h j i =
       last-other C G (upto (update C) k s) (updates-kept C G s K k (omega arith)).0 k h j (omega arith) ∙ untouched s K k (omega arith) j (omega arith)
 
-  pub updates-stand : (start : Bool) (s : State) → GoodUpdates C s → ((m : ℕ) → m < length C.checks → When C start (last_of s m)) → (k : ℕ) → k ≤ length C.checks
-      → upto (updateLent C start) k (lent_of C s₀ s) ≡ lent_of C s₀ (upto (update C) k s)
-  updates-stand start s K w zero h = refl
-  updates-stand start s K w (suc k) h =
-      ap (updateLent C start k) (updates-stand start s K w k (omega arith))
+  pub updates_stand : (start : Bool) (s : State) → GoodUpdates C s → ((m : ℕ) → m < length C.checks → When C start (last_of s m)) → (k : ℕ) → k ≤ length C.checks
+      → upto (update_lent C start) k (lent_of C s₀ s) ≡ lent_of C s₀ (upto (update C) k s)
+  updates_stand start s K w zero h = refl
+  updates_stand start s K w (suc k) h =
+      ap (update_lent C start k) (updates_stand start s K w k (omega arith))
       ∙ update-stands start (upto (update C) k s) (updates-kept C G s K k (omega arith)).0 k h (rw (untouched s K k (omega arith) k (omega arith)) (w k h))
 
   pub iteration-stands : (start : Bool) (s : State) → GoodUpdates C s → ((m : ℕ) → m < length C.checks → When C start (last_of s m))
-      → iterationLent C start (lent_of C s₀ s) ≡ lent_of C s₀ (iteration C s)
-  unfolding iterationLent iteration held
-  iteration-stands start s K w = updates-stand start (record { costs = s.costs; last = s.last; t = s.t + 1 }) (record { full = K.full; fine = K.fine }) w (length C.checks) (omega arith)
+      → iteration_lent C start (lent_of C s₀ s) ≡ lent_of C s₀ (iteration C s)
+  unfolding iteration_lent iteration held
+  iteration-stands start s K w = updates_stand start (record { costs = s.costs; last = s.last; t = s.t + 1 }) (record { full = K.full; fine = K.fine }) w (length C.checks) (omega arith)
 
   pub iteration-t : (s : State) → (iteration C s).t ≡ s.t + 1
   unfolding iteration update
@@ -199,21 +199,21 @@ module _ (C : Code) (G : GoodCode C) (s₀ : List ℕ) (room : used C ≤ length
   ended_of r = ended r.status r.end.t (lent_of C s₀ r.end)
 
   -- the buffers' run is the machine's
-  pub go-stands : (n : ℕ) (s : State) → ReadyState s → (goLent C n s.t (lent_of C s₀ s) ≡ ended_of (go C n s)) × ReadyState (go C n s).end
-  unfolding goLent go
+  pub go-stands : (n : ℕ) (s : State) → ReadyState s → (go_lent C n s.t (lent_of C s₀ s) ≡ ended_of (go C n s)) × ReadyState (go C n s).end
+  unfolding go_lent go
   go-stands zero s R = at (settled C s.costs)
     where
-      at : (b : Bool) → (pick b (ended found s.t (lent_of C s₀ s)) (ended notFound s.t (lent_of C s₀ s)) ≡ ended_of (pick b (result found s) (result notFound s)))
-          × ReadyState (pick b (result found s) (result notFound s)).end
+      at : (b : Bool) → (pick b (ended found s.t (lent_of C s₀ s)) (ended not_found s.t (lent_of C s₀ s)) ≡ ended_of (pick b (result found s) (result not_found s)))
+          × ReadyState (pick b (result found s) (result not_found s)).end
       at true = (refl, R)
       at false = (refl, R)
   go-stands (suc n) s R = at (settled C s.costs) (go-stands n (iteration C s) (iteration-ready s R))
     where
-      step : goLent C n (s.t + 1) (iterationLent C (eqb s.t 0) (lent_of C s₀ s)) ≡ goLent C n (iteration C s).t (lent_of C s₀ (iteration C s))
-      step = ap₂ (goLent C n) (sym (iteration-t s)) (iteration-stands (eqb s.t 0) s R.kept R.when)
+      step : go_lent C n (s.t + 1) (iteration_lent C (eqb s.t 0) (lent_of C s₀ s)) ≡ go_lent C n (iteration C s).t (lent_of C s₀ (iteration C s))
+      step = ap₂ (go_lent C n) (sym (iteration-t s)) (iteration-stands (eqb s.t 0) s R.kept R.when)
 
-      at : (b : Bool) → (goLent C n (iteration C s).t (lent_of C s₀ (iteration C s)) ≡ ended_of (go C n (iteration C s))) × ReadyState (go C n (iteration C s)).end
-          → (pick b (ended found s.t (lent_of C s₀ s)) (goLent C n (s.t + 1) (iterationLent C (eqb s.t 0) (lent_of C s₀ s))) ≡ ended_of (pick b (result found s) (go C n (iteration C s))))
+      at : (b : Bool) → (go_lent C n (iteration C s).t (lent_of C s₀ (iteration C s)) ≡ ended_of (go C n (iteration C s))) × ReadyState (go C n (iteration C s)).end
+          → (pick b (ended found s.t (lent_of C s₀ s)) (go_lent C n (s.t + 1) (iteration_lent C (eqb s.t 0) (lent_of C s₀ s))) ≡ ended_of (pick b (result found s) (go C n (iteration C s))))
           × ReadyState (pick b (result found s) (go C n (iteration C s))).end
       at true i = (refl, R)
       at false i = (step ∙ i.0, i.1)
@@ -227,11 +227,11 @@ module _ (C : Code) (G : GoodCode C) (s₀ : List ℕ) (room : used C ≤ length
       front zero i = refl
       front (suc k) i = rw (front k (omega arith), h k i) (sym (take-add (place C k) (len C k) s₀))
 
-  held_all : (s : State) → MadeTo (length C.checks) s → held C s₀ s ≡ records C s ++ drop (used C) s₀
+  held_all_lem : (s : State) → MadeTo (length C.checks) s → held C s₀ s ≡ records C s ++ drop (used C) s₀
   unfolding held records
-  held_all s h = ap (λ b. b ++ drop (used C) s₀) (blocks-ext _ _ (length C.checks) (λ m i. same m (last_of s m) (h m i)))
+  held_all_lem s h = ap (λ b. b ++ drop (used C) s₀) (blocks_ext _ _ (length C.checks) (λ m i. same m (last_of s m) (h m i)))
     where
-      same : (m : ℕ) (l : Last) → IsMade l → piece_of C s₀ m l ≡ recordIn C l
+      same : (m : ℕ) (l : Last) → IsMade l → piece_of C s₀ m l ≡ record_in C l
       same m none i = absurd i
       same m (made cs) i = refl
 
@@ -240,17 +240,17 @@ module _ (C : Code) (G : GoodCode C) (s₀ : List ℕ) (room : used C ≤ length
     where
       at : (b : Bool) → ((m : ℕ) → m < length C.checks → When C b (last_of s m)) → held C s₀ s ≡ pick b s₀ (records C s ++ drop (used C) s₀)
       at true w = held_none s w
-      at false w = held_all s w
+      at false w = held_all_lem s w
 
   -- the run over the buffers: the frame in the cost buffer, any store
   pub run-stands : (f : List ℕ)
-      → goLent C C.limit 0 (record { costs = f; store = s₀ })
+      → go_lent C C.limit 0 (record { costs = f; store = s₀ })
       ≡ ended (run C f).status (run C f).end.t (record { costs = (run C f).end.costs; store = pick (eqb (run C f).end.t 0) s₀ (records C (run C f).end ++ drop (used C) s₀) })
   unfolding run
   run-stands f =
       let no : (m : ℕ) → m < length C.checks → last_of (start C f) m ≡ none = λ m h. get_or-replicate (length C.checks) m none none h in
       let R : ReadyState (start C f) = record { kept = record { full = length-replicate (length C.checks) none; fine = λ m h. rw (no m h) tt }; when = no } in
       let g = go-stands C.limit (start C f) R in
-      ap (λ l. goLent C C.limit 0 (record { costs = f; store = l })) (sym (held_none (start C f) no))
+      ap (λ l. go_lent C C.limit 0 (record { costs = f; store = l })) (sym (held_none (start C f) no))
       ∙ g.0
       ∙ ap (λ l. ended (run C f).status (run C f).end.t (record { costs = (run C f).end.costs; store = l })) (held-end (go C C.limit (start C f)).end g.1)

@@ -7,20 +7,20 @@ use lib.Pow.{pow_mono}
 use lib.ListN.{length, get_or, take, drop, length-map, length-take, length-drop, get_or-append}
 use lib.Seq.{get_or-take, get_or-drop}
 use Rattle.trellis.specs.Lists.{up_to}
-use Rattle.trellis.specs.Check.{firstZero, marginOf}
+use Rattle.trellis.specs.Check.{first_zero, margin_of}
 use Rattle.trellis.proofs.Places.{length-count}
 use Rattle.trellis.proofs.Instances.{first-zero}
 use Rattle.trellis.proofs.Margins.{margin-least, margin-attained, margin-tie, margin-only, margin-small}
-use Rattle.machine.specs.CodeLine.{Code, size, columnOf}
+use Rattle.machine.specs.CodeLine.{Code, size, column_of}
 use Rattle.machine.specs.Machine.{run, symbols, margins}
 use Rattle.machine.specs.Decoding.{Buffers}
-use Rattle.machine.specs.Margins.{symbolIn, marginIn, bufferCost, Margin, Margins}
-use Rattle.machine.proofs.Lists.{at-upTo}
+use Rattle.machine.specs.Margins.{symbol_in, margin_in, buffer_cost, Margin, Margins}
+use Rattle.machine.proofs.Lists.{at_up_to}
 use Rattle.machine.specs.inner.Accepted.{GoodCode}
 use Rattle.machine.proofs.Lines.{parse-good}
 use Rattle.machine.specs.inner.InRange.{Ranged}
 use Rattle.machine.proofs.Ranges.{column-room, run-ranged}
-use Rattle.machine.proofs.Buffers.{accepted-call}
+use Rattle.machine.proofs.Buffers.{accepted_call}
 
 -- a part of a list of small numbers
 take-small : (b n : ℕ) (l : List ℕ) → ((i : ℕ) → get_or l i 0 ≤ b) → (i : ℕ) → get_or (take n l) i 0 ≤ b
@@ -36,7 +36,7 @@ module _ (C : Code) (G : GoodCode C) (P : List ℕ) (R : Ranged C P) (o : Buffer
 
   -- the costs of the column
   abbrev l : List ℕ
-  l = columnOf q P c
+  l = column_of q P c
 
   room : c * q + q ≤ length P
   room = omega (arith, R.full, column-room c C.columns q h)
@@ -47,32 +47,32 @@ module _ (C : Code) (G : GoodCode C) (P : List ℕ) (R : Ranged C P) (o : Buffer
   two : 2 ≤ length l
   two = omega (arith, full, pow_mono G.p-low)
 
-  symbol-at : symbolIn o c ≡ firstZero l
+  symbol-at : symbol_in o c ≡ first_zero l
   unfolding symbols
   symbol-at =
       let n : length (symbols C P) ≡ C.columns = length-map (up_to C.columns) _ ∙ length-count 0 C.columns in
-      ap (λ z. get_or z c 0) ey ∙ get_or-append (symbols C P) y 0 c (omega (arith, n)) ∙ at-upTo _ C.columns c 0 h
+      ap (λ z. get_or z c 0) ey ∙ get_or-append (symbols C P) y 0 c (omega (arith, n)) ∙ at_up_to _ C.columns c 0 h
 
-  margin-at : marginIn o c ≡ marginOf l
+  margin-at : margin_in o c ≡ margin_of l
   unfolding margins
   margin-at =
       let n : length (margins C P) ≡ C.columns = length-map (up_to C.columns) _ ∙ length-count 0 C.columns in
-      ap (λ z. get_or z c 0) em ∙ get_or-append (margins C P) m 0 c (omega (arith, n)) ∙ at-upTo _ C.columns c 0 h
+      ap (λ z. get_or z c 0) em ∙ get_or-append (margins C P) m 0 c (omega (arith, n)) ∙ at_up_to _ C.columns c 0 h
 
-  cost-at : (x : ℕ) → x < q → bufferCost q o c x ≡ get_or l x 0
+  cost-at : (x : ℕ) → x < q → buffer_cost q o c x ≡ get_or l x 0
   cost-at x k =
       ap (λ z. get_or z (c * q + x) 0) ep ∙ get_or-append P p 0 (c * q + x) (omega (arith, room))
       ∙ sym (get_or-take q (drop (c * q) P) x 0 k ∙ get_or-drop (c * q) P x 0)
 
   pub told : Margin q o c
   told =
-      let z = R.zero_in c h in
+      let z = R.has_zero c h in
       let a = margin-attained l two z in
       let f = first-zero z in
       let e = symbol-at in
       let i = margin-at in
       record {
-        free = cost-at (symbolIn o c) (omega (arith, e, f.0, full)) ∙ ap (λ x. get_or l x 0) e ∙ f.1;
+        free = cost-at (symbol_in o c) (omega (arith, e, f.0, full)) ∙ ap (λ x. get_or l x 0) e ∙ f.1;
         attained = record {
           symbol = a.0;
           element = omega (arith, a.1, full);
@@ -92,9 +92,9 @@ module _ (C : Code) (G : GoodCode C) (P : List ℕ) (R : Ranged C P) (o : Buffer
       low : (x : ℕ) → get_or l x 0 ≤ 510
       low x = take-small 510 q (drop (c * q) P) (λ j. rw (get_or-drop (c * q) P j 0) (R.small (c * q + j))) x
 
-pub margins-told : Margins
-margins-told code f C A bytes b M r o D c h =
+pub margins_told : Margins
+margins_told code f C A bytes b M r o D c h =
     let G : GoodCode C = parse-good code C A.line in
-    let a = accepted-call code f b C A M in
+    let a = accepted_call code f b C A M in
     let R = run-ranged C G f A.fits bytes in
     told C G (run C f).end.costs R o _ _ _ (D.symbols-then ∙ ap (λ x. x.buffers.symbols) a) (D.margins-then ∙ ap (λ x. x.buffers.margins) a) (D.costs-then ∙ ap (λ x. x.buffers.costs) a) c h

@@ -8,13 +8,13 @@ use Rattle.trellis.specs.Lists.{pick}
 use Rattle.machine.specs.CodeLine.{Read, good, bad, Code}
 use Rattle.machine.specs.Machine.{settled}
 use Rattle.machine.specs.Decoding.{Buffers, admitted}
-use Rattle.machine.specs.Moments.{loadingUnder, loading, resumable, further, iteratingUnder, iterating}
+use Rattle.machine.specs.Moments.{loading_under, loading, resumable, further, iterating_under, iterating}
 
 pub loading-t : (code f : List ℕ) (b : Buffers) → (loading code f b).t ≡ 0
 unfolding loading
 loading-t code f b = go (admitted code f b)
   where
-    go : (r : Read Code) → (loadingUnder r f b).t ≡ 0
+    go : (r : Read Code) → (loading_under r f b).t ≡ 0
     go (bad k) = refl
     go (good C) = refl
 
@@ -27,6 +27,6 @@ iterating-t code f t b = go (resumable code f t b)
     at false true = refl
     at false false = refl
 
-    go : (r : Read Code) → (iteratingUnder r t b).t ≡ pick (eqb (iteratingUnder r t b).stage.state 4) 0 (t + 1)
+    go : (r : Read Code) → (iterating_under r t b).t ≡ pick (eqb (iterating_under r t b).stage.state 4) 0 (t + 1)
     go (bad k) = refl
     go (good C) = at (settled C (further C t b).costs) (leb C.limit (t + 1))

@@ -11,16 +11,16 @@ use native.Mathlib.Omega.{arith}
 use lib.ListN.{length}
 use Rattle.trellis.specs.Lists.{upto, patch}
 use Rattle.trellis.specs.Check.{Column}
-use Rattle.trellis.specs.Record.{recordLength, recordOf}
-use Rattle.trellis.proofs.Form.{record-length, record-ok}
+use Rattle.trellis.specs.Record.{record_length, record_of}
+use Rattle.trellis.proofs.Form.{record_length_lem, record_ok_lem}
 use Rattle.machine.specs.CodeLine.{Edge, Code, size, rule, check}
 use Rattle.machine.specs.Machine.{made, message, spread, place, used}
-use Rattle.machine.specs.Lent.{Lent, arrivingLent, costsLent, recordLent, updateLent, iterationLent}
+use Rattle.machine.specs.Lent.{Lent, arriving_lent, costs_lent, record_lent, update_lent, iteration_lent}
 use Rattle.machine.specs.inner.Accepted.{GoodCheck, GoodCode}
-use Rattle.machine.specs.inner.InRange.{pieceIn, Formed, Passable, Ranged}
-use Rattle.machine.proofs.Updates.{Made, made-proper, arriving-made}
+use Rattle.machine.specs.inner.InRange.{piece_in, Formed, Passable, Ranged}
+use Rattle.machine.proofs.Updates.{Made, made_proper, arriving-made}
 use Rattle.machine.proofs.Ranges.{length-patch, part-patch, part-before, part-after, spread-ranged}
-use Rattle.machine.proofs.Lent.{len, place-suc, place_mono, spread-ext, message-made}
+use Rattle.machine.proofs.Lent.{len, place-suc, place_mono, spread_ext, message-made}
 
 module _ (C : Code) (G : GoodCode C) where
   module _ (start : Bool) (l : Lent) (R : Ranged C l.costs) (room : used C ≤ length l.store) (m : ℕ) (h : m < length C.checks) where
@@ -28,7 +28,7 @@ module _ (C : Code) (G : GoodCode C) where
     es = check C m
 
     pub cs : List Column
-    cs = arrivingLent (rule C) C.scale start (check C m) (pieceIn C G l m) l.costs
+    cs = arriving_lent (rule C) C.scale start (check C m) (piece_in C G l m) l.costs
 
     H : GoodCheck C.columns (size C) (check C m)
     H = G.each-check m h
@@ -40,51 +40,51 @@ module _ (C : Code) (G : GoodCode C) where
     in-store : place C m + len C m ≤ length l.store
     in-store = omega (arith, place-suc C m, place_mono C (suc m) (length C.checks) h)
 
-    long : length (recordOf (rule C) cs) ≡ len C m
-    long = record-length (rule C) cs (made-proper C G (check C m) H cs M) ∙ ap (recordLength (rule C)) M.count
+    long : length (record_of (rule C) cs) ≡ len C m
+    long = record_length_lem (rule C) cs (made_proper C G (check C m) H cs M) ∙ ap (record_length (rule C)) M.count
 
     -- the costs sent are those of this Q, as the machine has them
-    pub update-costs : (updateLent C start m l).costs ≡ spread (size C) (check C m) cs (message (rule C) C.scale (made cs)) l.costs
-    unfolding updateLent costsLent recordLent cs
-    update-costs = spread-ext (size C) (check C m) cs _ _ l.costs (message-made C G l.store room (check C m) H cs M)
+    pub update-costs : (update_lent C start m l).costs ≡ spread (size C) (check C m) cs (message (rule C) C.scale (made cs)) l.costs
+    unfolding update_lent costs_lent record_lent cs
+    update-costs = spread_ext (size C) (check C m) cs _ _ l.costs (message-made C G l.store room (check C m) H cs M)
 
-    update-store : (updateLent C start m l).store ≡ patch l.store (place C m) (len C m) (recordOf (rule C) cs)
-    unfolding updateLent costsLent recordLent cs
+    update-store : (update_lent C start m l).store ≡ patch l.store (place C m) (len C m) (record_of (rule C) cs)
+    unfolding update_lent costs_lent record_lent cs
     update-store = refl
 
-    pub lent-ranged : Ranged C (updateLent C start m l).costs
+    pub lent-ranged : Ranged C (update_lent C start m l).costs
     lent-ranged = rw update-costs (spread-ranged C G (check C m) H cs M l.costs R)
 
-    pub update-length : length (updateLent C start m l).store ≡ length l.store
-    update-length = rw update-store (length-patch l.store (recordOf (rule C) cs) (place C m) (len C m) in-store long)
+    pub update-length : length (update_lent C start m l).store ≡ length l.store
+    update-length = rw update-store (length-patch l.store (record_of (rule C) cs) (place C m) (len C m) in-store long)
 
     -- its record is of accepted form
-    pub update-formed : Formed C G (updateLent C start m l) m
+    pub update-formed : Formed C G (update_lent C start m l) m
     update-formed =
-        rw (update-store, part-patch l.store (recordOf (rule C) cs) (place C m) (len C m) in-store long, ← M.count)
-        (record-ok (rule C) cs (made-proper C G (check C m) H cs M))
+        rw (update-store, part-patch l.store (record_of (rule C) cs) (place C m) (len C m) in-store long, ← M.count)
+        (record_ok_lem (rule C) cs (made_proper C G (check C m) H cs M))
 
     -- the others are as they were
-    pub update-others : (j : ℕ) → j < length C.checks → j ≢ m → pieceIn C G (updateLent C start m l) j ≡ pieceIn C G l j
+    pub update-others : (j : ℕ) → j < length C.checks → j ≢ m → piece_in C G (update_lent C start m l) j ≡ piece_in C G l j
     update-others j k n =
         rw update-store
         (elim (dec_lt j m) [
-          | yes e ↦ part-before l.store (recordOf (rule C) cs) (place C m) (len C m) in-store long (place C j) (len C j) (omega (arith, place-suc C j, place_mono C (suc j) m e))
-          | no e ↦ part-after l.store (recordOf (rule C) cs) (place C m) (len C m) in-store long (place C j) (len C j) (omega (arith, place-suc C m, place_mono C (suc m) j (omega arith)))
+          | yes e ↦ part-before l.store (record_of (rule C) cs) (place C m) (len C m) in-store long (place C j) (len C j) (omega (arith, place-suc C j, place_mono C (suc j) m e))
+          | no e ↦ part-after l.store (record_of (rule C) cs) (place C m) (len C m) in-store long (place C j) (len C j) (omega (arith, place-suc C m, place_mono C (suc m) j (omega arith)))
         ])
 
   -- before check k of a pass
   pub record Before (start : Bool) (l : Lent) (k : ℕ) : Type 0 where
-    pub ranged : Ranged C (upto (updateLent C start) k l).costs
-    pub room : length (upto (updateLent C start) k l).store ≡ length l.store
-    pub done : (m : ℕ) → m < k → Formed C G (upto (updateLent C start) k l) m
-    pub waiting : (m : ℕ) → k ≤ m → m < length C.checks → pieceIn C G (upto (updateLent C start) k l) m ≡ pieceIn C G l m
+    pub ranged : Ranged C (upto (update_lent C start) k l).costs
+    pub room : length (upto (update_lent C start) k l).store ≡ length l.store
+    pub done : (m : ℕ) → m < k → Formed C G (upto (update_lent C start) k l) m
+    pub waiting : (m : ℕ) → k ≤ m → m < length C.checks → piece_in C G (upto (update_lent C start) k l) m ≡ piece_in C G l m
 
   pub updates-before : (start : Bool) (l : Lent) → Ranged C l.costs → used C ≤ length l.store → (k : ℕ) → k ≤ length C.checks → Before start l k
   updates-before start l R room zero h = record { ranged = R; room = refl; done = λ m i. absurd (not-suc-le-zero i); waiting = λ m i j. refl }
   updates-before start l R room (suc k) h =
       let B = updates-before start l R room k (omega arith) in
-      let now : Lent = upto (updateLent C start) k l in
+      let now : Lent = upto (update_lent C start) k l in
       let r : used C ≤ length now.store = omega (arith, B.room) in
       record {
         ranged = lent-ranged start now B.ranged r k h;
@@ -97,11 +97,11 @@ module _ (C : Code) (G : GoodCode C) where
       }
 
   -- so each turn finds the record it needs, and after a pass the next one may follow
-  pub update-needs : (start : Bool) (l : Lent) → Passable C G start l → (k : ℕ) → k < length C.checks → start ≡ false → Formed C G (upto (updateLent C start) k l) k
-  update-needs start l P k h e = rw ((updates-before start l P.ranged P.room k (omega arith)).waiting k (omega arith) h) (P.formed e k h)
+  pub update_needs : (start : Bool) (l : Lent) → Passable C G start l → (k : ℕ) → k < length C.checks → start ≡ false → Formed C G (upto (update_lent C start) k l) k
+  update_needs start l P k h e = rw ((updates-before start l P.ranged P.room k (omega arith)).waiting k (omega arith) h) (P.formed e k h)
 
-  pub iteration-passable : (start : Bool) (l : Lent) → Ranged C l.costs → used C ≤ length l.store → Passable C G false (iterationLent C start l)
-  unfolding iterationLent
+  pub iteration-passable : (start : Bool) (l : Lent) → Ranged C l.costs → used C ≤ length l.store → Passable C G false (iteration_lent C start l)
+  unfolding iteration_lent
   iteration-passable start l R room =
       let B = updates-before start l R room (length C.checks) (omega arith) in
       record { ranged = B.ranged; room = omega (arith, B.room); formed = λ e m h. B.done m h }

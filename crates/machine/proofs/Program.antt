@@ -16,16 +16,16 @@ use Rattle.trellis.specs.Lists.{pick, each}
 use Rattle.trellis.specs.Reply.{Reply, refusal}
 use Rattle.trellis.proofs.Loops.{length-tab}
 use Rattle.trellis.proofs.Places.{length-count}
-use Rattle.trellis.proofs.Recurrence.{size-4}
-use Rattle.machine.specs.Line.{byte_at, lineBytes, lineOk}
-use Rattle.machine.specs.CodeLine.{Read, good, bad, Code, parse, size, frameFault, power}
-use Rattle.machine.specs.Machine.{Status, found, notFound, run, symbols}
-use Rattle.machine.specs.Printing.{digitsOf, Said, said, printed, ofFrame, frameSaid, frameLine}
+use Rattle.trellis.proofs.Recurrence.{size_4}
+use Rattle.machine.specs.Line.{byte_at, line_bytes, line_ok}
+use Rattle.machine.specs.CodeLine.{Read, good, bad, Code, parse, size, frame_fault, power}
+use Rattle.machine.specs.Machine.{Status, found, not_found, run, symbols}
+use Rattle.machine.specs.Printing.{digits_of, Said, said, printed, of_frame, frame_said, frame_line}
 use Rattle.machine.specs.Decoding.{outcome}
 use Rattle.machine.proofs.Lines.{parse-good}
 use Rattle.machine.proofs.Ranges.{frame-fits}
-use Rattle.machine.specs.Program.{lastLine, linesAfter, refusedLine, read_code, afterCode, linesOutput, outputOf}
-use Rattle.machine.specs.inner.Blocks.{Session, first, later, ended, fresh, fedByte, codeKept, codeOut, lineFinished, lineFinishedOut, fed, fedOut, closeOut, fedAll, fedAllOut, allBlocks}
+use Rattle.machine.specs.Program.{last_line, lines_after, refused_line, read_code, after_code, lines_output, output_of}
+use Rattle.machine.specs.inner.Blocks.{Session, first, later, ended, fresh, fed_byte, code_kept, code_out, line_finished, line_finished_out, fed, fed_out, close_out, fed_all, fed_all_out, all_blocks}
 
 take_more : (n : ℕ) (l m : List ℕ) → take n (take n l ++ m) ≡ take n (l ++ m)
 take_more zero l m = refl
@@ -35,13 +35,13 @@ take_more (suc n) (x ∷ l) m = ap {B = List ℕ} (λ r. x ∷ r) (take_more n l
 -- a line longer than 32,769 bytes is refused by 15, and so is what is kept of it
 pub record Long (t : List ℕ) : Type 0 where
   pub code-line : read_code t ≡ bad 15
-  pub frame-line : (code : List ℕ) → frameLine code t ≡ refusedLine 15
+  pub frame_line_refused : (code : List ℕ) → frame_line code t ≡ refused_line 15
 
 long : (t : List ℕ) → 32768 < length t → Long t
-unfolding read_code frameLine frameSaid
+unfolding read_code frame_line frame_said
 long t h =
     let e : ltb 32768 (length t) ≡ true = lt-ltb _ _ h in
-    record { code-line = rw e refl; frame-line = λ code. rw e refl }
+    record { code-line = rw e refl; frame_line_refused = λ code. rw e refl }
 
 cut_line : (l : List ℕ) → (take 32769 l ≡ l) ⊎ (Long (take 32769 l) × Long l)
 cut_line l =
@@ -51,45 +51,45 @@ cut_line l =
     ]
 
 -- what is kept, of what came
-abbrev pub cutSession : Session → Session
-cutSession (first l) = first (take 32769 l)
-cutSession (later code l) = later code (take 32769 l)
-cutSession ended = ended
+abbrev pub cut_session : Session → Session
+cut_session (first l) = first (take 32769 l)
+cut_session (later code l) = later code (take 32769 l)
+cut_session ended = ended
 
 -- all that came
-abbrev pub putByte : Session → ℕ → Session
-putByte (first l) b = first (l ++ (b ∷ []))
-putByte (later code l) b = later code (l ++ (b ∷ []))
-putByte ended b = ended
+abbrev pub put_byte : Session → ℕ → Session
+put_byte (first l) b = first (l ++ (b ∷ []))
+put_byte (later code l) b = later code (l ++ (b ∷ []))
+put_byte ended b = ended
 
-put-cut : (k : Session) (b : ℕ) → fedByte (cutSession k) b ≡ cutSession (putByte k b)
+put-cut : (k : Session) (b : ℕ) → fed_byte (cut_session k) b ≡ cut_session (put_byte k b)
 put-cut (first l) b = ap {B = Session} (λ r. first r) (take_more 32769 l (b ∷ []))
 put-cut (later code l) b = ap {B = Session} (λ r. later code r) (take_more 32769 l (b ∷ []))
 put-cut ended b = refl
 
-finished-cut : (k : Session) → lineFinished (cutSession k) ≡ lineFinished k
-unfolding lineFinished
+finished-cut : (k : Session) → line_finished (cut_session k) ≡ line_finished k
+unfolding line_finished
 finished-cut (first l) =
     ⊎_elim (λ (e : take 32769 l ≡ l). rw e refl)
     (λ (h : Long (take 32769 l) × Long l). rw (h.0.code-line, h.1.code-line) refl) (cut_line l)
 finished-cut (later code l) = refl
 finished-cut ended = refl
 
-finishedOut-cut : (k : Session) → lineFinishedOut (cutSession k) ≡ lineFinishedOut k
-unfolding lineFinishedOut
-finishedOut-cut (first l) =
+finished_out_cut : (k : Session) → line_finished_out (cut_session k) ≡ line_finished_out k
+unfolding line_finished_out
+finished_out_cut (first l) =
     ⊎_elim (λ (e : take 32769 l ≡ l). rw e refl)
     (λ (h : Long (take 32769 l) × Long l). rw (h.0.code-line, h.1.code-line) refl) (cut_line l)
-finishedOut-cut (later code l) =
+finished_out_cut (later code l) =
     ⊎_elim (λ (e : take 32769 l ≡ l). rw e refl)
-    (λ (h : Long (take 32769 l) × Long l). h.0.frame-line code ∙ sym (h.1.frame-line code)) (cut_line l)
-finishedOut-cut ended = refl
+    (λ (h : Long (take 32769 l) × Long l). h.0.frame_line_refused code ∙ sym (h.1.frame_line_refused code)) (cut_line l)
+finished_out_cut ended = refl
 
-finished-short : (k : Session) → cutSession (lineFinished k) ≡ lineFinished k
-unfolding lineFinished
+finished-short : (k : Session) → cut_session (line_finished k) ≡ line_finished k
+unfolding line_finished
 finished-short (first l) = go (read_code l)
   where
-    go : (r : Read Code) → cutSession (codeKept r (lineBytes l)) ≡ codeKept r (lineBytes l)
+    go : (r : Read Code) → cut_session (code_kept r (line_bytes l)) ≡ code_kept r (line_bytes l)
     go (good C) = refl
     go (bad n) = refl
 finished-short (later code l) = refl
@@ -101,99 +101,99 @@ line_of (first l) = l
 line_of (later code l) = l
 line_of ended = []
 
-abbrev printedFor : Session → List (List ℕ) → List ℕ
-printedFor (first l) ls = linesOutput ls
-printedFor (later code l) ls = each (frameLine code) ls
-printedFor ended ls = []
+abbrev printed_for : Session → List (List ℕ) → List ℕ
+printed_for (first l) ls = lines_output ls
+printed_for (later code l) ls = each (frame_line code) ls
+printed_for ended ls = []
 
-at_turn : (k : Session) (s : List ℕ) → printedFor k (line_of k ∷ linesAfter [] s) ≡ lineFinishedOut k ++ printedFor (lineFinished k) (linesAfter (line_of (lineFinished k)) s)
-unfolding lineFinished lineFinishedOut
+at_turn : (k : Session) (s : List ℕ) → printed_for k (line_of k ∷ lines_after [] s) ≡ line_finished_out k ++ printed_for (line_finished k) (lines_after (line_of (line_finished k)) s)
+unfolding line_finished line_finished_out
 at_turn (first l) s = go (read_code l)
   where
-    go : (r : Read Code) → afterCode r (lineBytes l) (linesAfter [] s) ≡ codeOut r ++ printedFor (codeKept r (lineBytes l)) (linesAfter (line_of (codeKept r (lineBytes l))) s)
+    go : (r : Read Code) → after_code r (line_bytes l) (lines_after [] s) ≡ code_out r ++ printed_for (code_kept r (line_bytes l)) (lines_after (line_of (code_kept r (line_bytes l))) s)
     go (good C) = refl
-    go (bad n) = sym (append-nil (refusedLine n))
+    go (bad n) = sym (append-nil (refused_line n))
 at_turn (later code l) s = refl
 at_turn ended s = refl
 
-at-put : (k : Session) (b : ℕ) (s : List ℕ) → printedFor k (linesAfter (line_of k ++ (b ∷ [])) s) ≡ printedFor (putByte k b) (linesAfter (line_of (putByte k b)) s)
+at-put : (k : Session) (b : ℕ) (s : List ℕ) → printed_for k (lines_after (line_of k ++ (b ∷ [])) s) ≡ printed_for (put_byte k b) (lines_after (line_of (put_byte k b)) s)
 at-put (first l) b s = refl
 at-put (later code l) b s = refl
 at-put ended b s = refl
 
 empty_code : read_code [] ≡ bad 5
-unfolding read_code lineOk lineBytes parse
+unfolding read_code line_ok line_bytes parse
 empty_code = refl
 
-at-close : (k : Session) → closeOut (cutSession k) ≡ printedFor k (lastLine (line_of k))
-unfolding closeOut lineFinishedOut
-at-close (first []) = rw empty_code refl
-at-close (first (b ∷ l)) = go (read_code (take 32769 (b ∷ l))) (read_code (b ∷ l)) (finishedOut-cut (first (b ∷ l)))
+at_close : (k : Session) → close_out (cut_session k) ≡ printed_for k (last_line (line_of k))
+unfolding close_out line_finished_out
+at_close (first []) = rw empty_code refl
+at_close (first (b ∷ l)) = go (read_code (take 32769 (b ∷ l))) (read_code (b ∷ l)) (finished_out_cut (first (b ∷ l)))
   where
-    go : (r t : Read Code) → codeOut r ≡ codeOut t → codeOut r ≡ afterCode t (lineBytes (b ∷ l)) []
+    go : (r t : Read Code) → code_out r ≡ code_out t → code_out r ≡ after_code t (line_bytes (b ∷ l)) []
     go r (good C) e = e
     go r (bad n) e = e
-at-close (later code []) = refl
-at-close (later code (b ∷ l)) = rw (finishedOut-cut (later code (b ∷ l))) refl
-at-close ended = refl
+at_close (later code []) = refl
+at_close (later code (b ∷ l)) = rw (finished_out_cut (later code (b ∷ l))) refl
+at_close ended = refl
 
 -- what is kept gives the same output as all that came
-all_said : (k : Session) (s : List ℕ) → fedOut (cutSession k) s ++ closeOut (fed (cutSession k) s) ≡ printedFor k (linesAfter (line_of k) s)
-unfolding fed fedOut linesAfter
-all_said k [] = at-close k
-all_said k (b ∷ s) = go (eqb b 0x0A) (all_said (lineFinished k) s) (all_said (putByte k b) s)
+all_said : (k : Session) (s : List ℕ) → fed_out (cut_session k) s ++ close_out (fed (cut_session k) s) ≡ printed_for k (lines_after (line_of k) s)
+unfolding fed fed_out lines_after
+all_said k [] = at_close k
+all_said k (b ∷ s) = go (eqb b 0x0A) (all_said (line_finished k) s) (all_said (put_byte k b) s)
   where
-    go : (t : Bool) → fedOut (cutSession (lineFinished k)) s ++ closeOut (fed (cutSession (lineFinished k)) s) ≡ printedFor (lineFinished k) (linesAfter (line_of (lineFinished k)) s)
-        → fedOut (cutSession (putByte k b)) s ++ closeOut (fed (cutSession (putByte k b)) s) ≡ printedFor (putByte k b) (linesAfter (line_of (putByte k b)) s)
-        → pick t (lineFinishedOut (cutSession k) ++ fedOut (lineFinished (cutSession k)) s) (fedOut (fedByte (cutSession k) b) s) ++ closeOut (pick t (fed (lineFinished (cutSession k)) s) (fed (fedByte (cutSession k) b) s))
-        ≡ printedFor k (pick t (line_of k ∷ linesAfter [] s) (linesAfter (line_of k ++ (b ∷ [])) s))
+    go : (t : Bool) → fed_out (cut_session (line_finished k)) s ++ close_out (fed (cut_session (line_finished k)) s) ≡ printed_for (line_finished k) (lines_after (line_of (line_finished k)) s)
+        → fed_out (cut_session (put_byte k b)) s ++ close_out (fed (cut_session (put_byte k b)) s) ≡ printed_for (put_byte k b) (lines_after (line_of (put_byte k b)) s)
+        → pick t (line_finished_out (cut_session k) ++ fed_out (line_finished (cut_session k)) s) (fed_out (fed_byte (cut_session k) b) s) ++ close_out (pick t (fed (line_finished (cut_session k)) s) (fed (fed_byte (cut_session k) b) s))
+        ≡ printed_for k (pick t (line_of k ∷ lines_after [] s) (lines_after (line_of k ++ (b ∷ [])) s))
     go true h i =
-        let e : lineFinished (cutSession k) ≡ cutSession (lineFinished k) = finished-cut k ∙ sym (finished-short k) in
-        rw (finishedOut-cut k, e)
-        (append_assoc (lineFinishedOut k) (fedOut (cutSession (lineFinished k)) s) (closeOut (fed (cutSession (lineFinished k)) s)) ∙ ap (λ r. lineFinishedOut k ++ r) h ∙ sym (at_turn k s))
+        let e : line_finished (cut_session k) ≡ cut_session (line_finished k) = finished-cut k ∙ sym (finished-short k) in
+        rw (finished_out_cut k, e)
+        (append_assoc (line_finished_out k) (fed_out (cut_session (line_finished k)) s) (close_out (fed (cut_session (line_finished k)) s)) ∙ ap (λ r. line_finished_out k ++ r) h ∙ sym (at_turn k s))
     go false h i = rw (put-cut k b) (i ∙ sym (at-put k b s))
 
 -- blocks end to end are one block
-pub fed-more : (k : Session) (s t : List ℕ) → (fed k (s ++ t) ≡ fed (fed k s) t) × (fedOut k (s ++ t) ≡ fedOut k s ++ fedOut (fed k s) t)
-unfolding fed fedOut
+pub fed-more : (k : Session) (s t : List ℕ) → (fed k (s ++ t) ≡ fed (fed k s) t) × (fed_out k (s ++ t) ≡ fed_out k s ++ fed_out (fed k s) t)
+unfolding fed fed_out
 fed-more k [] t = (refl, refl)
-fed-more k (b ∷ s) t = go (eqb b 0x0A) (fed-more (lineFinished k) s t) (fed-more (fedByte k b) s t)
+fed-more k (b ∷ s) t = go (eqb b 0x0A) (fed-more (line_finished k) s t) (fed-more (fed_byte k b) s t)
   where
-    go : (c : Bool) → (fed (lineFinished k) (s ++ t) ≡ fed (fed (lineFinished k) s) t) × (fedOut (lineFinished k) (s ++ t) ≡ fedOut (lineFinished k) s ++ fedOut (fed (lineFinished k) s) t)
-        → (fed (fedByte k b) (s ++ t) ≡ fed (fed (fedByte k b) s) t) × (fedOut (fedByte k b) (s ++ t) ≡ fedOut (fedByte k b) s ++ fedOut (fed (fedByte k b) s) t)
-        → (pick c (fed (lineFinished k) (s ++ t)) (fed (fedByte k b) (s ++ t)) ≡ fed (pick c (fed (lineFinished k) s) (fed (fedByte k b) s)) t)
-        × (pick c (lineFinishedOut k ++ fedOut (lineFinished k) (s ++ t)) (fedOut (fedByte k b) (s ++ t)) ≡ pick c (lineFinishedOut k ++ fedOut (lineFinished k) s) (fedOut (fedByte k b) s) ++ fedOut (pick c (fed (lineFinished k) s) (fed (fedByte k b) s)) t)
-    go true h i = (h.0, ap (λ r. lineFinishedOut k ++ r) h.1 ∙ sym (append_assoc (lineFinishedOut k) (fedOut (lineFinished k) s) (fedOut (fed (lineFinished k) s) t)))
+    go : (c : Bool) → (fed (line_finished k) (s ++ t) ≡ fed (fed (line_finished k) s) t) × (fed_out (line_finished k) (s ++ t) ≡ fed_out (line_finished k) s ++ fed_out (fed (line_finished k) s) t)
+        → (fed (fed_byte k b) (s ++ t) ≡ fed (fed (fed_byte k b) s) t) × (fed_out (fed_byte k b) (s ++ t) ≡ fed_out (fed_byte k b) s ++ fed_out (fed (fed_byte k b) s) t)
+        → (pick c (fed (line_finished k) (s ++ t)) (fed (fed_byte k b) (s ++ t)) ≡ fed (pick c (fed (line_finished k) s) (fed (fed_byte k b) s)) t)
+        × (pick c (line_finished_out k ++ fed_out (line_finished k) (s ++ t)) (fed_out (fed_byte k b) (s ++ t)) ≡ pick c (line_finished_out k ++ fed_out (line_finished k) s) (fed_out (fed_byte k b) s) ++ fed_out (pick c (fed (line_finished k) s) (fed (fed_byte k b) s)) t)
+    go true h i = (h.0, ap (λ r. line_finished_out k ++ r) h.1 ∙ sym (append_assoc (line_finished_out k) (fed_out (line_finished k) s) (fed_out (fed (line_finished k) s) t)))
     go false h i = i
 
-all-fed : (k : Session) (bs : List (List ℕ)) → (fedAll k bs ≡ fed k (allBlocks bs)) × (fedAllOut k bs ≡ fedOut k (allBlocks bs))
-unfolding fedAll fedAllOut fed fedOut
+all-fed : (k : Session) (bs : List (List ℕ)) → (fed_all k bs ≡ fed k (all_blocks bs)) × (fed_all_out k bs ≡ fed_out k (all_blocks bs))
+unfolding fed_all fed_all_out fed fed_out
 all-fed k [] = (refl, refl)
 all-fed k (s ∷ bs) =
     let h = all-fed (fed k s) bs in
-    let m = fed-more k s (allBlocks bs) in
-    (h.0 ∙ sym m.0, ap (λ r. fedOut k s ++ r) h.1 ∙ sym m.1)
+    let m = fed-more k s (all_blocks bs) in
+    (h.0 ∙ sym m.0, ap (λ r. fed_out k s ++ r) h.1 ∙ sym m.1)
 
 -- the theorem: however what is read of an input is cut into blocks, what they print, with the closing step, is the output of the input
-pub blocks-output : (input : List ℕ) (bs : List (List ℕ)) → allBlocks bs ≡ take 4294967295 input → fedAllOut fresh bs ++ closeOut (fedAll fresh bs) ≡ outputOf input
-unfolding outputOf
-blocks-output input bs e =
+pub blocks_output : (input : List ℕ) (bs : List (List ℕ)) → all_blocks bs ≡ take 4294967295 input → fed_all_out fresh bs ++ close_out (fed_all fresh bs) ≡ output_of input
+unfolding output_of
+blocks_output input bs e =
     let a = all-fed fresh bs in
     rw (a.0, a.1, e) (all_said fresh (take 4294967295 input))
 
 -- once it has ended, no block prints: the program may stop reading
-pub ended-silent : (s : List ℕ) → (fed ended s ≡ ended) × (fedOut ended s ≡ []) × (closeOut ended ≡ [])
-unfolding fed fedOut lineFinished lineFinishedOut closeOut
-ended-silent [] = (refl, refl, refl)
-ended-silent (b ∷ s) = go (eqb b 0x0A) (ended-silent s)
+pub ended_silent : (s : List ℕ) → (fed ended s ≡ ended) × (fed_out ended s ≡ []) × (close_out ended ≡ [])
+unfolding fed fed_out line_finished line_finished_out close_out
+ended_silent [] = (refl, refl, refl)
+ended_silent (b ∷ s) = go (eqb b 0x0A) (ended_silent s)
   where
-    go : (c : Bool) → (fed ended s ≡ ended) × (fedOut ended s ≡ []) × (closeOut ended ≡ [])
-        → (pick c (fed ended s) (fed ended s) ≡ ended) × (pick c (fedOut ended s) (fedOut ended s) ≡ []) × (closeOut ended ≡ [])
+    go : (c : Bool) → (fed ended s ≡ ended) × (fed_out ended s ≡ []) × (close_out ended ≡ [])
+        → (pick c (fed ended s) (fed ended s) ≡ ended) × (pick c (fed_out ended s) (fed_out ended s) ≡ []) × (close_out ended ≡ [])
     go true h = h
     go false h = h
 
 -- what a line prints
-length_digits : (l : List ℕ) → length (each digitsOf l) ≡ length l * 2
+length_digits : (l : List ℕ) → length (each digits_of l) ≡ length l * 2
 length_digits [] = refl
 length_digits (x ∷ l) = let h = length_digits l in omega arith
 
@@ -206,102 +206,102 @@ pub record ShortLine (text out : List ℕ) : Type 0 where
   pub few : length out ≤ 517
   pub fewer : length out ≤ 5 * (length text + 1)
 
-five-short : (t : List ℕ) (k : ℕ) → ShortLine t (refusedLine k)
-five-short t k = let h = length-printed (said (refusal k) []) in record { few = omega arith; fewer = omega arith }
+five_short : (t : List ℕ) (k : ℕ) → ShortLine t (refused_line k)
+five_short t k = let h = length-printed (said (refusal k) []) in record { few = omega arith; fewer = omega arith }
 
-decided-short : (code t : List ℕ) (C : Code) → parse code ≡ good C → frameFault C (lineBytes t) ≡ 0 → (r : Reply) → r.refused ≡ false
-    → ShortLine t (printed (said r (symbols C (run C (lineBytes t)).end.costs)))
-unfolding symbols lineBytes
+decided-short : (code t : List ℕ) (C : Code) → parse code ≡ good C → frame_fault C (line_bytes t) ≡ 0 → (r : Reply) → r.refused ≡ false
+    → ShortLine t (printed (said r (symbols C (run C (line_bytes t)).end.costs)))
+unfolding symbols line_bytes
 decided-short code t C e f r h =
-    let y : List ℕ = symbols C (run C (lineBytes t)).end.costs in
+    let y : List ℕ = symbols C (run C (line_bytes t)).end.costs in
     let n : length y ≡ C.columns = simp length-map (length-count 0 C.columns) in
     let g = parse-good code C e in
-    let i : length t / 2 ≡ C.columns * size C = sym (length-tab (byte_at t) (length t / 2)) ∙ (frame-fits C (lineBytes t) f).0 in
-    let q : C.columns * 4 ≤ C.columns * size C = mul-le-mul (le_refl C.columns) (size-4 (power C) g.p-low) in
+    let i : length t / 2 ≡ C.columns * size C = sym (length-tab (byte_at t) (length t / 2)) ∙ (frame-fits C (line_bytes t) f).0 in
+    let q : C.columns * 4 ≤ C.columns * size C = mul-le-mul (le_refl C.columns) (size_4 (power C) g.p-low) in
     let a : length (printed (said r y)) ≡ C.columns * 2 + 5 = length-printed (said r y) ∙ rw (h, n) refl in
     record { few = omega (arith, a, g.columns-high); fewer = omega (arith, a, i, q) }
 
-pub frame-short : (code t : List ℕ) → ShortLine t (frameLine code t)
-unfolding frameLine frameSaid
-frame-short code t = go (ltb 32768 (length t)) (lineOk t) (ltb 16384 (length t / 2))
+pub frame-short : (code t : List ℕ) → ShortLine t (frame_line code t)
+unfolding frame_line frame_said
+frame-short code t = go (ltb 32768 (length t)) (line_ok t) (ltb 16384 (length t / 2))
   where
     not-refused : (s : Status) (n : ℕ) → (outcome s n).refused ≡ false
     not-refused found n = refl
-    not-refused notFound n = refl
+    not-refused not_found n = refl
 
-    under : (C : Code) → parse code ≡ good C → (b : Bool) → eqb (frameFault C (lineBytes t)) 0 ≡ b
-        → ShortLine t (printed (pick b (said (outcome (run C (lineBytes t)).status (run C (lineBytes t)).end.t) (symbols C (run C (lineBytes t)).end.costs)) (said (refusal (frameFault C (lineBytes t))) [])))
-    under C e true h = decided-short code t C e (eqb-true _ _ h) _ (not-refused (run C (lineBytes t)).status (run C (lineBytes t)).end.t)
-    under C e false h = five-short t (frameFault C (lineBytes t))
+    under : (C : Code) → parse code ≡ good C → (b : Bool) → eqb (frame_fault C (line_bytes t)) 0 ≡ b
+        → ShortLine t (printed (pick b (said (outcome (run C (line_bytes t)).status (run C (line_bytes t)).end.t) (symbols C (run C (line_bytes t)).end.costs)) (said (refusal (frame_fault C (line_bytes t))) [])))
+    under C e true h = decided-short code t C e (eqb-true _ _ h) _ (not-refused (run C (line_bytes t)).status (run C (line_bytes t)).end.t)
+    under C e false h = five_short t (frame_fault C (line_bytes t))
 
-    frame : (r : Read Code) → parse code ≡ r → ShortLine t (printed (ofFrame r (lineBytes t)))
-    frame (bad k) e = five-short t k
-    frame (good C) e = under C e (eqb (frameFault C (lineBytes t)) 0) refl
+    frame : (r : Read Code) → parse code ≡ r → ShortLine t (printed (of_frame r (line_bytes t)))
+    frame (bad k) e = five_short t k
+    frame (good C) e = under C e (eqb (frame_fault C (line_bytes t)) 0) refl
 
-    go : (a b c : Bool) → ShortLine t (printed (pick a (said (refusal 15) []) (pick b (pick c (said (refusal 2) []) (ofFrame (parse code) (lineBytes t))) (said (refusal 14) []))))
-    go true b c = five-short t 15
-    go false true true = five-short t 2
+    go : (a b c : Bool) → ShortLine t (printed (pick a (said (refusal 15) []) (pick b (pick c (said (refusal 2) []) (of_frame (parse code) (line_bytes t))) (said (refusal 14) []))))
+    go true b c = five_short t 15
+    go false true true = five_short t 2
     go false true false = frame (parse code) refl
-    go false false c = five-short t 14
+    go false false c = five_short t 14
 
-code-short : (t : List ℕ) → ShortLine t (codeOut (read_code t))
+code-short : (t : List ℕ) → ShortLine t (code_out (read_code t))
 code-short t = go (read_code t)
   where
-    go : (r : Read Code) → ShortLine t (codeOut r)
+    go : (r : Read Code) → ShortLine t (code_out r)
     go (good C) = record { few = omega arith; fewer = omega arith }
-    go (bad k) = five-short t k
+    go (bad k) = five_short t k
 
-pub turn-short : (k : Session) → ShortLine (line_of k) (lineFinishedOut k)
-unfolding lineFinishedOut
-turn-short (first l) = code-short l
-turn-short (later code l) = frame-short code l
-turn-short ended = record { few = omega arith; fewer = omega arith }
+pub turn_short : (k : Session) → ShortLine (line_of k) (line_finished_out k)
+unfolding line_finished_out
+turn_short (first l) = code-short l
+turn_short (later code l) = frame-short code l
+turn_short ended = record { few = omega arith; fewer = omega arith }
 
-pub close-short : (k : Session) → length (closeOut k) ≤ 517
-unfolding closeOut
-close-short (first l) = (code-short l).few
-close-short (later code []) = omega arith
-close-short (later code (b ∷ l)) = rw (append-nil (frameLine code (b ∷ l))) (frame-short code (b ∷ l)).few
-close-short ended = omega arith
+pub close_short : (k : Session) → length (close_out k) ≤ 517
+unfolding close_out
+close_short (first l) = (code-short l).few
+close_short (later code []) = omega arith
+close_short (later code (b ∷ l)) = rw (append-nil (frame_line code (b ∷ l))) (frame-short code (b ∷ l)).few
+close_short ended = omega arith
 
-finished-empty : (k : Session) → line_of (lineFinished k) ≡ []
-unfolding lineFinished
-finished-empty (first l) = go (read_code l)
+finished_empty : (k : Session) → line_of (line_finished k) ≡ []
+unfolding line_finished
+finished_empty (first l) = go (read_code l)
   where
-    go : (r : Read Code) → line_of (codeKept r (lineBytes l)) ≡ []
+    go : (r : Read Code) → line_of (code_kept r (line_bytes l)) ≡ []
     go (good C) = refl
     go (bad n) = refl
-finished-empty (later code l) = refl
-finished-empty ended = refl
+finished_empty (later code l) = refl
+finished_empty ended = refl
 
-kept-long : (k : Session) (b : ℕ) → length (line_of (fedByte k b)) ≤ length (line_of k) + 1
+kept-long : (k : Session) (b : ℕ) → length (line_of (fed_byte k b)) ≤ length (line_of k) + 1
 kept-long (first l) b = simp (length-take, length-append) (omega arith)
 kept-long (later code l) b = simp (length-take, length-append) (omega arith)
 kept-long ended b = omega arith
 
 -- five bytes for each byte of the line so far and of the block
-fed-fewer : (k : Session) (s : List ℕ) → length (fedOut k s) ≤ 5 * (length (line_of k) + length s)
-unfolding fedOut
+fed-fewer : (k : Session) (s : List ℕ) → length (fed_out k s) ≤ 5 * (length (line_of k) + length s)
+unfolding fed_out
 fed-fewer k [] = omega arith
-fed-fewer k (b ∷ s) = go (eqb b 0x0A) (fed-fewer (lineFinished k) s) (fed-fewer (fedByte k b) s)
+fed-fewer k (b ∷ s) = go (eqb b 0x0A) (fed-fewer (line_finished k) s) (fed-fewer (fed_byte k b) s)
   where
-    go : (c : Bool) → length (fedOut (lineFinished k) s) ≤ 5 * (length (line_of (lineFinished k)) + length s)
-        → length (fedOut (fedByte k b) s) ≤ 5 * (length (line_of (fedByte k b)) + length s)
-        → length (pick c (lineFinishedOut k ++ fedOut (lineFinished k) s) (fedOut (fedByte k b) s)) ≤ 5 * (length (line_of k) + suc (length s))
+    go : (c : Bool) → length (fed_out (line_finished k) s) ≤ 5 * (length (line_of (line_finished k)) + length s)
+        → length (fed_out (fed_byte k b) s) ≤ 5 * (length (line_of (fed_byte k b)) + length s)
+        → length (pick c (line_finished_out k ++ fed_out (line_finished k) s) (fed_out (fed_byte k b) s)) ≤ 5 * (length (line_of k) + suc (length s))
     go true h i =
-        let e : length (line_of (lineFinished k)) ≡ 0 = ap length (finished-empty k) in
-        rw (length-append (lineFinishedOut k) (fedOut (lineFinished k) s)) (omega (arith, (turn-short k).fewer))
+        let e : length (line_of (line_finished k)) ≡ 0 = ap length (finished_empty k) in
+        rw (length-append (line_finished_out k) (fed_out (line_finished k) s)) (omega (arith, (turn_short k).fewer))
     go false h i = omega (arith, kept-long k b)
 
 -- the bound: the first line that ends in a block prints at most 517 bytes, each other one at most five for each of its bytes and the 0A
-pub fed-few : (k : Session) (s : List ℕ) → length (fedOut k s) ≤ 512 + 5 * length s
-unfolding fedOut
+pub fed-few : (k : Session) (s : List ℕ) → length (fed_out k s) ≤ 512 + 5 * length s
+unfolding fed_out
 fed-few k [] = omega arith
-fed-few k (b ∷ s) = go (eqb b 0x0A) (fed-few (fedByte k b) s)
+fed-few k (b ∷ s) = go (eqb b 0x0A) (fed-few (fed_byte k b) s)
   where
-    go : (c : Bool) → length (fedOut (fedByte k b) s) ≤ 512 + 5 * length s
-        → length (pick c (lineFinishedOut k ++ fedOut (lineFinished k) s) (fedOut (fedByte k b) s)) ≤ 512 + 5 * suc (length s)
+    go : (c : Bool) → length (fed_out (fed_byte k b) s) ≤ 512 + 5 * length s
+        → length (pick c (line_finished_out k ++ fed_out (line_finished k) s) (fed_out (fed_byte k b) s)) ≤ 512 + 5 * suc (length s)
     go true i =
-        let e : length (line_of (lineFinished k)) ≡ 0 = ap length (finished-empty k) in
-        rw (length-append (lineFinishedOut k) (fedOut (lineFinished k) s)) (omega (arith, (turn-short k).few, fed-fewer (lineFinished k) s))
+        let e : length (line_of (line_finished k)) ≡ 0 = ap length (finished_empty k) in
+        rw (length-append (line_finished_out k) (fed_out (line_finished k) s)) (omega (arith, (turn_short k).few, fed-fewer (line_finished k) s))
     go false i = omega arith

@@ -1,11 +1,11 @@
 -- What a decode call replies and leaves in its buffers, refused calls included; and demand 3. SPEC 7.6, 10.3.
 use Rattle.std.specs.Prelude.{◌≡◌, ◌↔◌, false, List, [], ◌∷◌, ◌++◌, ℕ, ◌*◌, ◌≤◌, ◌<◌, eqb, ltb, length, take, drop}
 use Rattle.trellis.specs.Lists.{pick, others, put}
-use Rattle.trellis.specs.Check.{Rule, Column, Fits, deviations, weightedSum, costOf, shift, sent}
-use Rattle.trellis.specs.Refusals.{Test, when, refusedBy}
-use Rattle.trellis.specs.Reply.{Reply, refusal, foundIn, notFoundIn}
-use Rattle.machine.specs.CodeLine.{Read, good, bad, Code, size, rule, check, parse, frameTests, frameFault}
-use Rattle.machine.specs.Machine.{made, State, Status, found, notFound, run, symbols, margins, records, used, last_of, columnsIn}
+use Rattle.trellis.specs.Check.{Rule, Column, Fits, deviations, weighted_sum, cost_of, shift, sent}
+use Rattle.trellis.specs.Refusals.{Test, when, refused_by}
+use Rattle.trellis.specs.Reply.{Reply, refusal, found_in, not_found_in}
+use Rattle.machine.specs.CodeLine.{Read, good, bad, Code, size, rule, check, parse, frame_tests, frame_fault}
+use Rattle.machine.specs.Machine.{made, State, Status, found, not_found, run, symbols, margins, records, used, last_of, columns_in}
 
 -- the four lent buffers of a decoding, in the order of its parameters
 pub record Buffers : Type 0 where
@@ -24,8 +24,8 @@ pub record After : Type 0 where
 
 -- "The result is found (0) or not found (1), with t." (SPEC 6.10)
 abbrev pub outcome : Status → ℕ → Reply
-outcome found t = foundIn t
-outcome notFound t = notFoundIn t
+outcome found t = found_in t
+outcome not_found t = not_found_in t
 
 -- "The symbol buffer then holds the N decisions, the cost buffer .. holds P, N times q of them"; "Decoding fills a second lent buffer
 -- with N margins, 16 bits each, from the final P." "Elements past the used part .. keep their old content." (SPEC 7.6.3, 7.1.5)
@@ -43,8 +43,8 @@ abbrev pub store_of : Code → State → List ℕ → List ℕ
 store_of C end s = pick (eqb end.t 0) s (records C end ++ drop (used C) s)
 
 -- 2, 3, 4, in this order; "19, margin buffer shorter than N, after 4": n symbols, w costs, u bytes and n margins are needed (SPEC 8.4)
-abbrev pub roomTests : ℕ → ℕ → ℕ → ℕ → ℕ → ℕ → ℕ → List Test
-roomTests n w u symbols costs store margins =
+abbrev pub room_tests : ℕ → ℕ → ℕ → ℕ → ℕ → ℕ → ℕ → List Test
+room_tests n w u symbols costs store margins =
     when (ltb symbols n) 2
     ∷ when (ltb costs w) 3
     ∷ when (ltb store u) 4
@@ -52,31 +52,31 @@ roomTests n w u symbols costs store margins =
     ∷ []
 
 -- "Decode: code, 12, 13, 2, 3, 4.", 19: what comes after the code, for n columns of q costs and u bytes of records (SPEC 8.4)
-abbrev pub decodeTests : ℕ → ℕ → ℕ → List ℕ → ℕ → ℕ → ℕ → ℕ → List Test
-decodeTests q n u f symbols costs store margins = frameTests q n f ++ roomTests n (n * q) u symbols costs store margins
+abbrev pub decode_tests : ℕ → ℕ → ℕ → List ℕ → ℕ → ℕ → ℕ → ℕ → List Test
+decode_tests q n u f symbols costs store margins = frame_tests q n f ++ room_tests n (n * q) u symbols costs store margins
 
 -- the code, or the number by which decoding refuses
-abbrev pub admittedUnder : Read Code → List ℕ → Buffers → Read Code
-admittedUnder (bad k) f b = bad k
-admittedUnder (good C) f b =
-    refusedBy
-    (decodeTests (size C) C.columns (used C) f (length b.symbols) (length b.costs) (length b.store) (length b.margins))
+abbrev pub admitted_under : Read Code → List ℕ → Buffers → Read Code
+admitted_under (bad k) f b = bad k
+admitted_under (good C) f b =
+    refused_by
+    (decode_tests (size C) C.columns (used C) f (length b.symbols) (length b.costs) (length b.store) (length b.margins))
     bad (good C)
 
 unfoldable pub admitted : List ℕ → List ℕ → Buffers → Read Code
-admitted code f b = admittedUnder (parse code) f b
+admitted code f b = admitted_under (parse code) f b
 
 -- "A refusal returns its number with t = 0; no lent buffer changes." (SPEC 8.1)
-abbrev pub decodingUnder : Read Code → List ℕ → Buffers → After
-decodingUnder (bad k) f b = record { reply = refusal k; buffers = b }
-decodingUnder (good C) f b =
+abbrev pub decoding_under : Read Code → List ℕ → Buffers → After
+decoding_under (bad k) f b = record { reply = refusal k; buffers = b }
+decoding_under (good C) f b =
     record {
       reply = outcome (run C f).status (run C f).end.t;
       buffers = holding C (run C f).end.costs (store_of C (run C f).end b.store) b;
     }
 
 unfoldable pub decoding : List ℕ → List ℕ → Buffers → After
-decoding code f b = decodingUnder (admitted code f b) f b
+decoding code f b = decoding_under (admitted code f b) f b
 
 -- the reply and the four buffers are these
 pub record Leaves (A : After) (reply : Reply) (b : Buffers) : Type 0 where
@@ -93,49 +93,49 @@ Decodes code frame b reply b' = Leaves (decoding code frame b) reply b'
 -- "A frame is accepted under a code line when none of 5 to 13 applies to the two." (SPEC 5.3)
 pub record Accepts (code frame : List ℕ) (C : Code) : Type 0 where
   pub line : parse code ≡ good C
-  pub fits : frameFault C frame ≡ 0
+  pub fits : frame_fault C frame ≡ 0
 
 -- "buffers long enough" (SPEC 7.6.2)
 pub record Room (C : Code) (b : Buffers) : Type 0 where
-  pub for-symbols : C.columns ≤ length b.symbols
-  pub for-costs : C.columns * size C ≤ length b.costs
-  pub for-store : used C ≤ length b.store
-  pub for-margins : C.columns ≤ length b.margins
+  pub for_symbols : C.columns ≤ length b.symbols
+  pub for_costs : C.columns * size C ≤ length b.costs
+  pub for_store : used C ≤ length b.store
+  pub for_margins : C.columns ≤ length b.margins
 
 -- the columns of the last update of check m in the run on a frame
-abbrev pub lastUpdate : Code → List ℕ → ℕ → List Column
-lastUpdate C f m = columnsIn (last_of (run C f).end m)
+abbrev pub last_update : Code → List ℕ → ℕ → List Column
+last_update C f m = columns_in (last_of (run C f).end m)
 
 -- "all choices for the other columns that depart from at most" k "hard decisions and, together with that symbol, satisfy the check"
 pub record Completes (R : Rule) (cs : List Column) (n x : ℕ) (w : List ℕ) : Type 0 where
   pub fits : Fits R.size (others n cs) w
   pub few : deviations (others n cs) w ≤ R.most
-  pub satisfies : weightedSum R cs (put n x w) ≡ 0
+  pub satisfies : weighted_sum R cs (put n x w) ≡ 0
 
 -- v is the least cost over these
 pub record LeastSent (R : Rule) (cs : List Column) (n x v : ℕ) : Type 0 where
   pub choice : List ℕ
   pub completes : Completes R cs n x choice
-  pub attained : costOf R (others n cs) choice ≡ v
-  pub least : (w : List ℕ) → Completes R cs n x w → v ≤ costOf R (others n cs) w
+  pub attained : cost_of R (others n cs) choice ≡ v
+  pub least : (w : List ℕ) → Completes R cs n x w → v ≤ cost_of R (others n cs) w
 
 -- one run, and what its decoding left: it is not refused, every check was updated, the store's used part is the records of the last
 -- updates, and each sent cost is the least that demand 3 names
 pub record Kept (C : Code) (f : List ℕ) (reply : Reply) (store : List ℕ) : Type 0 where
   pub not-refused : reply.refused ≡ false
   pub replies : reply ≡ outcome (run C f).status (run C f).end.t
-  pub updated : (m : ℕ) → m < length C.checks → last_of (run C f).end m ≡ made (lastUpdate C f m)
+  pub updated : (m : ℕ) → m < length C.checks → last_of (run C f).end m ≡ made (last_update C f m)
   pub used-part : take (used C) store ≡ records C (run C f).end
   pub sent-least : (m : ℕ) → m < length C.checks → (n : ℕ) → n < length (check C m) → (x : ℕ) → x < size C
-      → LeastSent (rule C) (lastUpdate C f m) n x (sent (rule C) (lastUpdate C f m) n x)
+      → LeastSent (rule C) (last_update C f m) n x (sent (rule C) (last_update C f m) n x)
 
 -- "at the last update of every check, each column was sent the same sum of the other columns' weighted hard decisions and, at each symbol,
 -- the same least cost before scaling" (SPEC 10.3)
 pub record Agree (C : Code) (f f' : List ℕ) : Type 0 where
   pub shifts : (m : ℕ) → m < length C.checks → (n : ℕ) → n < length (check C m)
-      → shift (rule C) (lastUpdate C f m) n ≡ shift (rule C) (lastUpdate C f' m) n
+      → shift (rule C) (last_update C f m) n ≡ shift (rule C) (last_update C f' m) n
   pub sents : (m : ℕ) → m < length C.checks → (n : ℕ) → n < length (check C m) → (x : ℕ) → x < size C
-      → sent (rule C) (lastUpdate C f m) n x ≡ sent (rule C) (lastUpdate C f' m) n x
+      → sent (rule C) (last_update C f m) n x ≡ sent (rule C) (last_update C f' m) n x
 
 -- "the two used parts are equal, byte for byte, exactly when the two runs agree in this" (SPEC 10.3)
 pub record Compared (C : Code) (f f' : List ℕ) (reply reply' : Reply) (store store' : List ℕ) : Type 0 where
@@ -146,8 +146,8 @@ pub record Compared (C : Code) (f f' : List ℕ) (reply reply' : Reply) (store s
 -- demand 3: any code line, two frames accepted under it on which the machine makes at least one iteration, any decoding of each in
 -- buffers long enough, whatever these held before. "Stores are compared only between decodings of the same edition, which the same code
 -- line ensures": the rule of both is that of C (SPEC 10.3)
-abbrev pub Demand-3 : Type 0
-Demand-3 =
+abbrev pub Demand3 : Type 0
+Demand3 =
     (code : List ℕ) (C : Code) (f f' : List ℕ) → Accepts code f C → Accepts code f' C
     → 0 < (run C f).end.t → 0 < (run C f').end.t
     → (b b' : Buffers) → Room C b → Room C b'

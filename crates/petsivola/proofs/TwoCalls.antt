@@ -10,11 +10,11 @@ use borrow.Fn.Kinds.{ended_of}
 use borrow.Fn.World.{ArgsD, ResD}
 use Rattle.trellis.specs.Reply.{Reply}
 use Rattle.machine.specs.CodeLine.{Code}
-use Rattle.machine.specs.Machine.{Status, found, notFound, run}
+use Rattle.machine.specs.Machine.{Status, found, not_found, run}
 use Rattle.machine.specs.Decoding.{Buffers, lending, After, outcome, decoding, Accepts, Room, Kept}
 use Rattle.petsivola.specs.Packed.{Packs}
 use Rattle.petsivola.specs.Demand.{Returned, ComparedCalls}
-use Rattle.machine.proofs.Demand.{demand-3}
+use Rattle.machine.proofs.Demand.{demand_3}
 use Rattle.petsivola.specs.contracts.petsivola_decode as decode
 use Rattle.petsivola.proofs.petsivola_decode.Kinds as kinds
 use Rattle.petsivola.proofs.petsivola_decode.Reads as reads
@@ -32,21 +32,21 @@ returned C f r reply store P K =
   where
     low : (o : Status) (t : ℕ) → (outcome o t).number ≤ 1
     low found t = omega arith
-    low notFound t = omega arith
+    low not_found t = omega arith
 
     same : (o : Status) (t : ℕ) → (outcome o t).value ≡ t
     same found t = refl
-    same notFound t = refl
+    same not_found t = refl
 
 -- the arguments a and b are code, frame, symbols, costs, store, margins; s and s' hold them as the calls return; reads.Post is petsivola_decode's ensures
 module _ (κs κs' : Lfts 6) (a : ArgsD decode.signature κs) (b : ArgsD decode.signature κs') (r : ResD decode.signature κs) (r' : ResD decode.signature κs') (s : AtExit (ended_of 6 kinds.ps kinds.r) κs) (s' : AtExit (ended_of 6 kinds.ps kinds.r) κs') where
-  pub two-decodings : a.0.now ≡ b.0.now → (C : Code) → Accepts a.0.now a.1.0.now C → Accepts b.0.now b.1.0.now C
+  pub two_decodings : a.0.now ≡ b.0.now → (C : Code) → Accepts a.0.now a.1.0.now C → Accepts b.0.now b.1.0.now C
       → 0 < (run C a.1.0.now).end.t → 0 < (run C b.1.0.now).end.t
       → Room C (lending a.1.1.0.now a.1.1.1.0.now a.1.1.1.1.0.now a.1.1.1.1.1.0.now)
       → Room C (lending b.1.1.0.now b.1.1.1.0.now b.1.1.1.1.0.now b.1.1.1.1.1.0.now)
       → reads.Post κs a r s → reads.Post κs' b r' s'
       → ComparedCalls C a.1.0.now b.1.0.now r r' s.1.1.1.1.0.now s'.1.1.1.1.0.now
-  two-decodings e C A B i j M N p q =
+  two_decodings e C A B i j M N p q =
       let x : Buffers = lending a.1.1.0.now a.1.1.1.0.now a.1.1.1.1.0.now a.1.1.1.1.1.0.now in
       let y : Buffers = lending b.1.1.0.now b.1.1.1.0.now b.1.1.1.1.0.now b.1.1.1.1.1.0.now in
       let o : After = decoding b.0.now a.1.0.now x in
@@ -54,7 +54,7 @@ module _ (κs κs' : Lfts 6) (a : ArgsD decode.signature κs) (b : ArgsD decode.
       let L : Accepts b.0.now a.1.0.now C = rw e at A in
       let d = rw e at p in
       let Z =
-      demand-3 b.0.now C a.1.0.now b.1.0.now L B i j x y M N o.reply o'.reply
+      demand_3 b.0.now C a.1.0.now b.1.0.now L B i j x y M N o.reply o'.reply
       (lending s.1.1.0.now s.1.1.1.0.now s.1.1.1.1.0.now s.1.1.1.1.1.0.now)
       (lending s'.1.1.0.now s'.1.1.1.0.now s'.1.1.1.1.0.now s'.1.1.1.1.1.0.now)
       (record { replies = refl; symbols-then = d.1.0; costs-then = d.1.1.0; store_then = d.1.1.1.0; margins-then = d.1.1.1.1 })

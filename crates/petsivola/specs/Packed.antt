@@ -1,6 +1,6 @@
 -- A reply as one number for C. SPEC 7.8.2.
 use Rattle.std.specs.Prelude.{◌≡◌, ℕ, ◌/◌, ◌%◌}
-use Rattle.trellis.specs.Reply.{Reply, foundIn, notFoundIn}
+use Rattle.trellis.specs.Reply.{Reply, found_in, not_found_in}
 use Rattle.layered.specs.declared.answers.Outcome.{Outcome}
 use Rattle.layered.specs.declared.answers.Outcome.TheVariants.{Found, NotFound}
 
@@ -11,6 +11,6 @@ pub record Packs (result : ℕ) (r : Reply) : Type 0 where
   pub number : result / 65536 ≡ r.number
   pub value : result % 65536 ≡ r.value
 
-abbrev pub outcomeReply : Outcome → Reply
-outcomeReply (Found t) = foundIn t
-outcomeReply (NotFound t) = notFoundIn t
+abbrev pub outcome_reply : Outcome → Reply
+outcome_reply (Found t) = found_in t
+outcome_reply (NotFound t) = not_found_in t

@@ -1,24 +1,24 @@
 // The public calls for C and Rust: include/petsivola.h has each with its parameters. A slice is a pointer and a length.
 ghost use Rattle.std.specs.Prelude.{◌≡◌, ◌≤◌};
-ghost use Rattle.field.specs.Answers.{elementReply, productReply, writtenReply};
-ghost use Rattle.checknode.specs.Answers.{checkReply, checkLeaves};
-ghost use Rattle.expansion.specs.Answers.{expandReply, expandLeaves};
-ghost use Rattle.display.specs.Answers.{displayReply, displayLeaves};
+ghost use Rattle.field.specs.Answers.{element_reply, product_reply, written_reply};
+ghost use Rattle.checknode.specs.Answers.{check_reply, check_leaves};
+ghost use Rattle.expansion.specs.Answers.{expand_reply, expand_leaves};
+ghost use Rattle.display.specs.Answers.{display_reply, display_leaves};
 ghost use Rattle.machine.specs.CodeLine.{parse};
-ghost use Rattle.machine.specs.Line.{lineReply, lineLeaves};
-ghost use Rattle.codeline.specs.Answers.{summaryOf, Tells};
+ghost use Rattle.machine.specs.Line.{line_reply, line_leaves};
+ghost use Rattle.codeline.specs.Answers.{summary_of, Tells};
 ghost use Rattle.machine.specs.Decoding.{lending, decoding};
-ghost use Rattle.machine.specs.Early.{decodingEarly};
+ghost use Rattle.machine.specs.Early.{decoding_early};
 ghost use Rattle.machine.specs.Encoding.{encoding};
 ghost use Rattle.machine.specs.Combining.{combining};
-ghost use Rattle.layered.specs.Answers.{answerReply};
+ghost use Rattle.layered.specs.Answers.{answer_reply};
 ghost use Rattle.trellis.specs.Lists.{pick};
-ghost use Rattle.trellis.specs.Sizes.{mostLineBytes};
+ghost use Rattle.trellis.specs.Sizes.{most_line_bytes};
 ghost use Rattle.window.specs.Window.{read, interrupt, write};
-ghost use Rattle.window.specs.Meaning.{bytes_of, windowOf};
+ghost use Rattle.window.specs.Meaning.{bytes_of, window_of};
 ghost use Rattle.channels.specs.Channels.{channels};
 ghost use Rattle.channels.specs.Answers.{Gives};
-ghost use Rattle.petsivola.specs.Packed.{Packs, outcomeReply};
+ghost use Rattle.petsivola.specs.Packed.{Packs, outcome_reply};
 
 use channels::answers::Served;
 use codeline::answers::Summary;
@@ -27,7 +27,7 @@ use layered::answers::{Answer, Outcome};
 use window::registers::Registers;
 
 fn of_element(e: Element) -> u32
-    ensures { Packs result (elementReply e) }
+    ensures { Packs result (element_reply e) }
 {
     match e {
         Element::Is(x) => x as u32,
@@ -36,8 +36,8 @@ fn of_element(e: Element) -> u32
 }
 
 fn of_written(written: Written) -> u32
-    requires { (writtenReply written).value ≤ mostLineBytes }
-    ensures { Packs result (writtenReply written) }
+    requires { (written_reply written).value ≤ most_line_bytes }
+    ensures { Packs result (written_reply written) }
 {
     match written {
         Written::Bytes(n) => n as u32,
@@ -46,7 +46,7 @@ fn of_written(written: Written) -> u32
 }
 
 fn of_outcome(o: Outcome) -> u32
-    ensures { Packs result (outcomeReply o) }
+    ensures { Packs result (outcome_reply o) }
 {
     match o {
         Outcome::Found(t) => t as u32,
@@ -55,7 +55,7 @@ fn of_outcome(o: Outcome) -> u32
 }
 
 fn of_answer(a: Answer) -> u32
-    ensures { Packs result (answerReply a) }
+    ensures { Packs result (answer_reply a) }
 {
     match a {
         Answer::Decoded(o) => of_outcome(o),
@@ -65,54 +65,54 @@ fn of_answer(a: Answer) -> u32
 
 #[unsafe(no_mangle)]
 pub extern "C" fn petsivola_product(p: u8, a: u8, b: u8) -> u32
-    ensures { Packs result (productReply p a b) }
+    ensures { Packs result (product_reply p a b) }
 {
     of_element(field::product(p, a, b))
 }
 
 #[unsafe(no_mangle)]
 pub extern "C" fn petsivola_check(first: u8, weights: &[u8], costs: &[u8], out: &mut [u8]) -> u32
-    ensures reply { Packs result (checkReply first weights.now costs.now out.old) }
-    ensures out_then { out.new ≡ checkLeaves first weights.now costs.now out.old }
+    ensures reply { Packs result (check_reply first weights.now costs.now out.old) }
+    ensures out_then { out.new ≡ check_leaves first weights.now costs.now out.old }
 {
     of_written(checknode::check(first, weights, costs, out))
 }
 
 #[unsafe(no_mangle)]
 pub extern "C" fn petsivola_sweep(first: u8, weights: &[u8], costs: &[u8], out: &mut [u8]) -> u32
-    ensures reply { Packs result (checkReply first weights.now costs.now out.old) }
-    ensures out_then { out.new ≡ checkLeaves first weights.now costs.now out.old }
+    ensures reply { Packs result (check_reply first weights.now costs.now out.old) }
+    ensures out_then { out.new ≡ check_leaves first weights.now costs.now out.old }
 {
     of_written(sweep::sweep(first, weights, costs, out))
 }
 
 #[unsafe(no_mangle)]
 pub extern "C" fn petsivola_expand(first: u8, weights: &[u8], bytes: &[u8], out: &mut [u8]) -> u32
-    ensures reply { Packs result (expandReply first weights.now bytes.now out.old) }
-    ensures out_then { out.new ≡ expandLeaves first weights.now bytes.now out.old }
+    ensures reply { Packs result (expand_reply first weights.now bytes.now out.old) }
+    ensures out_then { out.new ≡ expand_leaves first weights.now bytes.now out.old }
 {
     of_written(expansion::expand(first, weights, bytes, out))
 }
 
 #[unsafe(no_mangle)]
 pub extern "C" fn petsivola_display(first: u8, weights: &[u8], bytes: &[u8], out: &mut [u8]) -> u32
-    ensures reply { Packs result (displayReply first weights.now bytes.now out.old) }
-    ensures out_then { out.new ≡ displayLeaves first weights.now bytes.now out.old }
+    ensures reply { Packs result (display_reply first weights.now bytes.now out.old) }
+    ensures out_then { out.new ≡ display_leaves first weights.now bytes.now out.old }
 {
     of_written(display::display(first, weights, bytes, out))
 }
 
 #[unsafe(no_mangle)]
 pub extern "C" fn petsivola_line(text: &[u8], out: &mut [u8]) -> u32
-    ensures reply { Packs result (lineReply text.now out.old) }
-    ensures out_then { out.new ≡ lineLeaves text.now out.old }
+    ensures reply { Packs result (line_reply text.now out.old) }
+    ensures out_then { out.new ≡ line_leaves text.now out.old }
 {
     of_written(text::line(text, out))
 }
 
 #[unsafe(no_mangle)]
 pub extern "C" fn petsivola_code_line(code: &[u8]) -> Summary
-    ensures { Tells (summaryOf (parse code.now)) result }
+    ensures { Tells (summary_of (parse code.now)) result }
 {
     codeline::describe(code)
 }
@@ -153,19 +153,19 @@ pub extern "C" fn petsivola_decode_early(
     store: &mut [u8],
     margins: &mut [u16],
 ) -> u32
-    ensures reply { Packs result (decodingEarly code.now frame.now
+    ensures reply { Packs result (decoding_early code.now frame.now
         (lending symbols.old costs.old store.old margins.old)).reply }
     ensures symbols_then { symbols.new
-        ≡ (decodingEarly code.now frame.now
+        ≡ (decoding_early code.now frame.now
         (lending symbols.old costs.old store.old margins.old)).buffers.symbols }
     ensures costs_then { costs.new
-        ≡ (decodingEarly code.now frame.now
+        ≡ (decoding_early code.now frame.now
         (lending symbols.old costs.old store.old margins.old)).buffers.costs }
     ensures store_then { store.new
-        ≡ (decodingEarly code.now frame.now
+        ≡ (decoding_early code.now frame.now
         (lending symbols.old costs.old store.old margins.old)).buffers.store }
     ensures margins_then { margins.new
-        ≡ (decodingEarly code.now frame.now
+        ≡ (decoding_early code.now frame.now
         (lending symbols.old costs.old store.old margins.old)).buffers.margins }
 {
     of_answer(layered::decode_early(code, frame, symbols, costs, store, margins))
@@ -191,9 +191,9 @@ pub extern "C" fn petsivola_window_write(
     store: &mut [u8],
     margins: &mut [u16],
 ) -> Registers
-    ensures { windowOf result (lending symbols.new costs.new store.new margins.new)
+    ensures { window_of result (lending symbols.new costs.new store.new margins.new)
         ≡ write code.now frame.now address value
-        (windowOf window (lending symbols.old costs.old store.old margins.old)) }
+        (window_of window (lending symbols.old costs.old store.old margins.old)) }
 {
     window::write(
         window, address, value, code, frame, symbols, costs, store, margins,

@@ -10,8 +10,8 @@ power_small f =
     let b : f % 16 ≤ 15 = omega arith in
     (pow_mono {i = 0} {j = f % 16} a, pow_mono {i = f % 16} {j = 15} b)
 
-pub groups-small : (k q : ℕ) → k ≤ 3 → q ≤ 32768 → (1 + 2 * k) * (q - 1) ≤ 229369
-groups-small k q h i =
+pub groups_small : (k q : ℕ) → k ≤ 3 → q ≤ 32768 → (1 + 2 * k) * (q - 1) ≤ 229369
+groups_small k q h i =
     let a : 1 + 2 * k ≤ 7 = omega arith in
     let b : q - 1 ≤ 32767 = omega arith in
     let c : (1 + 2 * k) * (q - 1) ≤ 7 * 32767 = mul-le-mul a b in

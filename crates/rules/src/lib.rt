@@ -1,9 +1,9 @@
 // The rule that a first code byte stands for: p in its low digit, and by its high digit how many deviations a choice may have and how its
 // costs are joined. Each function is total, so that every crate above can call it with the byte as it came.
 ghost use Rattle.std.specs.Prelude.{◌≡◌, ◌-◌, ◌*◌, ◌≤◌};
-ghost use Rattle.trellis.specs.Record.{groupLength};
-ghost use Rattle.trellis.specs.Rules.{ruleFor, powerOf, size_of, most_of, greatestOf, firstOk};
-ghost use Rattle.rules.specs.Numbers.{ruleRead};
+ghost use Rattle.trellis.specs.Record.{group_length};
+ghost use Rattle.trellis.specs.Rules.{rule_for, power_of, size_of, most_of, greatest_of, first_ok};
+ghost use Rattle.rules.specs.Numbers.{rule_read};
 
 // The rule as it travels inside the code: q is 2 ^ p, at most k deviations, costs joined to their sum or to their greatest.
 #[derive(Drop)]
@@ -15,7 +15,7 @@ pub struct Rule {
 
 // Whether the high digit is 0 to 3 and the low digit 2 to 6: no refusal 6.
 pub fn accepted(first: u8) -> bool
-    ensures { result ≡ firstOk first }
+    ensures { result ≡ first_ok first }
 {
     if first / 16 > 3 {
         return false;
@@ -29,7 +29,7 @@ pub fn accepted(first: u8) -> bool
 
 // p, the low digit.
 pub fn power(first: u8) -> u8
-    ensures { result ≡ powerOf first }
+    ensures { result ≡ power_of first }
 {
     first % 16
 }
@@ -50,20 +50,20 @@ fn most(first: u8) -> u8
 
 // Whether a choice costs the greatest of its columns' costs, and not their sum: an odd high digit.
 fn greatest(first: u8) -> bool
-    ensures { result ≡ greatestOf first }
+    ensures { result ≡ greatest_of first }
 {
     first / 16 % 2 == 1
 }
 
 // The bytes of a record behind its shifts: E and k pairs for each a from 1 to q - 1.
 pub fn groups(first: u8) -> usize
-    ensures { result ≡ groupLength (ruleFor first) * (size_of first - 1) }
+    ensures { result ≡ group_length (rule_for first) * (size_of first - 1) }
 {
     (1 + 2 * (most(first) as usize)) * (size(first) - 1)
 }
 
 pub fn rule_of(first: u8) -> Rule
-    ensures { result ≡ ruleRead first }
+    ensures { result ≡ rule_read first }
 {
     Rule {
         p: power(first),

@@ -2,5 +2,5 @@
 use Rattle.std.specs.Prelude.{List, ℕ, eqb, length}
 use Rattle.trellis.specs.Lists.{pick}
 
-abbrev pub copiedTo : List ℕ → List ℕ → List ℕ
-copiedTo s d = pick (eqb (length s) (length d)) s d
+abbrev pub copied_to : List ℕ → List ℕ → List ℕ
+copied_to s d = pick (eqb (length s) (length d)) s d

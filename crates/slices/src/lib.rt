@@ -1,9 +1,9 @@
 // Copies of slices, one function for each kind of element. Each is total: nothing changes where the two have other lengths.
 ghost use Rattle.std.specs.Prelude.{◌≡◌};
-ghost use Rattle.slices.specs.Copies.{copiedTo};
+ghost use Rattle.slices.specs.Copies.{copied_to};
 
 pub fn copy_u8(bytes: &[u8], to: &mut [u8])
-    ensures { to.new ≡ copiedTo bytes.now to.old }
+    ensures { to.new ≡ copied_to bytes.now to.old }
 {
     if bytes.len() != to.len() {
         return;
@@ -16,7 +16,7 @@ pub fn copy_u8(bytes: &[u8], to: &mut [u8])
 }
 
 pub fn copy_u16(words: &[u16], to: &mut [u16])
-    ensures { to.new ≡ copiedTo words.now to.old }
+    ensures { to.new ≡ copied_to words.now to.old }
 {
     if words.len() != to.len() {
         return;

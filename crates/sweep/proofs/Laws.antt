@@ -13,48 +13,48 @@ use lib.ListN.{length, drop, take, set, get_or, length-take, length-drop}
 use lib.Seq.{ext_get_or}
 use Rattle.trellis.specs.Lists.{pick, tab, part}
 use Rattle.trellis.specs.Field.{xor, product}
-use Rattle.trellis.specs.Check.{firstZero}
-use Rattle.trellis.specs.Rules.{join_of, powerOf, size_of, most_of, greatestOf}
-use Rattle.trellis.specs.Sweep.{leastTo}
+use Rattle.trellis.specs.Check.{first_zero}
+use Rattle.trellis.specs.Rules.{join_of, power_of, size_of, most_of, greatest_of}
+use Rattle.trellis.specs.Sweep.{least_to}
 use Rattle.trellis.proofs.Xor.{xor_lt}
-use Rattle.trellis.proofs.Loops.{tab-more, tab-whole, length-tab, getD-tab}
+use Rattle.trellis.proofs.Loops.{tab-more, tab_whole, length-tab, get_d_tab}
 use Rattle.trellis.proofs.Rules.{most-few}
 use Rattle.checknode.specs.inner.Asks.{Times}
-use Rattle.sweep.specs.Kept.{cellCount}
-use Rattle.sweep.specs.inner.Cells.{Sums, Steps, deviationAt, layerAt, countCells, stepCells, moveCost, stepBy}
+use Rattle.sweep.specs.Kept.{cell_count}
+use Rattle.sweep.specs.inner.Cells.{Sums, Steps, deviation_at, layer_at, count_cells, step_cells, move_cost, step_by}
 
-pub tab-turn : (f : ℕ → ℕ) (out out₀ : List ℕ) (i : ℕ) {v : ℕ} → i < length out₀ → out ≡ tab f i ++ drop i out₀ → v ≡ f i → set out i v ≡ tab f (i + 1) ++ drop (i + 1) out₀
-tab-turn f out out₀ i l e u = rw (e, u) (tab-more f out₀ i l)
+pub tab_turn : (f : ℕ → ℕ) (out out₀ : List ℕ) (i : ℕ) {v : ℕ} → i < length out₀ → out ≡ tab f i ++ drop i out₀ → v ≡ f i → set out i v ≡ tab f (i + 1) ++ drop (i + 1) out₀
+tab_turn f out out₀ i l e u = rw (e, u) (tab-more f out₀ i l)
 
 pub tab-end : (f : ℕ → ℕ) (out out₀ : List ℕ) (i : ℕ) {n : ℕ} → out ≡ tab f i ++ drop i out₀ → i ≡ length out₀ → length out₀ ≡ n → out ≡ tab f n
-tab-end f out out₀ i e u v = e ∙ rw u (tab-whole f out₀) ∙ ap (tab f) v
+tab-end f out out₀ i e u v = e ∙ rw u (tab_whole f out₀) ∙ ap (tab f) v
 
-pub least-turn : (f : ℕ → ℕ) (x : ℕ) {e r v : ℕ} → e ≡ leastTo f x → v ≡ f x → r ≡ min e v → r ≡ leastTo f (x + 1)
-least-turn f x a b o = o ∙ rw (a, b, add-one x)
+pub least_turn : (f : ℕ → ℕ) (x : ℕ) {e r v : ℕ} → e ≡ least_to f x → v ≡ f x → r ≡ min e v → r ≡ least_to f (x + 1)
+least_turn f x a b o = o ∙ rw (a, b, add-one x)
 
 -- one sum of a count: what is written is at most the mark, so 16 bits hold it
-pub layer-value : (g : Bool) (row moves low same : List ℕ) (s t : ℕ) {p a b m r : ℕ} → p ≡ xor t s → a ≡ get_or same p 0 → b ≡ deviationAt g row moves low t → b ≤ 1024 → m ≡ min a b → r ≡ m % 65536 → r ≡ layerAt g row moves low same s t
-unfolding layerAt
-layer-value g row moves low same s t {p} {a} {b} {m} ep ea eb small em er =
+pub layer_value : (g : Bool) (row moves low same : List ℕ) (s t : ℕ) {p a b m r : ℕ} → p ≡ xor t s → a ≡ get_or same p 0 → b ≡ deviation_at g row moves low t → b ≤ 1024 → m ≡ min a b → r ≡ m % 65536 → r ≡ layer_at g row moves low same s t
+unfolding layer_at
+layer_value g row moves low same s t {p} {a} {b} {m} ep ea eb small em er =
     let k : m % 65536 ≡ m = omega (arith, small, em) in er ∙ k ∙ em ∙ ap₂ min (ea ∙ ap (λ y. get_or same y 0) ep) eb
 
 -- a number that a byte holds
 pub byte-value : {x y r : ℕ} → x ≡ y → y < 256 → r ≡ x % 256 → r ≡ y
 byte-value {x} {y} {r} e h o = omega (arith, e, h, o)
 
-pub join-greatest : {g : Bool} (a b : ℕ) {r : ℕ} → g ≡ true → r ≡ max a b → r ≡ join_of g a b
-join-greatest a b e o = rw e o
+pub join_greatest : {g : Bool} (a b : ℕ) {r : ℕ} → g ≡ true → r ≡ max a b → r ≡ join_of g a b
+join_greatest a b e o = rw e o
 
 pub join-sum : {g : Bool} (a b : ℕ) {r : ℕ} → g ≡ false → r ≡ a + b → r ≡ join_of g a b
 join-sum a b e o = rw e o
 
-pub tab-list : (l : List ℕ) → tab (λ i. get_or l i 0) (length l) ≡ l
-tab-list l =
+pub tab_list : (l : List ℕ) → tab (λ i. get_or l i 0) (length l) ≡ l
+tab_list l =
     let e : length (tab (λ i. get_or l i 0) (length l)) ≡ length l = length-tab _ (length l) in
-    ext_get_or 0 _ l e (λ i h. getD-tab (λ i. get_or l i 0) (length l) i (omega arith))
+    ext_get_or 0 _ l e (λ i h. get_d_tab (λ i. get_or l i 0) (length l) i (omega arith))
 
-pub sums-of : (p : ℕ) → Sums (2 ^ p)
-sums-of p = record { sum = xor_lt p }
+pub sums_of : (p : ℕ) → Sums (2 ^ p)
+sums_of p = record { sum = xor_lt p }
 
 pub sums_same : {m n : ℕ} → m ≡ n → Sums m → Sums n
 sums_same e s = subst (λ n. Sums n) e s
@@ -63,38 +63,38 @@ sums_same e s = subst (λ n. Sums n) e s
 pub past_first : (j q : ℕ) → j ≢ 0 → q ≤ j * q
 past_first j q h = let k : 1 ≤ j = omega arith in omega (arith, mul-le-mul_right q k)
 
-pub cut-is : (l : List ℕ) (a q : ℕ) → take (a + q - a) (drop a l) ≡ part l a q
-cut-is l a q = rw (add-sub_cancel_left a q)
+pub cut_is : (l : List ℕ) (a q : ℕ) → take (a + q - a) (drop a l) ≡ part l a q
+cut_is l a q = rw (add-sub_cancel_left a q)
 
 pub part_length : (l : List ℕ) (a q : ℕ) → a + q ≤ length l → length (take (a + q - a) (drop a l)) ≡ q
 part_length l a q h = simp (length-take, length-drop) (omega arith)
 
-below-is : (l : List ℕ) (b q : ℕ) → q ≤ b → take (b - (b - q)) (drop (b - q) l) ≡ part l (b - q) q
-below-is l b q h = let e : b - (b - q) ≡ q = omega arith in rw e
+below_is : (l : List ℕ) (b q : ℕ) → q ≤ b → take (b - (b - q)) (drop (b - q) l) ≡ part l (b - q) q
+below_is l b q h = let e : b - (b - q) ≡ q = omega arith in rw e
 
 pub below_length : (l : List ℕ) (b q : ℕ) → q ≤ b → b ≤ length l → length (take (b - (b - q)) (drop (b - q) l)) ≡ q
 below_length l b q h k = simp (length-take, length-drop) (omega arith)
 
 module _ (g : Bool) (q : ℕ) (row moves cells : List ℕ) (s : ℕ) where
-  pub count-length : (j : ℕ) → length (countCells g q row moves cells s j) ≡ q
-  unfolding countCells
+  pub count-length : (j : ℕ) → length (count_cells g q row moves cells s j) ≡ q
+  unfolding count_cells
   count-length j = go (eqb j 0)
     where
-      go : (b : Bool) → length (pick b (tab (λ t. get_or (take q cells) (xor t s) 0) q) (tab (layerAt g row moves (part cells (j * q - q) q) (part cells (j * q) q) s) q)) ≡ q
+      go : (b : Bool) → length (pick b (tab (λ t. get_or (take q cells) (xor t s) 0) q) (tab (layer_at g row moves (part cells (j * q - q) q) (part cells (j * q) q) s) q)) ≡ q
       go true = length-tab _ q
       go false = length-tab _ q
 
-  pub count-first : (j n : ℕ) {out : List ℕ} → j ≡ 0 → n ≡ q → out ≡ tab (λ t. get_or (take q cells) (xor t s) 0) n → out ≡ countCells g q row moves cells s j
-  unfolding countCells
+  pub count-first : (j n : ℕ) {out : List ℕ} → j ≡ 0 → n ≡ q → out ≡ tab (λ t. get_or (take q cells) (xor t s) 0) n → out ≡ count_cells g q row moves cells s j
+  unfolding count_cells
   count-first j n e u o = rw (eq-eqb _ _ e) (o ∙ ap (tab (λ t. get_or (take q cells) (xor t s) 0)) u)
 
   pub count-later : (j n : ℕ) {out : List ℕ} → j ≢ 0 → n ≡ q
-      → out ≡ tab (layerAt g row moves (take (j * q - (j * q - q)) (drop (j * q - q) cells)) (take (j * q + q - j * q) (drop (j * q) cells)) s) n → out ≡ countCells g q row moves cells s j
-  unfolding countCells
+      → out ≡ tab (layer_at g row moves (take (j * q - (j * q - q)) (drop (j * q - q) cells)) (take (j * q + q - j * q) (drop (j * q) cells)) s) n → out ≡ count_cells g q row moves cells s j
+  unfolding count_cells
   count-later j n e u o =
       rw (ne_eqb _ _ e)
-      (o ∙ ap₂ (λ x y. tab (layerAt g row moves x y s) n) (below-is cells (j * q) q (past_first j q e)) (cut-is cells (j * q) q)
-      ∙ ap (tab (layerAt g row moves (part cells (j * q - q) q) (part cells (j * q) q) s)) u)
+      (o ∙ ap₂ (λ x y. tab (layer_at g row moves x y s) n) (below_is cells (j * q) q (past_first j q e)) (cut_is cells (j * q) q)
+      ∙ ap (tab (layer_at g row moves (part cells (j * q - q) q) (part cells (j * q) q) s)) u)
 
 -- a column's products and costs are made
 steps_of : (p h : ℕ) → Times p h → (f : ℕ → ℕ) {row moves : List ℕ} → row ≡ tab (product p h) (2 ^ p) → moves ≡ tab f (2 ^ p) → Steps row moves
@@ -103,32 +103,32 @@ steps_of p h T f {row} {moves} e u =
     let m : length moves ≡ 2 ^ p = ap length u ∙ length-tab _ (2 ^ p) in
     record {
       costed = omega (arith, r, m);
-      below = λ x l. let k : x < 2 ^ p = omega arith in rw (r, e, getD-tab (product p h) (2 ^ p) x k) (T.closed x k);
-      sums = sums_same (sym r) (sums-of p);
+      below = λ x l. let k : x < 2 ^ p = omega arith in rw (r, e, get_d_tab (product p h) (2 ^ p) x k) (T.closed x k);
+      sums = sums_same (sym r) (sums_of p);
     }
 
 -- one column more, with the rule as its numbers
-module _ (f h : ℕ) (costs : List ℕ) (T : Times (powerOf f) h) {p s i q k : ℕ} {g : Bool} {row moves : List ℕ} (ep : p ≡ powerOf f) (es : s ≡ product p h (firstZero costs))
-    (er : row ≡ tab (product p h) (2 ^ p)) (em : moves ≡ tab (moveCost costs (firstZero costs)) (2 ^ p)) (ei : i ≡ s) (eq : q ≡ size_of f) (ek : k ≡ most_of f) (eg : g ≡ greatestOf f) where
-  rows : row ≡ tab (product (powerOf f) h) (size_of f)
+module _ (f h : ℕ) (costs : List ℕ) (T : Times (power_of f) h) {p s i q k : ℕ} {g : Bool} {row moves : List ℕ} (ep : p ≡ power_of f) (es : s ≡ product p h (first_zero costs))
+    (er : row ≡ tab (product p h) (2 ^ p)) (em : moves ≡ tab (move_cost costs (first_zero costs)) (2 ^ p)) (ei : i ≡ s) (eq : q ≡ size_of f) (ek : k ≡ most_of f) (eg : g ≡ greatest_of f) where
+  rows : row ≡ tab (product (power_of f) h) (size_of f)
   rows = er ∙ ap (λ p. tab (product p h) (2 ^ p)) ep
 
-  costed : moves ≡ tab (moveCost costs (firstZero costs)) (size_of f)
-  costed = em ∙ ap (λ p. tab (moveCost costs (firstZero costs)) (2 ^ p)) ep
+  costed : moves ≡ tab (move_cost costs (first_zero costs)) (size_of f)
+  costed = em ∙ ap (λ p. tab (move_cost costs (first_zero costs)) (2 ^ p)) ep
 
-  at-decision : i ≡ product (powerOf f) h (firstZero costs)
-  at-decision = ei ∙ es ∙ ap (λ p. product p h (firstZero costs)) ep
+  at-decision : i ≡ product (power_of f) h (first_zero costs)
+  at-decision = ei ∙ es ∙ ap (λ p. product p h (first_zero costs)) ep
 
-  pub step-asks : (cells out : List ℕ) → firstZero costs < size_of f → length cells ≡ cellCount f → length out ≡ cellCount f
+  pub step_asks : (cells out : List ℕ) → first_zero costs < size_of f → length cells ≡ cell_count f → length out ≡ cell_count f
       → Steps row moves × (((length row ≡ q) × ((i < q) × (k ≤ 3))) × ((length cells ≡ (k + 1) * q) × (length out ≡ (k + 1) * q)))
-  step-asks cells out z c o =
-      let w : cellCount f ≡ (k + 1) * q = ap₂ (λ k q. (k + 1) * q) (sym ek) (sym eq) in (
-        steps_of (powerOf f) h T (moveCost costs (firstZero costs)) rows costed,
-        ((ap length rows ∙ length-tab _ (size_of f) ∙ sym eq, (rw (at-decision, eq) (T.closed (firstZero costs) z), omega (arith, ek, most-few f))), (c ∙ w, o ∙ w)),
+  step_asks cells out z c o =
+      let w : cell_count f ≡ (k + 1) * q = ap₂ (λ k q. (k + 1) * q) (sym ek) (sym eq) in (
+        steps_of (power_of f) h T (move_cost costs (first_zero costs)) rows costed,
+        ((ap length rows ∙ length-tab _ (size_of f) ∙ sym eq, (rw (at-decision, eq) (T.closed (first_zero costs) z), omega (arith, ek, most-few f))), (c ∙ w, o ∙ w)),
       )
 
-  pub step-done : (cells : List ℕ) {out : List ℕ} → out ≡ stepCells g q k row moves cells i → out ≡ stepBy (powerOf f) (greatestOf f) (most_of f) h costs cells
-  unfolding stepBy
+  pub step-done : (cells : List ℕ) {out : List ℕ} → out ≡ step_cells g q k row moves cells i → out ≡ step_by (power_of f) (greatest_of f) (most_of f) h costs cells
+  unfolding step_by
   step-done cells n = n ∙ rw (eg, eq, ek, rows, costed, at-decision)
 
 pub drop-none : (w : ℕ) (l : List ℕ) → l ≡ drop (0 * w) l

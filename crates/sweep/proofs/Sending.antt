@@ -9,32 +9,32 @@ use lib.ListN.{length, get_or, take, drop, length-take, length-drop, drop_of_len
 use lib.Seq.{take_at, drop_at, drop-drop}
 use Rattle.trellis.specs.Lists.{tab, blocks, part}
 use Rattle.trellis.specs.Field.{xor}
-use Rattle.trellis.specs.Check.{Rule, Column, column, costAt, shift, sentAt}
-use Rattle.trellis.specs.Record.{group, recordOf}
-use Rattle.trellis.specs.Rules.{ruleFor, powerOf, size_of, most_of, greatestOf, columnsOf}
+use Rattle.trellis.specs.Check.{Rule, Column, column, cost_at, shift, sent_at}
+use Rattle.trellis.specs.Record.{group, record_of}
+use Rattle.trellis.specs.Rules.{rule_for, power_of, size_of, most_of, greatest_of, columns_of}
 use Rattle.trellis.specs.Ready.{Ready}
-use Rattle.trellis.specs.Sweep.{Keeps, swept, sweptSent}
+use Rattle.trellis.specs.Sweep.{Keeps, swept, swept_sent}
 use Rattle.trellis.proofs.Xor.{xor_lt}
-use Rattle.trellis.proofs.Loops.{length-tab, getD-tab, tab-ext, blocks-ext, length-even}
+use Rattle.trellis.proofs.Loops.{length-tab, get_d_tab, tab_ext, blocks_ext, length-even}
 use Rattle.trellis.proofs.Rules.{most-few}
 use Rattle.trellis.proofs.Sent.{Proper}
 use Rattle.trellis.proofs.Records.{shift_small}
-use Rattle.trellis.proofs.Ready.{length-columns, ready-proper}
+use Rattle.trellis.proofs.Ready.{length-columns, ready_proper}
 use Rattle.trellis.proofs.Sweep.{swept-sent, before-keeps, after-keeps}
-use Rattle.checknode.specs.inner.Asks.{shiftsOf}
+use Rattle.checknode.specs.inner.Asks.{shifts_of}
 use Rattle.field.proofs.Blocks.{block_at, in_block, part_room}
 use Rattle.checknode.proofs.Resting.{column-bytes, shift-at, shifts-length, parts}
-use Rattle.sweep.specs.Kept.{cellCount, cell_at, KeptCells}
-use Rattle.sweep.specs.inner.Cells.{turnsOf, cellsAfter, table_of, Swept}
-use Rattle.sweep.specs.inner.Joins.{joinAt, cellsBefore, cellsBehind, columnSent, JoinRoom}
-use Rattle.sweep.specs.inner.Groups.{lowestTo, sentOf, groupBy, PairsRoom}
-use Rattle.sweep.proofs.Laws.{sums-of}
+use Rattle.sweep.specs.Kept.{cell_count, cell_at, KeptCells}
+use Rattle.sweep.specs.inner.Cells.{turns_of, cells_after, table_of, Swept}
+use Rattle.sweep.specs.inner.Joins.{join_at, cells_before, cells_behind, column_sent, JoinRoom}
+use Rattle.sweep.specs.inner.Groups.{lowest_to, sent_of, group_by, PairsRoom}
+use Rattle.sweep.proofs.Laws.{sums_of}
 use Rattle.sweep.proofs.Swept.{join-within, join_is, sent-byte, size-limit, after-length}
-use Rattle.sweep.proofs.Pairing.{lowest-ext, count-ext, group-ext, few-above, group-is}
+use Rattle.sweep.proofs.Pairing.{lowest_ext, count_ext, group_ext, few-above, group_is}
 
 -- two parts of a buffer written one after the other
-pub two-parts : (S G out : List ℕ) (d n : ℕ) {s r : List ℕ} → s ≡ S → r ≡ G → length S ≡ d → n ≡ length out → d ≤ n → take d (s ++ drop d out) ++ (r ++ drop (n - d) (drop d (s ++ drop d out))) ≡ S ++ G
-two-parts S G out d n a b l m h =
+pub two_parts : (S G out : List ℕ) (d n : ℕ) {s r : List ℕ} → s ≡ S → r ≡ G → length S ≡ d → n ≡ length out → d ≤ n → take d (s ++ drop d out) ++ (r ++ drop (n - d) (drop d (s ++ drop d out))) ≡ S ++ G
+two_parts S G out d n a b l m h =
     let t : take d (S ++ drop d out) ≡ S = take_at S (drop d out) d l in
     let u : drop d (S ++ drop d out) ≡ drop d out = drop_at S (drop d out) d l in
     let z : drop (n - d) (drop d out) ≡ [] = drop-drop (n - d) d out ∙ drop_of_length-le out {i = d + (n - d)} (omega arith) in
@@ -45,36 +45,36 @@ rest-length S out d n m a l e h = ap (λ y. length (take (n - d) (drop d (y ++ d
 
 module _ (f : ℕ) (ws cs : List ℕ) (D : Ready f ws cs) where
   abbrev R : Rule
-  R = ruleFor f
+  R = rule_for f
 
   abbrev q : ℕ
   q = size_of f
 
   abbrev w : ℕ
-  w = cellCount f
+  w = cell_count f
 
   abbrev C : List Column
-  C = columnsOf (size_of f) ws cs
+  C = columns_of (size_of f) ws cs
 
   abbrev P : Proper R C
-  P = ready-proper f ws cs D
+  P = ready_proper f ws cs D
 
   d-is : length C ≡ length ws
   d-is = length-columns (size_of f) ws cs
 
-  table-length : (back : Bool) {T : List ℕ} → T ≡ table_of f back ws cs → length T ≡ length ws * cellCount f
-  table-length back e = ap length e ∙ length-even (cellsAfter R back C) w (after-length f ws cs D back) (length ws)
+  table-length : (back : Bool) {T : List ℕ} → T ≡ table_of f back ws cs → length T ≡ length ws * cell_count f
+  table-length back e = ap length e ∙ length-even (cells_after R back C) w (after-length f ws cs D back) (length ws)
 
   -- one cell of a sweep's table
   cell-is : (back : Bool) (T : List ℕ) → T ≡ table_of f back ws cs → (i j t : ℕ) → i < length ws → j ≤ most_of f → t < q
-      → cell_at f T i j t ≡ swept R (turnsOf back C i) j t
-  unfolding cellsAfter
+      → cell_at f T i j t ≡ swept R (turns_of back C i) j t
+  unfolding cells_after
   cell-is back T e i j t h u v =
-      let s : ℕ → ℕ → ℕ = swept R (turnsOf back C i) in
+      let s : ℕ → ℕ → ℕ = swept R (turns_of back C i) in
       let l : j < suc (most_of f) = omega arith in
       let x : j * q + t < w = omega (arith, row-end j t l v) in
-      ap (λ y. cell_at f y i j t) e ∙ in_block w (cellsAfter R back C) (after-length f ws cs D back) (length ws) i (j * q + t) h x
-      ∙ in_block q (λ j. tab (s j) q) (λ j. length-tab (s j) q) (suc (most_of f)) j t l v ∙ getD-tab (s j) q t v
+      ap (λ y. cell_at f y i j t) e ∙ in_block w (cells_after R back C) (after-length f ws cs D back) (length ws) i (j * q + t) h x
+      ∙ in_block q (λ j. tab (s j) q) (λ j. length-tab (s j) q) (suc (most_of f)) j t l v ∙ get_d_tab (s j) q t v
     where
       row-end : (j t : ℕ) → j < suc (most_of f) → t < q → j * q + t < (most_of f + 1) * q
       row-end j t l v =
@@ -83,7 +83,7 @@ module _ (f : ℕ) (ws cs : List ℕ) (D : Ready f ws cs) where
           omega arith
 
   module _ (bytes : (i : ℕ) → get_or cs i 0 < 256) where
-    cost-byte : (n : ℕ) → n < length C → (y : ℕ) → costAt (column C n) y ≤ 255
+    cost-byte : (n : ℕ) → n < length C → (y : ℕ) → cost_at (column C n) y ≤ 255
     cost-byte n l y = column-bytes f ws cs D bytes n y l
 
     -- "Each kept cost is proved to be that least, with a mark where no choice exists"
@@ -91,15 +91,15 @@ module _ (f : ℕ) (ws cs : List ℕ) (D : Ready f ws cs) where
     kept_tables {before} {after} T =
         record {
           over-before = λ n j t h u v.
-              subst (Keeps R (take n C) j t) (sym (cell-is false before T.of-before n j t h u v)) (before-keeps R C P (join-within (greatestOf f)) cost-byte n j t (omega (arith, most-few f)));
+              subst (Keeps R (take n C) j t) (sym (cell-is false before T.of_before n j t h u v)) (before-keeps R C P (join-within (greatest_of f)) cost-byte n j t (omega (arith, most-few f)));
           over-after = λ n j t h u v.
               let m : length C - (length ws - suc n) ≡ suc n = omega (arith, d-is) in
               let c : cell_at f after (length ws - suc n) j t ≡ swept R (drop (suc n) C) j t =
-              cell-is true after T.of-after (length ws - suc n) j t (omega arith) u v ∙ ap (λ y. swept R (drop y C) j t) m in
-              subst (Keeps R (drop (suc n) C) j t) (sym c) (after-keeps R C P (join-within (greatestOf f)) cost-byte (suc n) j t (omega (arith, most-few f)));
+              cell-is true after T.of_after (length ws - suc n) j t (omega arith) u v ∙ ap (λ y. swept R (drop y C) j t) m in
+              subst (Keeps R (drop (suc n) C) j t) (sym c) (after-keeps R C P (join-within (greatest_of f)) cost-byte (suc n) j t (omega (arith, most-few f)));
         }
 
-    S-byte : (a : ℕ) → a < q → (n : ℕ) → n < length C → sentAt R C n a ≤ 255
+    S-byte : (a : ℕ) → a < q → (n : ℕ) → n < length C → sent_at R C n a ≤ 255
     S-byte a h n l = sent-byte R C P 255 cost-byte n a l h
 
     shift-below : (n : ℕ) → n < length ws → shift R C n < q
@@ -107,74 +107,74 @@ module _ (f : ℕ) (ws cs : List ℕ) (D : Ready f ws cs) where
 
     -- the two sweeps joined for column n
     sent-joined : (n a : ℕ) → n < length ws → a < q
-        → joinAt (greatestOf f) q (most_of f) (cellsAfter R false C n) (cellsAfter R true C (length ws - suc n)) (xor a (shift R C n)) ≡ sentAt R C n a
-    unfolding cellsAfter sweptSent
+        → join_at (greatest_of f) q (most_of f) (cells_after R false C n) (cells_after R true C (length ws - suc n)) (xor a (shift R C n)) ≡ sent_at R C n a
+    unfolding cells_after swept_sent
     sent-joined n a h l =
         let e : length C - (length ws - suc n) ≡ suc n = omega (arith, d-is) in
         let j : n < length C = omega (arith, d-is) in
         rw e
-        (join_is (powerOf f) (greatestOf f) (most_of f) (swept R (take n C)) (swept R (drop (suc n) C)) (xor a (shift R C n)) (xor_lt (powerOf f) a _ l (shift-below n h))
+        (join_is (power_of f) (greatest_of f) (most_of f) (swept R (take n C)) (swept R (drop (suc n) C)) (xor a (shift R C n)) (xor_lt (power_of f) a _ l (shift-below n h))
         ∙ swept-sent R C P n a j l (omega (arith, S-byte a l n j)))
 
     module _ (before after : List ℕ) (T : Swept f ws cs before after) where
       abbrev shifts : List ℕ
-      shifts = shiftsOf (powerOf f) ws cs
+      shifts = shifts_of (power_of f) ws cs
 
       joined_at : (n : ℕ) → n < length ws → (a : ℕ) → a < q
-          → joinAt (greatestOf f) q (most_of f) (cellsBefore w before n) (cellsBehind w after (length shifts) n) (xor a (get_or shifts n 0)) ≡ sentAt R C n a
+          → join_at (greatest_of f) q (most_of f) (cells_before w before n) (cells_behind w after (length shifts) n) (xor a (get_or shifts n 0)) ≡ sent_at R C n a
       joined_at n h a l =
-          let full : (back : Bool) (j : ℕ) → length (cellsAfter R back C j) ≡ w = after-length f ws cs D in
+          let full : (back : Bool) (j : ℕ) → length (cells_after R back C j) ≡ w = after-length f ws cs D in
           let m : length shifts - 1 - n ≡ length ws - suc n = omega (arith, shifts-length f ws cs D) in
-          let b : cellsBefore w before n ≡ cellsAfter R false C n = ap (λ y. part y (n * w) w) T.of-before ∙ block_at w (cellsAfter R false C) (full false) (length ws) n h in
-          let c : cellsBehind w after (length shifts) n ≡ cellsAfter R true C (length ws - suc n) =
-          ap₂ (λ y x. part y (x * w) w) T.of-after m ∙ block_at w (cellsAfter R true C) (full true) (length ws) (length ws - suc n) (omega arith) in
-          ap₂ (λ x y. joinAt (greatestOf f) q (most_of f) x y (xor a (get_or shifts n 0))) b c
-          ∙ ap (λ y. joinAt (greatestOf f) q (most_of f) (cellsAfter R false C n) (cellsAfter R true C (length ws - suc n)) (xor a y)) (shift-at f ws cs D n h)
+          let b : cells_before w before n ≡ cells_after R false C n = ap (λ y. part y (n * w) w) T.of_before ∙ block_at w (cells_after R false C) (full false) (length ws) n h in
+          let c : cells_behind w after (length shifts) n ≡ cells_after R true C (length ws - suc n) =
+          ap₂ (λ y x. part y (x * w) w) T.of_after m ∙ block_at w (cells_after R true C) (full true) (length ws) (length ws - suc n) (omega arith) in
+          ap₂ (λ x y. join_at (greatest_of f) q (most_of f) x y (xor a (get_or shifts n 0))) b c
+          ∙ ap (λ y. join_at (greatest_of f) q (most_of f) (cells_after R false C n) (cells_after R true C (length ws - suc n)) (xor a y)) (shift-at f ws cs D n h)
           ∙ sent-joined n a h l
 
-      module _ {g : Bool} {q' k : ℕ} {s : List ℕ} (eg : g ≡ greatestOf f) (eq : q' ≡ size_of f) (ek : k ≡ most_of f) (es : s ≡ shiftsOf (powerOf f) ws cs) where
-        pub rows-joinable : (out : List ℕ) → length out ≡ length ws * size_of f → JoinRoom g q' k before after s out
-        rows-joinable out o =
+      module _ {g : Bool} {q' k : ℕ} {s : List ℕ} (eg : g ≡ greatest_of f) (eq : q' ≡ size_of f) (ek : k ≡ most_of f) (es : s ≡ shifts_of (power_of f) ws cs) where
+        pub rows_joinable : (out : List ℕ) → length out ≡ length ws * size_of f → JoinRoom g q' k before after s out
+        rows_joinable out o =
             let d : length shifts ≡ length ws = shifts-length f ws cs D in
             rw (eg, eq, ek, es)
             record {
-              sums = sums-of (powerOf f);
+              sums = sums_of (power_of f);
               limit = size-limit f ws cs D;
               counts = most-few f;
               few = omega (arith, d, D.few);
-              of-before = table-length false T.of-before ∙ ap (λ y. y * w) (sym d);
-              of-after = table-length true T.of-after ∙ ap (λ y. y * w) (sym d);
-              of-out = o ∙ ap (λ y. y * q) (sym d);
+              of_before = table-length false T.of_before ∙ ap (λ y. y * w) (sym d);
+              of_after = table-length true T.of_after ∙ ap (λ y. y * w) (sym d);
+              of_out = o ∙ ap (λ y. y * q) (sym d);
               below = λ n h. let u : n < length ws = omega (arith, d) in rw (shift-at f ws cs D n u) (shift-below n u);
               bytes = λ n h. let u : n < length ws = omega (arith, d) in record { small = λ a l. omega (arith, joined_at n u a l, S-byte a l n (omega (arith, d-is))) };
             }
 
-        pub rows_are : {r : List ℕ} → r ≡ blocks (columnSent g q' k before after s) (length s) → r ≡ blocks (λ n. tab (sentAt R C n) q) (length ws)
+        pub rows_are : {r : List ℕ} → r ≡ blocks (column_sent g q' k before after s) (length s) → r ≡ blocks (λ n. tab (sent_at R C n) q) (length ws)
         rows_are o =
             o ∙ rw (eg, eq, ek, es, shifts-length f ws cs D)
-            (blocks-ext (columnSent (greatestOf f) q (most_of f) before after shifts) (λ n. tab (sentAt R C n) q) (length ws) (λ n h. tab-ext _ _ q (λ a l. joined_at n h a l)))
+            (blocks_ext (column_sent (greatest_of f) q (most_of f) before after shifts) (λ n. tab (sent_at R C n) q) (length ws) (λ n h. tab_ext _ _ q (λ a l. joined_at n h a l)))
 
     -- the record, from the sent costs
-    module _ {q' k : ℕ} (eq : q' ≡ size_of f) (ek : k ≡ most_of f) (sent : List ℕ) (sent_is : sent ≡ blocks (λ n. tab (sentAt R C n) q) (length ws)) where
-      at-sent : (n a : ℕ) → n < length ws → a < q → sentOf sent q a n ≡ sentAt R C n a
-      at-sent n a h l = ap (λ y. get_or y (n * q + a) 0) sent_is ∙ in_block q (λ n. tab (sentAt R C n) q) (λ n. length-tab _ q) (length ws) n a h l ∙ getD-tab (sentAt R C n) q a l
+    module _ {q' k : ℕ} (eq : q' ≡ size_of f) (ek : k ≡ most_of f) (sent : List ℕ) (sent_is : sent ≡ blocks (λ n. tab (sent_at R C n) q) (length ws)) where
+      at-sent : (n a : ℕ) → n < length ws → a < q → sent_of sent q a n ≡ sent_at R C n a
+      at-sent n a h l = ap (λ y. get_or y (n * q + a) 0) sent_is ∙ in_block q (λ n. tab (sent_at R C n) q) (λ n. length-tab _ q) (length ws) n a h l ∙ get_d_tab (sent_at R C n) q a l
 
       pub sent-fits : PairsRoom k (length ws) q' sent
       sent-fits =
           rw (eq, ek)
           record {
             few = λ a z l.
-                let same : (j : ℕ) → j < length ws → sentOf sent q a j ≡ sentAt R C j a = λ j h. at-sent j a h l in
-                let e : lowestTo (sentOf sent q a) (length ws) ≡ lowestTo (λ n. sentAt R C n a) (length ws) = lowest-ext _ _ (length ws) same in
+                let same : (j : ℕ) → j < length ws → sent_of sent q a j ≡ sent_at R C j a = λ j h. at-sent j a h l in
+                let e : lowest_to (sent_of sent q a) (length ws) ≡ lowest_to (λ n. sent_at R C n a) (length ws) = lowest_ext _ _ (length ws) same in
                 let u = few-above R C P a l (S-byte a l) in
-                rw (e, count-ext (lowestTo (λ n. sentAt R C n a) (length ws)) (sentOf sent q a) (λ n. sentAt R C n a) (length ws) same) (rw d-is at u);
+                rw (e, count_ext (lowest_to (λ n. sent_at R C n a) (length ws)) (sent_of sent q a) (λ n. sent_at R C n a) (length ws) same) (rw d-is at u);
           }
 
-      pub record_is : shiftsOf (powerOf f) ws cs ++ blocks (λ i. groupBy k (length ws) (sentOf sent q' (i + 1))) (q' - 1) ≡ recordOf R C
+      pub record_is : shifts_of (power_of f) ws cs ++ blocks (λ i. group_by k (length ws) (sent_of sent q' (i + 1))) (q' - 1) ≡ record_of R C
       record_is =
-          let one : (i : ℕ) → i < q - 1 → groupBy (most_of f) (length ws) (sentOf sent q (i + 1)) ≡ group R C (suc i) =
+          let one : (i : ℕ) → i < q - 1 → group_by (most_of f) (length ws) (sent_of sent q (i + 1)) ≡ group R C (suc i) =
           λ i l.
           let v : i + 1 < q = omega arith in
-          group-ext (most_of f) (length ws) (sentOf sent q (i + 1)) (λ n. sentAt R C n (i + 1)) (λ j h. at-sent j (i + 1) h v)
-          ∙ ap (λ y. groupBy (most_of f) y (λ n. sentAt R C n (i + 1))) (sym d-is) ∙ sym (group-is R C P (i + 1) v (S-byte (i + 1) v)) ∙ ap (group R C) (add-one i) in
-          rw (eq, ek, parts f ws cs D) (ap (λ y. shiftsOf (powerOf f) ws cs ++ y) (blocks-ext _ _ (q - 1) one))
+          group_ext (most_of f) (length ws) (sent_of sent q (i + 1)) (λ n. sent_at R C n (i + 1)) (λ j h. at-sent j (i + 1) h v)
+          ∙ ap (λ y. group_by (most_of f) y (λ n. sent_at R C n (i + 1))) (sym d-is) ∙ sym (group_is R C P (i + 1) v (S-byte (i + 1) v)) ∙ ap (group R C) (add-one i) in
+          rw (eq, ek, parts f ws cs D) (ap (λ y. shifts_of (power_of f) ws cs ++ y) (blocks_ext _ _ (q - 1) one))

@@ -2,11 +2,11 @@
 ghost use Rattle.std.specs.Prelude.{◌≡◌, ◌≤◌};
 ghost use Rattle.trellis.specs.Field.{xor};
 ghost use Rattle.trellis.specs.Rules.{join_of};
-ghost use Rattle.sweep.specs.Kept.{cellCount};
+ghost use Rattle.sweep.specs.Kept.{cell_count};
 
 // The cells kept over some columns: k + 1 counts of q sums.
 pub fn cell_count(first: u8) -> usize
-    ensures { (result ≡ cellCount first) × (result ≤ 8388608) }
+    ensures { (result ≡ cell_count first) × (result ≤ 8388608) }
 {
     let rule = rules::rule_of(first);
     (scalar::u8_to_usize(rule.k) + 1) * rules::size(first)

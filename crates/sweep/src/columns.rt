@@ -2,13 +2,13 @@
 ghost use Rattle.std.specs.Prelude.{◌≡◌, ◌*◌, ◌^◌, ◌≤◌, ◌<◌, length};
 ghost use Rattle.trellis.specs.Lists.{tab};
 ghost use Rattle.trellis.specs.Field.{product};
-ghost use Rattle.trellis.specs.Check.{firstZero};
-ghost use Rattle.trellis.specs.Rules.{powerOf, size_of};
+ghost use Rattle.trellis.specs.Check.{first_zero};
+ghost use Rattle.trellis.specs.Rules.{power_of, size_of};
 ghost use Rattle.trellis.specs.Ready.{Ready};
-ghost use Rattle.trellis.specs.Sizes.{mostSize};
+ghost use Rattle.trellis.specs.Sizes.{most_size};
 ghost use Rattle.checknode.specs.inner.Asks.{Times};
-ghost use Rattle.sweep.specs.Kept.{cellCount};
-ghost use Rattle.sweep.specs.inner.Cells.{moveCost, Sized, stepFor, stepColumn, order_of, table_of};
+ghost use Rattle.sweep.specs.Kept.{cell_count};
+ghost use Rattle.sweep.specs.inner.Cells.{move_cost, Sized, step_for, step_column, order_of, table_of};
 
 use crate::{cells, step};
 use field::Element;
@@ -28,7 +28,7 @@ pub fn times(p: u8, a: u8, b: u8) -> u8
 // The products of one weight with every symbol.
 fn products(p: u8, h: u8, row: &mut [u8])
     requires times { Times p h }
-    requires row_len { (length row.old ≡ 2 ^ p) × (length row.old ≤ mostSize) }
+    requires row_len { (length row.old ≡ 2 ^ p) × (length row.old ≤ most_size) }
     ensures { row.new ≡ tab (product p h) (2 ^ p) }
 {
     let mut x = 0;
@@ -42,9 +42,9 @@ fn products(p: u8, h: u8, row: &mut [u8])
 fn column(p: u8, h: u8, costs: &[u8], row: &mut [u8], moves: &mut [u16]) -> u8
     requires times { Times p h }
     requires sized { Sized (2 ^ p) costs.now row.old moves.old }
-    ensures term { result ≡ product p h (firstZero costs.now) }
+    ensures term { result ≡ product p h (first_zero costs.now) }
     ensures row_then { row.new ≡ tab (product p h) (2 ^ p) }
-    ensures moves_then { moves.new ≡ tab (moveCost costs.now (firstZero costs.now)) (2 ^ p) }
+    ensures moves_then { moves.new ≡ tab (move_cost costs.now (first_zero costs.now)) (2 ^ p) }
 {
     products(p, h, row);
     let z = decision::decide_u8(costs).symbol;
@@ -62,10 +62,10 @@ fn advance(
     cells: &[u16],
     out: &mut [u16],
 )
-    requires times { Times (powerOf first) h }
+    requires times { Times (power_of first) h }
     requires sized { Sized (size_of first) costs.now row.old moves.old }
-    requires cells_len { (length cells.now ≡ cellCount first) × (length out.old ≡ cellCount first) }
-    ensures { out.new ≡ stepFor first h costs.now cells.now }
+    requires cells_len { (length cells.now ≡ cell_count first) × (length out.old ≡ cell_count first) }
+    ensures { out.new ≡ step_for first h costs.now cells.now }
 {
     let rule = rules::rule_of(first);
     let s = scalar::u8_to_usize(column(rule.p, h, costs, row, moves));
@@ -93,9 +93,9 @@ fn turn_in(
     out: &mut [u16],
 )
     requires ready { Ready first weights.now costs.now }
-    requires n_in_bounds { (n < length weights.now) × ((mostSize ≤ length row.old) × (mostSize ≤ length moves.old)) }
-    requires cells_len { (length cells.now ≡ cellCount first) × (length out.old ≡ cellCount first) }
-    ensures { out.new ≡ stepColumn first weights.now costs.now n cells.now }
+    requires n_in_bounds { (n < length weights.now) × ((most_size ≤ length row.old) × (most_size ≤ length moves.old)) }
+    requires cells_len { (length cells.now ≡ cell_count first) × (length out.old ≡ cell_count first) }
+    ensures { out.new ≡ step_column first weights.now costs.now n cells.now }
 {
     let q = rules::size(first);
     let a = n * q;
@@ -114,8 +114,8 @@ fn turn_in(
 fn turn(first: u8, weights: &[u8], costs: &[u8], n: usize, cells: &[u16], out: &mut [u16])
     requires ready { Ready first weights.now costs.now }
     requires n_in_bounds { n < length weights.now }
-    requires cells_len { (length cells.now ≡ cellCount first) × (length out.old ≡ cellCount first) }
-    ensures { out.new ≡ stepColumn first weights.now costs.now n cells.now }
+    requires cells_len { (length cells.now ≡ cell_count first) × (length out.old ≡ cell_count first) }
+    ensures { out.new ≡ step_column first weights.now costs.now n cells.now }
 {
     let mut row = [0u8; sizes::MOST_SIZE];
     let mut moves = [0u16; sizes::MOST_SIZE];
@@ -144,7 +144,7 @@ pub fn fill(
     table: &mut [u16],
 )
     requires ready { Ready first weights.now costs.now }
-    requires cells_len { (length cells.old ≡ cellCount first) × (length table.old ≡ length weights.now * cellCount first) }
+    requires cells_len { (length cells.old ≡ cell_count first) × (length table.old ≡ length weights.now * cell_count first) }
     ensures { table.new ≡ table_of first back weights.now costs.now }
 {
     let d = weights.len();

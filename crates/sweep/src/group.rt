@@ -1,12 +1,12 @@
 // The bytes of each a, from the sent costs of all columns: E, and the columns above it.
 ghost use Rattle.std.specs.Prelude.{◌≡◌, ◌+◌, ◌-◌, ◌*◌, ◌≤◌, ◌<◌, ltb, length, set};
 ghost use Rattle.trellis.specs.Lists.{pick, blocks};
-ghost use Rattle.sweep.specs.inner.Groups.{lowestTo, sentOf, pairAbove, pairCount, pairsOver, unusedPair, groupBy, PairsRoom};
+ghost use Rattle.sweep.specs.inner.Groups.{lowest_to, sent_of, pair_above, pair_count, pairs_over, unused_pair, group_by, PairsRoom};
 
 // E: the least of the costs sent at a. Column n's cost stands at n q + a.
 fn lowest(sent: &[u8], q: usize, d: usize, a: usize) -> u8
     requires { (length sent.now ≡ d * q) × (a < q) }
-    ensures { result ≡ lowestTo (sentOf sent.now q a) d }
+    ensures { result ≡ lowest_to (sent_of sent.now q a) d }
 {
     let mut e: u8 = 255;
     let mut n = 0;
@@ -42,9 +42,9 @@ fn put_above(out: &mut [u8], c: usize, n: u8, s: u8, e: u8) -> usize
 // The pairs of the columns above e, rising. Answers how many there are.
 fn pairs(sent: &[u8], q: usize, d: usize, a: usize, e: u8, out: &mut [u8]) -> usize
     requires sent_len { (length sent.now ≡ d * q) × ((a < q) × (d ≤ 255)) }
-    requires d_in_bounds { length (blocks (pairAbove e (sentOf sent.now q a)) d) ≤ length out.old }
-    ensures count { result ≡ pairCount e (sentOf sent.now q a) d }
-    ensures out_then { out.new ≡ pairsOver e (sentOf sent.now q a) d out.old }
+    requires d_in_bounds { length (blocks (pair_above e (sent_of sent.now q a)) d) ≤ length out.old }
+    ensures count { result ≡ pair_count e (sent_of sent.now q a) d }
+    ensures out_then { out.new ≡ pairs_over e (sent_of sent.now q a) d out.old }
 {
     let mut c = 0;
     let mut n = 0;
@@ -58,7 +58,7 @@ fn pairs(sent: &[u8], q: usize, d: usize, a: usize, e: u8, out: &mut [u8]) -> us
 // Unused pairs.
 fn pads(out: &mut [u8], m: usize)
     requires { (length out.old ≡ m * 2) × (m ≤ 255) }
-    ensures { out.new ≡ blocks unusedPair m }
+    ensures { out.new ≡ blocks unused_pair m }
 {
     let mut i = 0;
     while i < m {
@@ -72,8 +72,8 @@ fn pads(out: &mut [u8], m: usize)
 // The bytes of a.
 fn group(sent: &[u8], q: usize, d: usize, k: usize, a: usize, out: &mut [u8])
     requires sent_len { (length sent.now ≡ d * q) × ((a < q) × ((d ≤ 255) × (k ≤ 3))) }
-    requires out_len { (length out.old ≡ 1 + 2 * k) × (pairCount (lowestTo (sentOf sent.now q a) d) (sentOf sent.now q a) d ≤ k) }
-    ensures { out.new ≡ groupBy k d (sentOf sent.now q a) }
+    requires out_len { (length out.old ≡ 1 + 2 * k) × (pair_count (lowest_to (sent_of sent.now q a) d) (sent_of sent.now q a) d ≤ k) }
+    ensures { out.new ≡ group_by k d (sent_of sent.now q a) }
 {
     let e = lowest(sent, q, d, a);
     out[0] = e;
@@ -88,7 +88,7 @@ pub fn groups(sent: &[u8], q: usize, d: usize, k: usize, out: &mut [u8])
     requires sent_len { (length sent.now ≡ d * q) × ((d ≤ 255) × ((k ≤ 3) × (0 < q))) }
     requires pairs_room { PairsRoom k d q sent.now }
     requires out_len { length out.old ≡ (q - 1) * (1 + 2 * k) }
-    ensures { out.new ≡ blocks (λ i. groupBy k d (sentOf sent.now q (i + 1))) (q - 1) }
+    ensures { out.new ≡ blocks (λ i. group_by k d (sent_of sent.now q (i + 1))) (q - 1) }
 {
     let w = 1 + 2 * k;
     let mut i = 0;

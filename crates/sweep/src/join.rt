@@ -3,7 +3,7 @@ ghost use Rattle.std.specs.Prelude.{◌≡◌, ◌+◌, ◌*◌, ◌≤◌, ◌<
 ghost use Rattle.trellis.specs.Lists.{tab};
 ghost use Rattle.trellis.specs.Field.{xor};
 ghost use Rattle.sweep.specs.inner.Cells.{Sums};
-ghost use Rattle.sweep.specs.inner.Joins.{acrossAt, besideAt, joinAt, ByteCostsRoom, columnsSent, JoinRoom};
+ghost use Rattle.sweep.specs.inner.Joins.{across_at, beside_at, join_at, ByteCostsRoom, columns_sent, JoinRoom};
 
 use crate::cells;
 
@@ -11,7 +11,7 @@ use crate::cells;
 fn across(f: &[u16], g: &[u16], t: usize, greatest: bool) -> u32
     requires sums { Sums (length f.now) }
     requires g_len { (length g.now ≡ length f.now) × (t < length f.now) }
-    ensures { (result ≡ acrossAt greatest f.now g.now t) × (result ≤ 1024) }
+    ensures { (result ≡ across_at greatest f.now g.now t) × (result ≤ 1024) }
 {
     let mut e: u32 = 1024;
     let mut s = 0;
@@ -26,7 +26,7 @@ fn across(f: &[u16], g: &[u16], t: usize, greatest: bool) -> u32
 fn beside(f: &[u16], after: &[u16], q: usize, n: usize, t: usize, greatest: bool) -> u32
     requires sums { Sums (length f.now) }
     requires f_len { (length f.now ≡ q) × ((t < q) × (n * q ≤ length after.now)) }
-    ensures { (result ≡ besideAt greatest q f.now after.now n t) × (result ≤ 1024) }
+    ensures { (result ≡ beside_at greatest q f.now after.now n t) × (result ≤ 1024) }
 {
     let mut e: u32 = 1024;
     let mut j = 0;
@@ -44,7 +44,7 @@ fn join_at(before: &[u16], after: &[u16], q: usize, k: usize, t: usize, greatest
     requires sums { Sums q }
     requires t_lt_q { (t < q) × (k ≤ 3) }
     requires before_len { (length before.now ≡ (k + 1) * q) × (length after.now ≡ (k + 1) * q) }
-    ensures { (result ≡ joinAt greatest q k before.now after.now t) × (result ≤ 1024) }
+    ensures { (result ≡ join_at greatest q k before.now after.now t) × (result ≤ 1024) }
 {
     let mut e: u32 = 1024;
     let mut i = 0;
@@ -71,7 +71,7 @@ fn sent_row(
     requires s_lt_q { (s < q) × ((length out.old ≡ q) × (k ≤ 3)) }
     requires before_len { (length before.now ≡ (k + 1) * q) × (length after.now ≡ (k + 1) * q) }
     requires byte_costs_room { ByteCostsRoom greatest q k before.now after.now s }
-    ensures { out.new ≡ tab (λ a. joinAt greatest q k before.now after.now (xor a s)) q }
+    ensures { out.new ≡ tab (λ a. join_at greatest q k before.now after.now (xor a s)) q }
 {
     let mut a = 0;
     while a < out.len() {
@@ -91,7 +91,7 @@ pub fn sent_all(
     out: &mut [u8],
 )
     requires { JoinRoom greatest q k before.now after.now shifts.now out.old }
-    ensures { out.new ≡ columnsSent greatest q k before.now after.now shifts.now }
+    ensures { out.new ≡ columns_sent greatest q k before.now after.now shifts.now }
 {
     let w = (k + 1) * q;
     let d = shifts.len();

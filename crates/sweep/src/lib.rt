@@ -7,15 +7,15 @@ mod record;
 mod step;
 
 ghost use Rattle.std.specs.Prelude.{◌≡◌};
-ghost use Rattle.field.specs.Answers.{writtenReply};
-ghost use Rattle.checknode.specs.Answers.{checkReply, checkLeaves};
+ghost use Rattle.field.specs.Answers.{written_reply};
+ghost use Rattle.checknode.specs.Answers.{check_reply, check_leaves};
 
 use field::Written;
 
 // The record of a check, as `check` writes it, by two sweeps; refused as `check` is.
 pub fn sweep(first: u8, weights: &[u8], costs: &[u8], out: &mut [u8]) -> Written
-    ensures reply { writtenReply result ≡ checkReply first weights.now costs.now out.old }
-    ensures out_then { out.new ≡ checkLeaves first weights.now costs.now out.old }
+    ensures reply { written_reply result ≡ check_reply first weights.now costs.now out.old }
+    ensures out_then { out.new ≡ check_leaves first weights.now costs.now out.old }
 {
     let k = checknode::check_fault(first, weights, costs, out.len());
     if k != 0 {

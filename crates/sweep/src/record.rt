@@ -2,14 +2,14 @@
 ghost use Rattle.std.specs.Prelude.{◌≡◌, ◌*◌, ◌≤◌, ◌<◌, length, get_or};
 ghost use Rattle.trellis.specs.Lists.{tab};
 ghost use Rattle.trellis.specs.Field.{xor};
-ghost use Rattle.trellis.specs.Record.{recordOf, recordLength};
-ghost use Rattle.trellis.specs.Rules.{powerOf, size_of, ruleFor, columnsOf};
+ghost use Rattle.trellis.specs.Record.{record_of, record_length};
+ghost use Rattle.trellis.specs.Rules.{power_of, size_of, rule_for, columns_of};
 ghost use Rattle.trellis.specs.Ready.{Ready};
-ghost use Rattle.trellis.specs.Sizes.{mostExpansion};
-ghost use Rattle.engine.specs.inner.Terms.{termOf, sum_to};
-ghost use Rattle.checknode.specs.inner.Asks.{shiftsOf};
-ghost use Rattle.sweep.specs.Kept.{cellCount, KeptCells};
-ghost use Rattle.sweep.specs.inner.Cells.{termsOf, Swept};
+ghost use Rattle.trellis.specs.Sizes.{most_expansion};
+ghost use Rattle.engine.specs.inner.Terms.{term_of, sum_to};
+ghost use Rattle.checknode.specs.inner.Asks.{shifts_of};
+ghost use Rattle.sweep.specs.Kept.{cell_count, KeptCells};
+ghost use Rattle.sweep.specs.inner.Cells.{terms_of, Swept};
 
 use crate::{cells, columns, group, join};
 use scalar::sizes;
@@ -23,7 +23,7 @@ const MOST_SWEEP: usize = sizes::MOST_DEGREE * MOST_CELLS;
 fn term(first: u8, weights: &[u8], costs: &[u8], n: usize) -> u8
     requires ready { Ready first weights.now costs.now }
     requires n_in_bounds { n < length weights.now }
-    ensures { result ≡ termOf (powerOf first) weights.now costs.now n }
+    ensures { result ≡ term_of (power_of first) weights.now costs.now n }
 {
     let q = rules::size(first);
     let a = n * q;
@@ -36,8 +36,8 @@ fn term(first: u8, weights: &[u8], costs: &[u8], n: usize) -> u8
 fn terms(first: u8, weights: &[u8], costs: &[u8], out: &mut [u8]) -> u8
     requires ready { Ready first weights.now costs.now }
     requires out_len { length out.old ≡ length weights.now }
-    ensures sum { result ≡ sum_to (termOf (powerOf first) weights.now costs.now) (length weights.now) }
-    ensures out_then { out.new ≡ termsOf (powerOf first) weights.now costs.now }
+    ensures sum { result ≡ sum_to (term_of (power_of first) weights.now costs.now) (length weights.now) }
+    ensures out_then { out.new ≡ terms_of (power_of first) weights.now costs.now }
 {
     let mut sum: u8 = 0;
     let mut n = 0;
@@ -64,7 +64,7 @@ fn shift_all(out: &mut [u8], sum: u8)
 fn shifts(first: u8, weights: &[u8], costs: &[u8], out: &mut [u8])
     requires ready { Ready first weights.now costs.now }
     requires out_len { length out.old ≡ length weights.now }
-    ensures { out.new ≡ shiftsOf (powerOf first) weights.now costs.now }
+    ensures { out.new ≡ shifts_of (power_of first) weights.now costs.now }
 {
     let sum = terms(first, weights, costs, out);
     shift_all(out, sum);
@@ -80,9 +80,9 @@ fn sweeps(
     after: &mut [u16],
 )
     requires ready { Ready first weights.now costs.now }
-    requires cells_len { length cells.old ≡ cellCount first }
-    requires before_len { length before.old ≡ length weights.now * cellCount first }
-    requires after_len { length after.old ≡ length weights.now * cellCount first }
+    requires cells_len { length cells.old ≡ cell_count first }
+    requires before_len { length before.old ≡ length weights.now * cell_count first }
+    requires after_len { length after.old ≡ length weights.now * cell_count first }
     ensures swept { Swept first weights.now costs.now before.new after.new }
     ensures kept { KeptCells first weights.now costs.now before.new after.new }
 {
@@ -103,8 +103,8 @@ fn record_from(
     requires ready { Ready first weights.now costs.now }
     requires swept { Swept first weights.now costs.now before.now after.now }
     requires sent_len { length sent.old ≡ length weights.now * size_of first }
-    requires out_len { length out.old ≡ recordLength (ruleFor first) (length weights.now) }
-    ensures { out.new ≡ recordOf (ruleFor first) (columnsOf (size_of first) weights.now costs.now) }
+    requires out_len { length out.old ≡ record_length (rule_for first) (length weights.now) }
+    ensures { out.new ≡ record_of (rule_for first) (columns_of (size_of first) weights.now costs.now) }
 {
     let d = weights.len();
     let n = out.len();
@@ -128,12 +128,12 @@ fn record_with(
     out: &mut [u8],
 )
     requires ready { Ready first weights.now costs.now }
-    requires cells_len { length cells.old ≡ cellCount first }
-    requires before_len { length before.old ≡ length weights.now * cellCount first }
-    requires after_len { length after.old ≡ length weights.now * cellCount first }
+    requires cells_len { length cells.old ≡ cell_count first }
+    requires before_len { length before.old ≡ length weights.now * cell_count first }
+    requires after_len { length after.old ≡ length weights.now * cell_count first }
     requires sent_len { length sent.old ≡ length weights.now * size_of first }
-    requires out_len { length out.old ≡ recordLength (ruleFor first) (length weights.now) }
-    ensures { out.new ≡ recordOf (ruleFor first) (columnsOf (size_of first) weights.now costs.now) }
+    requires out_len { length out.old ≡ record_length (rule_for first) (length weights.now) }
+    ensures { out.new ≡ record_of (rule_for first) (columns_of (size_of first) weights.now costs.now) }
 {
     sweeps(first, weights, costs, cells, before, after);
     record_from(first, weights, costs, before, after, sent, out);
@@ -151,10 +151,10 @@ fn record_room(
     out: &mut [u8],
 )
     requires ready { Ready first weights.now costs.now }
-    requires in_bounds { (256 ≤ length cells.old) × (mostExpansion ≤ length sent.old) }
+    requires in_bounds { (256 ≤ length cells.old) × (most_expansion ≤ length sent.old) }
     requires in_bounds_2 { (8192 ≤ length before.old) × (8192 ≤ length after.old) }
-    requires out_len { length out.old ≡ recordLength (ruleFor first) (length weights.now) }
-    ensures { out.new ≡ recordOf (ruleFor first) (columnsOf (size_of first) weights.now costs.now) }
+    requires out_len { length out.old ≡ record_length (rule_for first) (length weights.now) }
+    ensures { out.new ≡ record_of (rule_for first) (columns_of (size_of first) weights.now costs.now) }
 {
     let w = cells::cell_count(first);
     let n = weights.len() * w;
@@ -174,8 +174,8 @@ fn record_room(
 // The record, with the room that it takes.
 pub fn record_in(first: u8, weights: &[u8], costs: &[u8], out: &mut [u8])
     requires ready { Ready first weights.now costs.now }
-    requires out_len { length out.old ≡ recordLength (ruleFor first) (length weights.now) }
-    ensures { out.new ≡ recordOf (ruleFor first) (columnsOf (size_of first) weights.now costs.now) }
+    requires out_len { length out.old ≡ record_length (rule_for first) (length weights.now) }
+    ensures { out.new ≡ record_of (rule_for first) (columns_of (size_of first) weights.now costs.now) }
 {
     let mut cells = [0u16; MOST_CELLS];
     let mut before = [0u16; MOST_SWEEP];

@@ -3,7 +3,7 @@ ghost use Rattle.std.specs.Prelude.{◌≡◌, cond, ◌+◌, ◌*◌, ◌≤◌
 ghost use Rattle.trellis.specs.Lists.{tab};
 ghost use Rattle.trellis.specs.Field.{xor};
 ghost use Rattle.trellis.specs.Sweep.{mark};
-ghost use Rattle.sweep.specs.inner.Cells.{Sums, Steps, moveCost, deviationAt, layers, countCells, stepCells};
+ghost use Rattle.sweep.specs.inner.Cells.{Sums, Steps, move_cost, deviation_at, layers, count_cells, step_cells};
 
 use crate::cells;
 
@@ -11,7 +11,7 @@ use crate::cells;
 fn deviation_at(row: &[u8], moves: &[u16], low: &[u16], t: usize, greatest: bool) -> u32
     requires steps { Steps row.now moves.now }
     requires low_len { (length low.now ≡ length row.now) × (t < length row.now) }
-    ensures { (result ≡ deviationAt greatest row.now moves.now low.now t) × (result ≤ 1024) }
+    ensures { (result ≡ deviation_at greatest row.now moves.now low.now t) × (result ≤ 1024) }
 {
     let mut e: u32 = 1024;
     let mut x = 0;
@@ -81,7 +81,7 @@ fn move_cost(x: usize, z: usize, cost: u8) -> u16
 // The costs of the column's deviations.
 pub fn move_costs(costs: &[u8], z: usize, out: &mut [u16])
     requires { length costs.now ≡ length out.old }
-    ensures { out.new ≡ tab (moveCost costs.now z) (length out.old) }
+    ensures { out.new ≡ tab (move_cost costs.now z) (length out.old) }
 {
     let mut x = 0;
     while x < out.len() {
@@ -104,7 +104,7 @@ fn count(
     requires steps { Steps row.now moves.now }
     requires row_len { (length row.now ≡ q) × (s < q) }
     requires q_in_bounds { (j * q + q ≤ length cells.now) × (length out.old ≡ q) }
-    ensures { out.new ≡ countCells greatest q row.now moves.now cells.now s j }
+    ensures { out.new ≡ count_cells greatest q row.now moves.now cells.now s j }
 {
     if j == 0 {
         kept(&cells[..q], s, out);
@@ -130,7 +130,7 @@ pub fn step(
     requires steps { Steps row.now moves.now }
     requires row_len { (length row.now ≡ q) × ((s < q) × (k ≤ 3)) }
     requires cells_len { (length cells.now ≡ (k + 1) * q) × (length out.old ≡ (k + 1) * q) }
-    ensures { out.new ≡ stepCells greatest q k row.now moves.now cells.now s }
+    ensures { out.new ≡ step_cells greatest q k row.now moves.now cells.now s }
 {
     let mut j = 0;
     while j <= k {

@@ -9,15 +9,15 @@ use lib.Seq.{ext_get_or, get_or-take, get_or-drop, take_at, drop_at, drop-drop, 
 use lib.Bits.{bit_xor, xor_shr, xor_mod, xor_zero_l}
 use Rattle.trellis.specs.Lists.{tab}
 use Rattle.trellis.specs.Field.{xor}
-use Rattle.trellis.proofs.Xor.{xor_assoc, xor_comm, xor_lt, xor_self, xor-right}
-use Rattle.trellis.proofs.Loops.{tab-length, length-tab, getD-tab, tab-ext}
+use Rattle.trellis.proofs.Xor.{xor_assoc, xor_comm, xor_lt, xor_self, xor_right}
+use Rattle.trellis.proofs.Loops.{tab-length, length-tab, get_d_tab, tab_ext}
 use Rattle.tables.specs.declared.rests.Four.{Four}
-use Rattle.tables.specs.inner.Lanes.{laneAt, lanes, Wide, fourAt}
+use Rattle.tables.specs.inner.Lanes.{lane_at, lanes, Wide, four_at}
 
 -- what two numbers share modulo sixteen
-xor-sixteen : (x y : ℕ) → (xor x y / 16 ≡ xor (x / 16) (y / 16)) × (xor x y % 16 ≡ xor (x % 16) (y % 16))
+xor_sixteen : (x y : ℕ) → (xor x y / 16 ≡ xor (x / 16) (y / 16)) × (xor x y % 16 ≡ xor (x % 16) (y % 16))
 unfolding xor
-xor-sixteen x y = (xor_shr x y 4, xor_mod x y 4)
+xor_sixteen x y = (xor_shr x y 4, xor_mod x y 4)
 
 xor-left : (y : ℕ) → xor 0 y ≡ y
 unfolding xor
@@ -26,19 +26,19 @@ xor-left y = xor_zero_l y
 -- a multiple of sixteen and a number below it
 pub align : (x y : ℕ) → x % 16 ≡ 0 → y < 16 → xor x y ≡ x + y
 align x y h k =
-    let r = xor-sixteen x y in
+    let r = xor_sixteen x y in
     let u : y / 16 ≡ 0 = omega arith in
     let v : y % 16 ≡ y = omega arith in
-    let a : xor x y / 16 ≡ x / 16 = r.0 ∙ ap (xor (x / 16)) u ∙ xor-right (x / 16) in
+    let a : xor x y / 16 ≡ x / 16 = r.0 ∙ ap (xor (x / 16)) u ∙ xor_right (x / 16) in
     let b : xor x y % 16 ≡ y = r.1 ∙ ap₂ xor h v ∙ xor-left y in
     omega arith
 
 pub xor-even : (v t : ℕ) → v % 16 ≡ 0 → t % 16 ≡ 0 → xor v t % 16 ≡ 0
-xor-even v t h k = (xor-sixteen v t).1 ∙ ap₂ xor h k ∙ xor_self 0
+xor-even v t h k = (xor_sixteen v t).1 ∙ ap₂ xor h k ∙ xor_self 0
 
 -- a place of a block, turned by a multiple of sixteen
-pub turn-lane : (v t i : ℕ) → v % 16 ≡ 0 → t % 16 ≡ 0 → i < 16 → xor (v + i) t ≡ xor v t + i
-turn-lane v t i h k l =
+pub turn_lane : (v t i : ℕ) → v % 16 ≡ 0 → t % 16 ≡ 0 → i < 16 → xor (v + i) t ≡ xor v t + i
+turn_lane v t i h k l =
     ap (λ y. xor y t) (sym (align v i h l)) ∙ xor_assoc v i t ∙ ap (xor v) (xor_comm i t) ∙ sym (xor_assoc v t i) ∙ align (xor v t) i (xor-even v t h k) l
 
 -- sixteen divides a power of two from sixteen on, up to 64
@@ -77,50 +77,50 @@ block_of f h w d out v e o s =
     let t : take v (tab f v ++ drop v d) ≡ tab f v = take_at (tab f v) (drop v d) v (length-tab f v) in
     let u : drop v (tab f v ++ drop v d) ≡ drop v d = drop_at (tab f v) (drop v d) v (length-tab f v) in
     let k : drop w (drop v d) ≡ drop (v + w) d = drop-drop w v d in
-    let m : tab h w ≡ tab (λ i. f (v + i)) w = tab-ext h (λ i. f (v + i)) w s in
+    let m : tab h w ≡ tab (λ i. f (v + i)) w = tab_ext h (λ i. f (v + i)) w s in
     rw (e, o, a, t, u, k, m, tab-append f v w) (sym (append_assoc (tab f v) (tab (λ i. f (v + i)) w) (drop (v + w) d)))
 
-pub block-turn : (f h : ℕ → ℕ) (d out : List ℕ) (v : ℕ) {r : List ℕ} → out ≡ tab f v ++ drop v d → r ≡ lanes h → ((i : ℕ) → i < 16 → h i ≡ f (v + i))
+pub block_turn : (f h : ℕ → ℕ) (d out : List ℕ) (v : ℕ) {r : List ℕ} → out ≡ tab f v ++ drop v d → r ≡ lanes h → ((i : ℕ) → i < 16 → h i ≡ f (v + i))
     → take v out ++ (r ++ drop (v + 16 - v) (drop v out)) ≡ tab f (v + 16) ++ drop (v + 16) d
 unfolding lanes
-block-turn f h d out v e o s = block_of f h 16 d out v e o s
+block_turn f h d out v e o s = block_of f h 16 d out v e o s
 
 -- a place that such a loop has not reached
-pub block-seam : (f : ℕ → ℕ) (d out : List ℕ) (v i : ℕ) → out ≡ tab f v ++ drop v d → i < 16 → get_or (take (v + 16 - v) (drop v out)) i 0 ≡ get_or d (v + i) 0
-block-seam f d out v i e h =
+pub block_seam : (f : ℕ → ℕ) (d out : List ℕ) (v i : ℕ) → out ≡ tab f v ++ drop v d → i < 16 → get_or (take (v + 16 - v) (drop v out)) i 0 ≡ get_or d (v + i) 0
+block_seam f d out v i e h =
     let a : v + 16 - v ≡ 16 = omega arith in
     let u : drop v (tab f v ++ drop v d) ≡ drop v d = drop_at (tab f v) (drop v d) v (length-tab f v) in
     rw (a, e, u) (get_or-take 16 (drop v d) i 0 h ∙ get_or-drop v d i 0)
 
 module _ (f : Four) (s : List ℕ) (at turn l : ℕ) (d out : List ℕ) (v : ℕ) (W : Wide l turn) (even : v % 16 ≡ 0) (inside : v < l) (full : length d ≡ l)
-    (filled : out ≡ tab (fourAt f s at turn l d) v ++ drop v d) where
+    (filled : out ≡ tab (four_at f s at turn l d) v ++ drop v d) where
   tail_at : (a n i : ℕ) → n ≡ length s → get_or (take (n - a) (drop a s)) i 0 ≡ get_or s (a + i) 0
   tail_at a n i e = ap (λ y. get_or y i 0) (take_all (n - a) (drop a s) (omega (arith, length-drop a s))) ∙ get_or-drop a s i 0
 
-  lane-is : (a n i : ℕ) → n ≡ length s → a ≡ at + xor v turn → i < 16 → laneAt f (take (n - a) (drop a s)) l (take (v + 16 - v) (drop v out)) i ≡ fourAt f s at turn l d (v + i)
-  unfolding laneAt fourAt
+  lane-is : (a n i : ℕ) → n ≡ length s → a ≡ at + xor v turn → i < 16 → lane_at f (take (n - a) (drop a s)) l (take (v + 16 - v) (drop v out)) i ≡ four_at f s at turn l d (v + i)
+  unfolding lane_at four_at
   lane-is a n i e k h =
-      let t = turn-lane v turn i even W.even h in
+      let t = turn_lane v turn i even W.even h in
       let p : a + i ≡ at + xor (v + i) turn = omega arith in
       let p1 : a + (l + i) ≡ at + xor (v + i) turn + l = omega arith in
       let p2 : a + (2 * l + i) ≡ at + xor (v + i) turn + 2 * l = omega arith in
       let p3 : a + (3 * l + i) ≡ at + xor (v + i) turn + 3 * l = omega arith in
       rw (
-        block-seam (fourAt f s at turn l d) d out v i filled h,
+        block_seam (four_at f s at turn l d) d out v i filled h,
         tail_at a n i e ∙ ap (λ y. get_or s y 0) p,
         tail_at a n (l + i) e ∙ ap (λ y. get_or s y 0) p1,
         tail_at a n (2 * l + i) e ∙ ap (λ y. get_or s y 0) p2,
         tail_at a n (3 * l + i) e ∙ ap (λ y. get_or s y 0) p3,
       )
 
-  pub four-turn : (a n b : ℕ) {r : List ℕ} → n ≡ length s → a ≡ at + xor v turn → b ≡ v + 16 → r ≡ lanes (laneAt f (take (n - a) (drop a s)) l (take (b - v) (drop v out)))
+  pub four_turn : (a n b : ℕ) {r : List ℕ} → n ≡ length s → a ≡ at + xor v turn → b ≡ v + 16 → r ≡ lanes (lane_at f (take (n - a) (drop a s)) l (take (b - v) (drop v out)))
       → let next : List ℕ = take v out ++ (r ++ drop (b - v) (drop v out)) in
-      (length next ≡ length d) × (next ≡ tab (fourAt f s at turn l d) (v + 16) ++ drop (v + 16) d)
-  four-turn a n b {r} e k u o =
+      (length next ≡ length d) × (next ≡ tab (four_at f s at turn l d) (v + 16) ++ drop (v + 16) d)
+  four_turn a n b {r} e k u o =
       let i = block_inside l turn v W even inside in
-      let t : take v out ++ (r ++ drop (b - v) (drop v out)) ≡ tab (fourAt f s at turn l d) (v + 16) ++ drop (v + 16) d =
-      rw u (block-turn (fourAt f s at turn l d) (laneAt f (take (n - a) (drop a s)) l (take (v + 16 - v) (drop v out))) d out v filled (rw u at o) (λ j h. lane-is a n j e k h)) in
-      (ap length t ∙ tab-length (fourAt f s at turn l d) d (v + 16) (omega (arith, i)), t)
+      let t : take v out ++ (r ++ drop (b - v) (drop v out)) ≡ tab (four_at f s at turn l d) (v + 16) ++ drop (v + 16) d =
+      rw u (block_turn (four_at f s at turn l d) (lane_at f (take (n - a) (drop a s)) l (take (v + 16 - v) (drop v out))) d out v filled (rw u at o) (λ j h. lane-is a n j e k h)) in
+      (ap length t ∙ tab-length (four_at f s at turn l d) d (v + 16) (omega (arith, i)), t)
 
 pub place_is : (at turn l v : ℕ) {r : ℕ} → Wide l turn → v % 16 ≡ 0 → v < l → r ≡ at + bit_xor v turn → (r ≡ at + xor v turn) × ((r + 3 * l + 16 ≤ at + 4 * l) × (v + 16 ≤ l))
 unfolding xor
@@ -139,25 +139,25 @@ unfolding lanes
 part-lanes w v b e h =
     let a : b - v ≡ 16 = omega arith in
     let n : length (take (b - v) (drop v w)) ≡ 16 = length-take (b - v) (drop v w) ∙ omega (arith, length-drop v w) in
-    ext_get_or 0 (take (b - v) (drop v w)) (tab (λ i. get_or w (v + i) 0) 16) (n ∙ sym (length-tab (λ i. get_or w (v + i) 0) 16)) (λ i k. part_at w v b i e (omega (arith, n)) ∙ sym (getD-tab (λ i. get_or w (v + i) 0) 16 i (omega (arith, n))))
+    ext_get_or 0 (take (b - v) (drop v w)) (tab (λ i. get_or w (v + i) 0) 16) (n ∙ sym (length-tab (λ i. get_or w (v + i) 0) 16)) (λ i k. part_at w v b i e (omega (arith, n)) ∙ sym (get_d_tab (λ i. get_or w (v + i) 0) 16 i (omega (arith, n))))
 
 module _ (w d out : List ℕ) (v b : ℕ) (next : b ≡ v + 16) (room : v + 16 ≤ length d) (same : length w ≡ length d) where
-  pub copy-turn : {r : List ℕ} → out ≡ tab (λ k. get_or w k 0) v ++ drop v d → r ≡ take (b - v) (drop v w)
+  pub copy_turn : {r : List ℕ} → out ≡ tab (λ k. get_or w k 0) v ++ drop v d → r ≡ take (b - v) (drop v w)
       → let s : List ℕ = take v out ++ (r ++ drop (b - v) (drop v out)) in (length s ≡ length d) × (s ≡ tab (λ k. get_or w k 0) b ++ drop b d)
-  copy-turn {r} e o =
+  copy_turn {r} e o =
       let t : take v out ++ (r ++ drop (b - v) (drop v out)) ≡ tab (λ k. get_or w k 0) b ++ drop b d =
-      rw next (block-turn (λ k. get_or w k 0) (λ i. get_or w (v + i) 0) d out v e (o ∙ part-lanes w v b next (omega arith)) (λ i h. refl)) in
+      rw next (block_turn (λ k. get_or w k 0) (λ i. get_or w (v + i) 0) d out v e (o ∙ part-lanes w v b next (omega arith)) (λ i h. refl)) in
       (ap length t ∙ tab-length (λ k. get_or w k 0) d b (omega arith), t)
 
-  pub raise-turn : {r : List ℕ} → out ≡ tab (λ k. max (get_or d k 0) (get_or w k 0)) v ++ drop v d
+  pub raise_turn : {r : List ℕ} → out ≡ tab (λ k. max (get_or d k 0) (get_or w k 0)) v ++ drop v d
       → r ≡ lanes (λ i. max (get_or (take (b - v) (drop v out)) i 0) (get_or (take (b - v) (drop v w)) i 0))
       → let s : List ℕ = take v out ++ (r ++ drop (b - v) (drop v out)) in (length s ≡ length d) × (s ≡ tab (λ k. max (get_or d k 0) (get_or w k 0)) b ++ drop b d)
-  raise-turn {r} e o =
+  raise_turn {r} e o =
       let h : ℕ → ℕ = λ i. max (get_or (take (b - v) (drop v out)) i 0) (get_or (take (b - v) (drop v w)) i 0) in
       let at : (i : ℕ) → i < 16 → h i ≡ max (get_or d (v + i) 0) (get_or w (v + i) 0) =
-      λ i k. ap₂ max (ap (λ y. get_or (take (y - v) (drop v out)) i 0) next ∙ block-seam (λ k. max (get_or d k 0) (get_or w k 0)) d out v i e k) (part_at w v b i next k) in
+      λ i k. ap₂ max (ap (λ y. get_or (take (y - v) (drop v out)) i 0) next ∙ block_seam (λ k. max (get_or d k 0) (get_or w k 0)) d out v i e k) (part_at w v b i next k) in
       let t : take v out ++ (r ++ drop (b - v) (drop v out)) ≡ tab (λ k. max (get_or d k 0) (get_or w k 0)) b ++ drop b d =
-      ap (λ y. take v out ++ (r ++ drop (y - v) (drop v out))) next ∙ block-turn (λ k. max (get_or d k 0) (get_or w k 0)) h d out v e o at ∙ ap (λ y. tab (λ k. max (get_or d k 0) (get_or w k 0)) y ++ drop y d) (sym next) in
+      ap (λ y. take v out ++ (r ++ drop (y - v) (drop v out))) next ∙ block_turn (λ k. max (get_or d k 0) (get_or w k 0)) h d out v e o at ∙ ap (λ y. tab (λ k. max (get_or d k 0) (get_or w k 0)) y ++ drop y d) (sym next) in
       (ap length t ∙ tab-length (λ k. max (get_or d k 0) (get_or w k 0)) d b (omega arith), t)
 
 -- one block alone

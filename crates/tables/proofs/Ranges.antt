@@ -8,11 +8,11 @@ use lib.Dec.{leb}
 use lib.Pow.{pow-lt}
 use borrow.Author.Tests.{le-leb, lt-leb, leb-true}
 use Rattle.tables.specs.inner.Tables.{Shaped}
-use Rattle.tables.specs.Calls.{side, in_range, shapeFor}
+use Rattle.tables.specs.Calls.{side, in_range, shape_for}
 use Rattle.tables.specs.declared.rests.Shape.{Shape}
 
-pub parts-room : (j n w : ℕ) → j < n → n ≤ 32 → w ≤ 192 → (j * w + w ≤ n * w) × (n * w ≤ 6144)
-parts-room j n w h m e =
+pub parts_room : (j n w : ℕ) → j < n → n ≤ 32 → w ≤ 192 → (j * w + w ≤ n * w) × (n * w ≤ 6144)
+parts_room j n w h m e =
     let a = mul-le-mul_right w (let x : suc j ≤ n = h in x) in
     let b = mul-le-mul_right w m in
     (omega (arith, a, suc-mul j w), omega (arith, b))
@@ -36,8 +36,8 @@ pub index-power : (p : ℕ) → p ≤ 6 → 1 * 2 ^ p % 18446744073709551616 ≡
 index-power p h = rw one-mul (mod-eq_of_lt (pow-lt {j = 64} (omega arith)))
 
 -- the shape for p and k
-pub shaped-for : (p k : ℕ) → 2 ≤ p → p ≤ 6 → 2 ≤ k → k ≤ 3 → Shaped (2 ^ p) (side p) k × (4 ≤ 2 ^ p)
-shaped-for p k a b c d = go p a b
+pub shaped_for : (p k : ℕ) → 2 ≤ p → p ≤ 6 → 2 ≤ k → k ≤ 3 → Shaped (2 ^ p) (side p) k × (4 ≤ 2 ^ p)
+shaped_for p k a b c d = go p a b
   where
     of : (q bits : ℕ) → 4 ≤ bits → bits ≤ 6 → max 16 q ≡ 2 ^ bits → max 16 q % 16 ≡ 0 → max 16 q ≤ 64 → q % 4 ≡ 0 → 4 ≤ q → Shaped q (max 16 q) k × (4 ≤ q)
     of q bits l m e even limit fours four = (
@@ -65,32 +65,32 @@ module _ (p k d : ℕ) where
   unfolding in_range
   p-high a b = rw (le-leb 2 p a, lt-leb p 6 b)
 
-  pub k-low : 2 ≤ p → p ≤ 6 → k < 2 → false ≡ in_range p k d
+  pub k_low : 2 ≤ p → p ≤ 6 → k < 2 → false ≡ in_range p k d
   unfolding in_range
-  k-low a b c = rw (le-leb 2 p a, le-leb p 6 b, lt-leb 2 k c)
+  k_low a b c = rw (le-leb 2 p a, le-leb p 6 b, lt-leb 2 k c)
 
-  pub k-high : 2 ≤ p → p ≤ 6 → 2 ≤ k → 3 < k → false ≡ in_range p k d
+  pub k_high : 2 ≤ p → p ≤ 6 → 2 ≤ k → 3 < k → false ≡ in_range p k d
   unfolding in_range
-  k-high a b c e = rw (le-leb 2 p a, le-leb p 6 b, le-leb 2 k c, lt-leb k 3 e)
+  k_high a b c e = rw (le-leb 2 p a, le-leb p 6 b, le-leb 2 k c, lt-leb k 3 e)
 
-  pub d-low : 2 ≤ p → p ≤ 6 → 2 ≤ k → k ≤ 3 → d < 2 → false ≡ in_range p k d
+  pub d_low : 2 ≤ p → p ≤ 6 → 2 ≤ k → k ≤ 3 → d < 2 → false ≡ in_range p k d
   unfolding in_range
-  d-low a b c e f = rw (le-leb 2 p a, le-leb p 6 b, le-leb 2 k c, le-leb k 3 e, lt-leb 2 d f)
+  d_low a b c e f = rw (le-leb 2 p a, le-leb p 6 b, le-leb 2 k c, le-leb k 3 e, lt-leb 2 d f)
 
-  pub d-last : 2 ≤ p → p ≤ 6 → 2 ≤ k → k ≤ 3 → 2 ≤ d → leb d 32 ≡ in_range p k d
+  pub d_last : 2 ≤ p → p ≤ 6 → 2 ≤ k → k ≤ 3 → 2 ≤ d → leb d 32 ≡ in_range p k d
   unfolding in_range
-  d-last a b c e f = rw (le-leb 2 p a, le-leb p 6 b, le-leb 2 k c, le-leb k 3 e, le-leb 2 d f)
+  d_last a b c e f = rw (le-leb 2 p a, le-leb p 6 b, le-leb 2 k c, le-leb k 3 e, le-leb 2 d f)
 
 pub shape_is : (p k : ℕ) (greatest : Bool) {q l : ℕ} → 2 ≤ p → p ≤ 6 → 2 ≤ k → k ≤ 3 → q ≡ 1 * 2 ^ p % 18446744073709551616 → l ≡ max 16 q
-    → let S : Shape = record { q = q; l = l; k = k; greatest = greatest } in (S ≡ shapeFor p k greatest) × (Shaped q l k × (4 ≤ q))
+    → let S : Shape = record { q = q; l = l; k = k; greatest = greatest } in (S ≡ shape_for p k greatest) × (Shaped q l k × (4 ≤ q))
 shape_is p k greatest {q} {l} a b c d eq el =
     let u : q ≡ 2 ^ p = eq ∙ index-power p b in
     let v : l ≡ side p = el ∙ ap (max 16) u in
-    (ap₂ {C = Shape} (λ x y. record { q = x; l = y; k = k; greatest = greatest }) u v, rw (v, u) (shaped-for p k a b c d))
+    (ap₂ {C = Shape} (λ x y. record { q = x; l = y; k = k; greatest = greatest }) u v, rw (v, u) (shaped_for p k a b c d))
 
-pub in-range : (p k d : ℕ) → in_range p k d ≡ true → ((2 ≤ p) × (p ≤ 6)) × (((2 ≤ k) × (k ≤ 3)) × ((2 ≤ d) × (d ≤ 32)))
+pub in_range_lem : (p k d : ℕ) → in_range p k d ≡ true → ((2 ≤ p) × (p ≤ 6)) × (((2 ≤ k) × (k ≤ 3)) × ((2 ≤ d) × (d ≤ 32)))
 unfolding in_range
-in-range p k d e =
+in_range_lem p k d e =
     let a = both_true (leb 2 p) _ e in
     let b = both_true (leb p 6) _ a.1 in
     let c = both_true (leb 2 k) _ b.1 in
@@ -107,8 +107,8 @@ in-range p k d e =
         no_true : false ≡ true → ◌≡◌ {A = ℕ} 0 1
         no_true e = cc
 
-pub groups-room : (q l k : ℕ) → Shaped q l k → (q - 1) * (k * 2 + 1) ≤ 448
-groups-room q l k S =
+pub groups_room : (q l k : ℕ) → Shaped q l k → (q - 1) * (k * 2 + 1) ≤ 448
+groups_room q l k S =
     let a : q - 1 ≤ 64 = omega (arith, S.within, S.table.limit) in
     omega (arith, mul-le-mul_right (k * 2 + 1) a, S.few)
 

@@ -7,12 +7,12 @@ use native.Mathlib.Omega.{arith}
 use lib.ListN.{length, drop, get_or, set}
 use lib.Seq.{ext_get_or}
 use Rattle.trellis.specs.Lists.{tab}
-use Rattle.trellis.proofs.Loops.{tab-more, tab-whole, length-tab, getD-tab}
+use Rattle.trellis.proofs.Loops.{tab-more, tab_whole, length-tab, get_d_tab}
 use Rattle.tables.specs.declared.rests.Four.{Four}
-use Rattle.tables.specs.inner.Lanes.{cut, taken, twoOf, laneAt, lanes}
+use Rattle.tables.specs.inner.Lanes.{cut, taken, two_of, lane_at, lanes}
 
-pub cut-lower : {g : Bool} (v x : ℕ) {r : ℕ} → g ≡ true → r ≡ min v x → r ≡ cut g v x
-cut-lower v x e o = rw e o
+pub cut_lower : {g : Bool} (v x : ℕ) {r : ℕ} → g ≡ true → r ≡ min v x → r ≡ cut g v x
+cut_lower v x e o = rw e o
 
 pub cut_left : {g : Bool} (v x : ℕ) {r : ℕ} → g ≡ false → r ≡ v - x → r ≡ cut g v x
 cut_left v x e o = rw e o
@@ -20,22 +20,22 @@ cut_left v x e o = rw e o
 pub taken-cost : {g : Bool} (u : ℕ) {r : ℕ} → g ≡ false → r ≡ 255 - u → r ≡ taken g u
 taken-cost u e o = rw e o
 
-pub list-tab : (l : List ℕ) → tab (λ k. get_or l k 0) (length l) ≡ l
-list-tab l = ext_get_or 0 (tab (λ k. get_or l k 0) (length l)) l (length-tab _ (length l)) (λ i h. getD-tab (λ k. get_or l k 0) (length l) i (omega (arith, length-tab (λ k. get_or l k 0) (length l))))
+pub list_tab : (l : List ℕ) → tab (λ k. get_or l k 0) (length l) ≡ l
+list_tab l = ext_get_or 0 (tab (λ k. get_or l k 0) (length l)) l (length-tab _ (length l)) (λ i h. get_d_tab (λ k. get_or l k 0) (length l) i (omega (arith, length-tab (λ k. get_or l k 0) (length l))))
 
 pub copied : (f d out : List ℕ) (i : ℕ) → length f ≡ length d → i ≡ length d → out ≡ tab (λ k. get_or f k 0) i ++ drop i d → out ≡ f
-copied f d out i e k o = o ∙ rw k (tab-whole (λ k. get_or f k 0) d ∙ rw (← e) (list-tab f))
+copied f d out i e k o = o ∙ rw k (tab_whole (λ k. get_or f k 0) d ∙ rw (← e) (list_tab f))
 
 -- a turn of a loop that fills a list, and its end
-pub tab-turn : (f : ℕ → ℕ) (out out₀ : List ℕ) (i : ℕ) {v : ℕ} → i < length out₀ → out ≡ tab f i ++ drop i out₀ → v ≡ f i → set out i v ≡ tab f (i + 1) ++ drop (i + 1) out₀
-tab-turn f out out₀ i l e u = rw (e, u) (tab-more f out₀ i l)
+pub tab_turn : (f : ℕ → ℕ) (out out₀ : List ℕ) (i : ℕ) {v : ℕ} → i < length out₀ → out ≡ tab f i ++ drop i out₀ → v ≡ f i → set out i v ≡ tab f (i + 1) ++ drop (i + 1) out₀
+tab_turn f out out₀ i l e u = rw (e, u) (tab-more f out₀ i l)
 
 pub tab-end : (f : ℕ → ℕ) (out out₀ : List ℕ) (i n : ℕ) → out ≡ tab f i ++ drop i out₀ → i ≡ length out₀ → length out₀ ≡ n → out ≡ tab f n
-tab-end f out out₀ i n e u v = e ∙ rw u (tab-whole f out₀) ∙ ap (tab f) v
+tab-end f out out₀ i n e u v = e ∙ rw u (tab_whole f out₀) ∙ ap (tab f) v
 
 pub lanes_end : (f : ℕ → ℕ) (out out₀ : List ℕ) (i : ℕ) → out ≡ tab f i ++ drop i out₀ → i ≡ length out₀ → length out₀ ≡ 16 → out ≡ lanes f
 unfolding lanes
-lanes_end f out out₀ i e u v = e ∙ rw u (tab-whole f out₀) ∙ ap (tab f) v
+lanes_end f out out₀ i e u v = e ∙ rw u (tab_whole f out₀) ∙ ap (tab f) v
 
 pub lanes-length : (f : ℕ → ℕ) → length (lanes f) ≡ 16
 unfolding lanes
@@ -43,10 +43,10 @@ lanes-length f = length-tab f 16
 
 pub lanes_at : (f : ℕ → ℕ) (i : ℕ) → i < 16 → get_or (lanes f) i 0 ≡ f i
 unfolding lanes
-lanes_at f i h = getD-tab f 16 i h
+lanes_at f i h = get_d_tab f 16 i h
 
-pub lane-value : (f : Four) (s : List ℕ) (l : ℕ) (e : List ℕ) (i : ℕ) {a b c r : ℕ}
-    → a ≡ twoOf f.greatest f.x (get_or s i 0) f.y (get_or s (l + i) 0)
-    → b ≡ twoOf f.greatest f.z (get_or s (2 * l + i) 0) f.w (get_or s (3 * l + i) 0) → c ≡ max a b → r ≡ max (get_or e i 0) c → r ≡ laneAt f s l e i
-unfolding laneAt
-lane-value f s l e i p q o u = u ∙ ap (max (get_or e i 0)) (o ∙ ap₂ max p q)
+pub lane_value : (f : Four) (s : List ℕ) (l : ℕ) (e : List ℕ) (i : ℕ) {a b c r : ℕ}
+    → a ≡ two_of f.greatest f.x (get_or s i 0) f.y (get_or s (l + i) 0)
+    → b ≡ two_of f.greatest f.z (get_or s (2 * l + i) 0) f.w (get_or s (3 * l + i) 0) → c ≡ max a b → r ≡ max (get_or e i 0) c → r ≡ lane_at f s l e i
+unfolding lane_at
+lane_value f s l e i p q o u = u ∙ ap (max (get_or e i 0)) (o ∙ ap₂ max p q)

@@ -1,6 +1,6 @@
 // The copies of a table that a join needs: copy j has row x + j at x. Each doubling flips a bit of the row inside its block of sixteen.
 ghost use Rattle.std.specs.Prelude.{◌≡◌, ◌+◌, ◌*◌, ◌≤◌, min, length};
-ghost use Rattle.tables.specs.inner.Lanes.{Flips, flippedTo, Doubled, Copied};
+ghost use Rattle.tables.specs.inner.Lanes.{Flips, flipped_to, Doubled, Copied};
 ghost use Rattle.tables.specs.inner.Tables.{Table, Shaped};
 
 use crate::rests::Shape;
@@ -10,7 +10,7 @@ use crate::{block, lane};
 // of the loop only where the bit is a constant. The rows pass through a local array, so that none is written before all are read.
 fn flip1(s: &mut [u8], from: usize, to: usize)
     requires { (from + 16 ≤ to) × ((to + 16 ≤ length s.old) × (length s.old ≤ 65536)) }
-    ensures { s.new ≡ flippedTo 1 s.old from to }
+    ensures { s.new ≡ flipped_to 1 s.old from to }
 {
     let mut t = [0u8; 16];
     let a = from + 16;
@@ -24,7 +24,7 @@ fn flip1(s: &mut [u8], from: usize, to: usize)
 
 fn flip2(s: &mut [u8], from: usize, to: usize)
     requires { (from + 16 ≤ to) × ((to + 16 ≤ length s.old) × (length s.old ≤ 65536)) }
-    ensures { s.new ≡ flippedTo 2 s.old from to }
+    ensures { s.new ≡ flipped_to 2 s.old from to }
 {
     let mut t = [0u8; 16];
     let a = from + 16;
@@ -38,7 +38,7 @@ fn flip2(s: &mut [u8], from: usize, to: usize)
 
 fn flip4(s: &mut [u8], from: usize, to: usize)
     requires { (from + 16 ≤ to) × ((to + 16 ≤ length s.old) × (length s.old ≤ 65536)) }
-    ensures { s.new ≡ flippedTo 4 s.old from to }
+    ensures { s.new ≡ flipped_to 4 s.old from to }
 {
     let mut t = [0u8; 16];
     let a = from + 16;
@@ -52,7 +52,7 @@ fn flip4(s: &mut [u8], from: usize, to: usize)
 
 fn flip8(s: &mut [u8], from: usize, to: usize)
     requires { (from + 16 ≤ to) × ((to + 16 ≤ length s.old) × (length s.old ≤ 65536)) }
-    ensures { s.new ≡ flippedTo 8 s.old from to }
+    ensures { s.new ≡ flipped_to 8 s.old from to }
 {
     let mut t = [0u8; 16];
     let a = from + 16;

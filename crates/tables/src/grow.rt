@@ -1,8 +1,8 @@
 // One column more in the tables over a part of the columns, and the tables over the columns after each one.
 ghost use Rattle.std.specs.Prelude.{◌≡◌, ◌+◌, ◌-◌, ◌*◌, ◌%◌, ◌≤◌, ◌<◌, length};
 ghost use Rattle.trellis.specs.Lists.{blocks, part, patch};
-ghost use Rattle.trellis.specs.Sizes.{mostDegree};
-ghost use Rattle.tables.specs.inner.Tables.{Shaped, on, risenIn, grownList, afterTo};
+ghost use Rattle.trellis.specs.Sizes.{most_degree};
+ghost use Rattle.tables.specs.inner.Tables.{Shaped, on, risen_in, grown_list, after_to};
 
 use crate::rests::Shape;
 use crate::{block, copies, join, rests};
@@ -12,7 +12,7 @@ fn rise(shape: Shape, line: &[u8], j: usize, table: &mut [u8], c: &mut [u8])
     requires shaped { Shaped shape.q shape.l shape.k }
     requires line_len { (length line.now ≡ shape.l) × (length c.old ≡ 16 * shape.l) }
     requires le_j { ((1 ≤ j) × (j < shape.k)) × (length table.old ≡ shape.k * shape.l) }
-    ensures { table.new ≡ on shape risenIn line.now table.old j }
+    ensures { table.new ≡ on shape risen_in line.now table.old j }
 {
     let l = shape.l;
     let m = rests::part_at(j, shape.k, l);
@@ -26,7 +26,7 @@ fn grow(shape: Shape, line: &[u8], table: &mut [u8], c: &mut [u8])
     requires shaped { Shaped shape.q shape.l shape.k }
     requires line_len { (length line.now ≡ shape.l) × (length c.old ≡ 16 * shape.l) }
     requires table_len { length table.old ≡ shape.k * shape.l }
-    ensures { table.new ≡ on shape grownList line.now table.old }
+    ensures { table.new ≡ on shape grown_list line.now table.old }
 {
     let l = shape.l;
     let mut j = shape.k - 1;
@@ -57,9 +57,9 @@ pub fn begin(shape: Shape, line: &[u8], table: &mut [u8])
 // The tables take line n of d in.
 fn take_in(shape: Shape, d: usize, n: usize, lines: &[u8], table: &mut [u8], c: &mut [u8])
     requires shaped { Shaped shape.q shape.l shape.k }
-    requires n_lt_d { ((n < d) × (d ≤ mostDegree)) × ((length lines.now ≡ d * shape.l) × (length c.old ≡ 16 * shape.l)) }
+    requires n_lt_d { ((n < d) × (d ≤ most_degree)) × ((length lines.now ≡ d * shape.l) × (length c.old ≡ 16 * shape.l)) }
     requires table_len { length table.old ≡ shape.k * shape.l }
-    ensures { table.new ≡ on shape grownList (part lines.now (n * shape.l) shape.l) table.old }
+    ensures { table.new ≡ on shape grown_list (part lines.now (n * shape.l) shape.l) table.old }
 {
     let l = shape.l;
     let a = rests::part_at(n, d, l);
@@ -69,7 +69,7 @@ fn take_in(shape: Shape, d: usize, n: usize, lines: &[u8], table: &mut [u8], c: 
 
 // The tables kept as block i of n.
 fn keep(table: &[u8], i: usize, n: usize, kept: &mut [u8])
-    requires i_lt_n { ((i < n) × (n ≤ mostDegree)) × ((length table.now ≤ 192) × (length table.now % 16 ≡ 0)) }
+    requires i_lt_n { ((i < n) × (n ≤ most_degree)) × ((length table.now ≤ 192) × (length table.now % 16 ≡ 0)) }
     requires kept_len { length kept.old ≡ n * length table.now }
     ensures { kept.new
         ≡ patch kept.old (i * length table.now) (length table.now) table.now }
@@ -83,8 +83,8 @@ fn keep(table: &[u8], i: usize, n: usize, kept: &mut [u8])
 // The tables over the last column.
 fn after_first(shape: Shape, d: usize, lines: &[u8], table: &mut [u8])
     requires shaped { Shaped shape.q shape.l shape.k }
-    requires le_d { ((2 ≤ d) × (d ≤ mostDegree)) × ((length lines.now ≡ d * shape.l) × (length table.old ≡ shape.k * shape.l)) }
-    ensures { table.new ≡ on shape afterTo lines.now d 0 }
+    requires le_d { ((2 ≤ d) × (d ≤ most_degree)) × ((length lines.now ≡ d * shape.l) × (length table.old ≡ shape.k * shape.l)) }
+    ensures { table.new ≡ on shape after_to lines.now d 0 }
 {
     let l = shape.l;
     let a = rests::part_at(d - 1, d, l);
@@ -102,9 +102,9 @@ pub fn after_all(
     after: &mut [u8],
 )
     requires shaped { Shaped shape.q shape.l shape.k }
-    requires le_d { ((2 ≤ d) × (d ≤ mostDegree)) × ((length lines.now ≡ d * shape.l) × (length c.old ≡ 16 * shape.l)) }
+    requires le_d { ((2 ≤ d) × (d ≤ most_degree)) × ((length lines.now ≡ d * shape.l) × (length c.old ≡ 16 * shape.l)) }
     requires table_len { (length table.old ≡ shape.k * shape.l) × (length after.old ≡ (d - 1) * (shape.k * shape.l)) }
-    ensures { after.new ≡ blocks (on shape afterTo lines.now d) (d - 1) }
+    ensures { after.new ≡ blocks (on shape after_to lines.now d) (d - 1) }
 {
     after_first(shape, d, lines, table);
     keep(table, 0, d - 1, after);

@@ -2,8 +2,8 @@
 ghost use Rattle.std.specs.Prelude.{◌≡◌, ◌+◌, ◌*◌, ◌/◌, ◌%◌, ◌≤◌, ◌<◌, min, length};
 ghost use Rattle.trellis.specs.Field.{xor};
 ghost use Rattle.trellis.specs.Lists.{tab};
-ghost use Rattle.trellis.specs.Sizes.{mostSize};
-ghost use Rattle.tables.specs.inner.Lanes.{Wide, fourAt, fourOf, joinTo};
+ghost use Rattle.trellis.specs.Sizes.{most_size};
+ghost use Rattle.tables.specs.inner.Lanes.{Wide, four_at, four_of, join_to};
 ghost use Rattle.tables.specs.inner.Tables.{Shaped};
 
 use crate::rests::{Four, Shape};
@@ -12,7 +12,7 @@ use crate::{lane, rests};
 // Where the copy of the block from v on starts.
 fn place(at: usize, turn: usize, l: usize, v: usize) -> usize
     requires wide { Wide l turn }
-    requires v_value { ((v % 16 ≡ 0) × (v < l)) × ((l ≤ mostSize) × (at ≤ 65536)) }
+    requires v_value { ((v % 16 ≡ 0) × (v < l)) × ((l ≤ most_size) × (at ≤ 65536)) }
     ensures { (result ≡ at + xor v turn) × ((result + 3 * l + 16 ≤ at + 4 * l) × (v + 16 ≤ l)) }
 {
     at + (v ^ turn)
@@ -21,8 +21,8 @@ fn place(at: usize, turn: usize, l: usize, v: usize) -> usize
 // e: the best of e and four rows, block by block. The copies for the first of them start at `at`.
 fn four(f: Four, s: &[u8], at: usize, turn: usize, l: usize, e: &mut [u8])
     requires wide { Wide l turn }
-    requires e_len { (length e.old ≡ l) × ((l ≤ mostSize) × ((at ≤ 65536) × (at + 4 * l ≤ length s.now))) }
-    ensures { e.new ≡ tab (fourAt f s.now at turn l e.old) l }
+    requires e_len { (length e.old ≡ l) × ((l ≤ most_size) × ((at ≤ 65536) × (at + 4 * l ≤ length s.now))) }
+    ensures { e.new ≡ tab (four_at f s.now at turn l e.old) l }
 {
     let n = s.len();
     let mut v = 0;
@@ -36,7 +36,7 @@ fn four(f: Four, s: &[u8], at: usize, turn: usize, l: usize, e: &mut [u8])
 
 // Where the copies for the rows from b on start.
 fn copy_at(q: usize, l: usize, b: usize) -> usize
-    requires { ((b < q) × (b % 4 ≡ 0)) × ((q % 4 ≡ 0) × (l ≤ mostSize)) }
+    requires { ((b < q) × (b % 4 ≡ 0)) × ((q % 4 ≡ 0) × (l ≤ most_size)) }
     ensures { (result ≡ b % 16 * l) × ((result + 4 * l ≤ min 16 q * l) × (result ≤ 65536)) }
 {
     b % 16 * l
@@ -45,7 +45,7 @@ fn copy_at(q: usize, l: usize, b: usize) -> usize
 // The rows of u from b on, as they are taken.
 fn four_of(greatest: bool, u: &[u8], b: usize) -> Four
     requires { (b + 4 ≤ length u.now) × (length u.now ≤ 65536) }
-    ensures { result ≡ fourOf greatest u.now b }
+    ensures { result ≡ four_of greatest u.now b }
 {
     let x = rests::take(greatest, u[b]);
     let y = rests::take(greatest, u[b + 1]);
@@ -64,7 +64,7 @@ fn four_of(greatest: bool, u: &[u8], b: usize) -> Four
 fn one_block(greatest: bool, q: usize, u: &[u8], s: &[u8], e: &mut [u8])
     requires q_value { (q % 4 ≡ 0) × (q ≤ 16) }
     requires u_len { (length u.now ≡ 16) × ((length s.now ≡ 256) × (length e.old ≡ 16)) }
-    ensures { e.new ≡ tab (joinTo greatest u.now s.now 16 e.old q) 16 }
+    ensures { e.new ≡ tab (join_to greatest u.now s.now 16 e.old q) 16 }
 {
     let mut b = 0;
     while b < q {
@@ -80,7 +80,7 @@ fn all_blocks(shape: Shape, u: &[u8], s: &[u8], e: &mut [u8])
     requires shaped { Shaped shape.q shape.l shape.k }
     requires u_len { (length u.now ≡ shape.l) × ((length s.now ≡ 16 * shape.l) × (length e.old ≡ shape.l)) }
     ensures { e.new
-        ≡ tab (joinTo shape.greatest u.now s.now shape.l e.old shape.q) shape.l }
+        ≡ tab (join_to shape.greatest u.now s.now shape.l e.old shape.q) shape.l }
 {
     let q = shape.q;
     let l = shape.l;
@@ -98,7 +98,7 @@ pub fn join(shape: Shape, u: &[u8], s: &[u8], e: &mut [u8])
     requires shaped { Shaped shape.q shape.l shape.k }
     requires u_len { (length u.now ≡ shape.l) × ((length s.now ≡ 16 * shape.l) × (length e.old ≡ shape.l)) }
     ensures { e.new
-        ≡ tab (joinTo shape.greatest u.now s.now shape.l e.old shape.q) shape.l }
+        ≡ tab (join_to shape.greatest u.now s.now shape.l e.old shape.q) shape.l }
 {
     if shape.l == 16 {
         one_block(shape.greatest, shape.q, u, s, e);

@@ -1,15 +1,15 @@
 // Sixteen rows at a time: the bound is a constant, so that the compiler takes them as one.
 ghost use Rattle.std.specs.Prelude.{◌≡◌, ◌+◌, ◌*◌, ◌≤◌, length};
-ghost use Rattle.trellis.specs.Sizes.{mostSize};
-ghost use Rattle.tables.specs.inner.Lanes.{laneAt, lanes};
+ghost use Rattle.trellis.specs.Sizes.{most_size};
+ghost use Rattle.tables.specs.inner.Lanes.{lane_at, lanes};
 
 use crate::rests;
 use crate::rests::Four;
 
 // t: the best of e and four rows. What the rows are taken from stands in s, l apart.
 fn lane(f: Four, s: &[u8], l: usize, e: &[u8], t: &mut [u8])
-    requires { ((length e.now ≡ 16) × (length t.old ≡ 16)) × ((l ≤ mostSize) × (3 * l + 16 ≤ length s.now)) }
-    ensures { t.new ≡ lanes (laneAt f s.now l e.now) }
+    requires { ((length e.now ≡ 16) × (length t.old ≡ 16)) × ((l ≤ most_size) × (3 * l + 16 ≤ length s.now)) }
+    ensures { t.new ≡ lanes (lane_at f s.now l e.now) }
 {
     let mut i = 0;
     while i < 16 {
@@ -34,8 +34,8 @@ pub fn copy(t: &[u8], e: &mut [u8])
 // e: the best of e and four rows. The rows pass through a local array: s and e might overlap for all that the compiler knows, so it would
 // not read sixteen before it has written one.
 pub fn step(f: Four, s: &[u8], l: usize, e: &mut [u8])
-    requires { (length e.old ≡ 16) × ((l ≤ mostSize) × (3 * l + 16 ≤ length s.now)) }
-    ensures { e.new ≡ lanes (laneAt f s.now l e.old) }
+    requires { (length e.old ≡ 16) × ((l ≤ most_size) × (3 * l + 16 ≤ length s.now)) }
+    ensures { e.new ≡ lanes (lane_at f s.now l e.old) }
 {
     let mut t = [0u8; 16];
     lane(f, s, l, e, &mut t);

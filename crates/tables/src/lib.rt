@@ -9,7 +9,7 @@ mod rows;
 
 ghost use Rattle.std.specs.Prelude.{◌≡◌, ◌≤◌};
 ghost use Rattle.tables.specs.inner.Tables.{Shaped};
-ghost use Rattle.tables.specs.Calls.{in_range, shapeFor, sentLeaves};
+ghost use Rattle.tables.specs.Calls.{in_range, shape_for, sent_leaves};
 
 use crate::rests::Shape;
 use rules::Rule;
@@ -40,7 +40,7 @@ pub fn fits(rule: Rule, d: usize) -> bool
 // The shape of the tables: at least sixteen rows, for that many are taken at a time.
 fn shape_of(rule: Rule) -> Shape
     requires { ((2 ≤ rule.p) × (rule.p ≤ 6)) × ((2 ≤ rule.k) × (rule.k ≤ 3)) }
-    ensures shape { result ≡ shapeFor rule.p rule.k rule.greatest }
+    ensures shape { result ≡ shape_for rule.p rule.k rule.greatest }
     ensures fits { Shaped result.q result.l result.k × (4 ≤ result.q) }
 {
     let q = 1usize << rule.p;
@@ -57,7 +57,7 @@ fn shape_of(rule: Rule) -> Shape
 // ^ p and at least 16. A line has in row a the rest of the symbol whose weighted difference from the decision is a, and 0 in rows from
 // 2 ^ p on. Nothing changes where p is not 2 to 6, k not 2 to 3, d not 2 to 32, or a slice too short.
 pub fn sent(rule: Rule, d: usize, lines: &[u8], out: &mut [u8])
-    ensures { out.new ≡ sentLeaves rule.p rule.k rule.greatest d lines.now out.old }
+    ensures { out.new ≡ sent_leaves rule.p rule.k rule.greatest d lines.now out.old }
 {
     if !fits(rule, d) {
         return;

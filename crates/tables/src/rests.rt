@@ -1,7 +1,7 @@
 // Rests of 255: what a cost leaves of one. The shape of tables, and where their parts start.
 ghost use Rattle.std.specs.Prelude.{◌≡◌, ◌+◌, ◌-◌, ◌*◌, ◌%◌, ◌≤◌, ◌<◌};
-ghost use Rattle.trellis.specs.Sizes.{mostDegree};
-ghost use Rattle.tables.specs.inner.Lanes.{cut, taken, twoOf};
+ghost use Rattle.trellis.specs.Sizes.{most_degree};
+ghost use Rattle.tables.specs.inner.Lanes.{cut, taken, two_of};
 
 // Tables of l rows, of which q are asked for; one for each number of deviations from 1 to k; costs joined to their sum, or to their
 // greatest.
@@ -50,7 +50,7 @@ pub fn take(greatest: bool, u: u8) -> u8
 
 // The better of what is left of s and of t.
 pub fn two(greatest: bool, x: u8, s: u8, y: u8, t: u8) -> u8
-    ensures { result ≡ twoOf greatest x s y t }
+    ensures { result ≡ two_of greatest x s y t }
 {
     scalar::max_u8(meet(greatest, s, x), meet(greatest, t, y))
 }
@@ -65,7 +65,7 @@ pub fn next(v: usize, n: usize) -> usize
 
 // Where part j of n parts, each width long, starts.
 pub fn part_at(j: usize, n: usize, width: usize) -> usize
-    requires { (j < n) × ((n ≤ mostDegree) × (width ≤ 192)) }
+    requires { (j < n) × ((n ≤ most_degree) × (width ≤ 192)) }
     ensures { (result ≡ j * width) × ((result + width ≤ n * width) × (n * width ≤ 6144)) }
 {
     j * width

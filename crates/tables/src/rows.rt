@@ -1,8 +1,8 @@
 // The rests of the costs sent to each column, from the tables before and after it.
 ghost use Rattle.std.specs.Prelude.{◌≡◌, ◌+◌, ◌-◌, ◌*◌, ◌≤◌, ◌<◌, length};
 ghost use Rattle.trellis.specs.Lists.{blocks, part, patch};
-ghost use Rattle.trellis.specs.Sizes.{mostDegree};
-ghost use Rattle.tables.specs.inner.Tables.{Shaped, on, risenIn, metIn, grownList, afterTo, beforeTo, lastTable, sentTo, sentRows};
+ghost use Rattle.trellis.specs.Sizes.{most_degree};
+ghost use Rattle.tables.specs.inner.Tables.{Shaped, on, risen_in, met_in, grown_list, after_to, before_to, last_table, sent_to, sent_rows};
 
 use crate::rests::Shape;
 use crate::{block, copies, grow, join, rests};
@@ -17,7 +17,7 @@ const COPIES: usize = 16;
 fn apart(shape: Shape, before: &[u8], after: &[u8], out: &mut [u8])
     requires shaped { Shaped shape.q shape.l shape.k }
     requires before_len { (length before.now ≡ shape.k * shape.l) × ((length after.now ≡ shape.k * shape.l) × (length out.old ≡ shape.l)) }
-    ensures { out.new ≡ on shape sentTo before.now after.now 0 }
+    ensures { out.new ≡ on shape sent_to before.now after.now 0 }
 {
     let l = shape.l;
     let a = rests::part_at(shape.k - 1, shape.k, l);
@@ -39,8 +39,8 @@ fn rise_both(
     requires shaped { Shaped shape.q shape.l shape.k }
     requires le_j { ((1 ≤ j) × (j < shape.k)) × ((length before.old ≡ shape.k * shape.l) × (length after.now ≡ shape.k * shape.l)) }
     requires line_len { (length line.now ≡ shape.l) × ((length c.old ≡ 16 * shape.l) × (length out.old ≡ shape.l)) }
-    ensures before_then { before.new ≡ on shape risenIn line.now before.old j }
-    ensures out_then { out.new ≡ on shape metIn before.old after.now out.old j }
+    ensures before_then { before.new ≡ on shape risen_in line.now before.old j }
+    ensures out_then { out.new ≡ on shape met_in before.old after.now out.old j }
 {
     let l = shape.l;
     let m = rests::part_at(j, shape.k, l);
@@ -57,8 +57,8 @@ fn pass(shape: Shape, after: &[u8], line: &[u8], before: &mut [u8], c: &mut [u8]
     requires shaped { Shaped shape.q shape.l shape.k }
     requires before_len { (length before.old ≡ shape.k * shape.l) × (length after.now ≡ shape.k * shape.l) }
     requires line_len { (length line.now ≡ shape.l) × ((length c.old ≡ 16 * shape.l) × (length out.old ≡ shape.l)) }
-    ensures before_then { before.new ≡ on shape grownList line.now before.old }
-    ensures out_then { out.new ≡ on shape sentTo before.old after.now (shape.k - 1) }
+    ensures before_then { before.new ≡ on shape grown_list line.now before.old }
+    ensures out_then { out.new ≡ on shape sent_to before.old after.now (shape.k - 1) }
 {
     let l = shape.l;
     apart(shape, before, after, out);
@@ -82,13 +82,13 @@ fn pass_at(
     out: &mut [u8],
 )
     requires shaped { Shaped shape.q shape.l shape.k }
-    requires le_n { ((1 ≤ n) × (n + 1 < d)) × ((d ≤ mostDegree) × (length lines.now ≡ d * shape.l)) }
+    requires le_n { ((1 ≤ n) × (n + 1 < d)) × ((d ≤ most_degree) × (length lines.now ≡ d * shape.l)) }
     requires before_len { (length before.old ≡ shape.k * shape.l) × (length after.now ≡ (d - 1) * (shape.k * shape.l)) }
     requires c_len { (length c.old ≡ 16 * shape.l) × (length out.old ≡ d * shape.l) }
-    ensures before_then { before.new ≡ on shape grownList (part lines.now (n * shape.l) shape.l) before.old }
+    ensures before_then { before.new ≡ on shape grown_list (part lines.now (n * shape.l) shape.l) before.old }
     ensures out_then { out.new
         ≡ patch out.old (n * shape.l) shape.l
-        (on shape sentTo before.old
+        (on shape sent_to before.old
         (part after.now ((d - 2 - n) * (shape.k * shape.l)) (shape.k * shape.l)) (shape.k - 1)) }
 {
     let l = shape.l;
@@ -103,8 +103,8 @@ fn pass_at(
 // The last of k tables as row n of d.
 fn end(shape: Shape, d: usize, n: usize, tables: &[u8], out: &mut [u8])
     requires shaped { Shaped shape.q shape.l shape.k }
-    requires n_lt_d { ((n < d) × (d ≤ mostDegree)) × ((length tables.now ≡ shape.k * shape.l) × (length out.old ≡ d * shape.l)) }
-    ensures { out.new ≡ patch out.old (n * shape.l) shape.l (lastTable shape.l shape.k tables.now) }
+    requires n_lt_d { ((n < d) × (d ≤ most_degree)) × ((length tables.now ≡ shape.k * shape.l) × (length out.old ≡ d * shape.l)) }
+    ensures { out.new ≡ patch out.old (n * shape.l) shape.l (last_table shape.l shape.k tables.now) }
 {
     let l = shape.l;
     let t = rests::part_at(shape.k - 1, shape.k, l);
@@ -117,12 +117,12 @@ fn end(shape: Shape, d: usize, n: usize, tables: &[u8], out: &mut [u8])
 // The first row, which has no column before it, and the tables over the first column.
 fn first(shape: Shape, d: usize, lines: &[u8], after: &[u8], before: &mut [u8], out: &mut [u8])
     requires shaped { Shaped shape.q shape.l shape.k }
-    requires le_d { ((2 ≤ d) × (d ≤ mostDegree)) × ((length lines.now ≡ d * shape.l) × (length out.old ≡ d * shape.l)) }
+    requires le_d { ((2 ≤ d) × (d ≤ most_degree)) × ((length lines.now ≡ d * shape.l) × (length out.old ≡ d * shape.l)) }
     requires before_len { (length before.old ≡ shape.k * shape.l) × (length after.now ≡ (d - 1) * (shape.k * shape.l)) }
-    ensures before_then { before.new ≡ on shape beforeTo lines.now 0 }
+    ensures before_then { before.new ≡ on shape before_to lines.now 0 }
     ensures out_then { out.new
         ≡ patch out.old (0 * shape.l) shape.l
-        (lastTable shape.l shape.k (part after.now ((d - 2) * (shape.k * shape.l)) (shape.k * shape.l))) }
+        (last_table shape.l shape.k (part after.now ((d - 2) * (shape.k * shape.l)) (shape.k * shape.l))) }
 {
     let l = shape.l;
     let w = before.len();
@@ -143,10 +143,10 @@ fn all(
     out: &mut [u8],
 )
     requires shaped { Shaped shape.q shape.l shape.k }
-    requires le_d { ((2 ≤ d) × (d ≤ mostDegree)) × ((length lines.now ≡ d * shape.l) × (length out.old ≡ d * shape.l)) }
+    requires le_d { ((2 ≤ d) × (d ≤ most_degree)) × ((length lines.now ≡ d * shape.l) × (length out.old ≡ d * shape.l)) }
     requires before_len { (length before.old ≡ shape.k * shape.l) × (length c.old ≡ 16 * shape.l) }
-    requires after_value { after.now ≡ blocks (on shape afterTo lines.now d) (d - 1) }
-    ensures { out.new ≡ on shape sentRows lines.now d }
+    requires after_value { after.now ≡ blocks (on shape after_to lines.now d) (d - 1) }
+    ensures { out.new ≡ on shape sent_rows lines.now d }
 {
     first(shape, d, lines, after, before, out);
     let mut n = 1;
@@ -168,10 +168,10 @@ fn sent_in(
     out: &mut [u8],
 )
     requires shaped { Shaped shape.q shape.l shape.k }
-    requires le_d { ((2 ≤ d) × (d ≤ mostDegree)) × ((length lines.now ≡ d * shape.l) × (length out.old ≡ d * shape.l)) }
+    requires le_d { ((2 ≤ d) × (d ≤ most_degree)) × ((length lines.now ≡ d * shape.l) × (length out.old ≡ d * shape.l)) }
     requires table_len { (length table.old ≡ shape.k * shape.l) × (length c.old ≡ 16 * shape.l) }
     requires after_len { length after.old ≡ (d - 1) * (shape.k * shape.l) }
-    ensures { out.new ≡ on shape sentRows lines.now d }
+    ensures { out.new ≡ on shape sent_rows lines.now d }
 {
     grow::after_all(shape, d, lines, table, c, after);
     all(shape, d, lines, after, table, c, out);
@@ -188,9 +188,9 @@ fn with_room(
     out: &mut [u8],
 )
     requires shaped { Shaped shape.q shape.l shape.k }
-    requires le_d { ((2 ≤ d) × (d ≤ mostDegree)) × ((length lines.now ≡ d * shape.l) × (length out.old ≡ d * shape.l)) }
+    requires le_d { ((2 ≤ d) × (d ≤ most_degree)) × ((length lines.now ≡ d * shape.l) × (length out.old ≡ d * shape.l)) }
     requires l_in_bounds { (93 * shape.l ≤ length after.old) × ((3 * shape.l ≤ length table.old) × (16 * shape.l ≤ length c.old)) }
-    ensures { out.new ≡ on shape sentRows lines.now d }
+    ensures { out.new ≡ on shape sent_rows lines.now d }
 {
     let w = shape.k * shape.l;
     let n = (d - 1) * w;
@@ -209,9 +209,9 @@ fn with_room(
 // Tables of 16 rows: p up to 4. The room is for k = 3 and 32 columns.
 fn small(shape: Shape, d: usize, lines: &[u8], out: &mut [u8])
     requires shaped { Shaped shape.q shape.l shape.k }
-    requires le_d { ((2 ≤ d) × (d ≤ mostDegree)) × ((length lines.now ≡ d * shape.l) × (length out.old ≡ d * shape.l)) }
+    requires le_d { ((2 ≤ d) × (d ≤ most_degree)) × ((length lines.now ≡ d * shape.l) × (length out.old ≡ d * shape.l)) }
     requires l_value { shape.l ≡ 16 }
-    ensures { out.new ≡ on shape sentRows lines.now d }
+    ensures { out.new ≡ on shape sent_rows lines.now d }
 {
     let mut after = [0u8; AFTER * sizes::SMALL_SIZE];
     let mut table = [0u8; sizes::MOST_DEVIATIONS * sizes::SMALL_SIZE];
@@ -222,8 +222,8 @@ fn small(shape: Shape, d: usize, lines: &[u8], out: &mut [u8])
 // Tables of 32 and 64 rows.
 fn large(shape: Shape, d: usize, lines: &[u8], out: &mut [u8])
     requires shaped { Shaped shape.q shape.l shape.k }
-    requires le_d { ((2 ≤ d) × (d ≤ mostDegree)) × ((length lines.now ≡ d * shape.l) × (length out.old ≡ d * shape.l)) }
-    ensures { out.new ≡ on shape sentRows lines.now d }
+    requires le_d { ((2 ≤ d) × (d ≤ most_degree)) × ((length lines.now ≡ d * shape.l) × (length out.old ≡ d * shape.l)) }
+    ensures { out.new ≡ on shape sent_rows lines.now d }
 {
     let mut after = [0u8; AFTER * sizes::MOST_SIZE];
     let mut table = [0u8; sizes::MOST_DEVIATIONS * sizes::MOST_SIZE];
@@ -234,8 +234,8 @@ fn large(shape: Shape, d: usize, lines: &[u8], out: &mut [u8])
 // All rows, with the room that they take: small tables have less to clear.
 pub fn rows(shape: Shape, d: usize, lines: &[u8], out: &mut [u8])
     requires shaped { Shaped shape.q shape.l shape.k }
-    requires le_d { ((2 ≤ d) × (d ≤ mostDegree)) × ((length lines.now ≡ d * shape.l) × (length out.old ≡ d * shape.l)) }
-    ensures { out.new ≡ on shape sentRows lines.now d }
+    requires le_d { ((2 ≤ d) × (d ≤ most_degree)) × ((length lines.now ≡ d * shape.l) × (length out.old ≡ d * shape.l)) }
+    ensures { out.new ≡ on shape sent_rows lines.now d }
 {
     if shape.l == 16 {
         small(shape, d, lines, out);

@@ -9,43 +9,43 @@ use native.Mathlib.Omega.{arith}
 use lib.Dec.{leb}
 use lib.ListN.{length, get_or}
 use borrow.Author.Tests.{le-leb, lt-leb, leb-true}
-use Rattle.trellis.specs.Lists.{pick, allTo}
-use Rattle.machine.specs.Line.{isDigit, digit}
-use Rattle.text.specs.inner.Digits.{digitAnswer, allDigits, digitsFault}
+use Rattle.trellis.specs.Lists.{pick, all_to}
+use Rattle.machine.specs.Line.{is_digit, digit}
+use Rattle.text.specs.inner.Digits.{digit_answer, all_digits, digits_fault}
 use Rattle.text.specs.declared.hex.Digit.TheVariants.{Is, Refused}
 
-pub at-digit : (b : ℕ) → 48 ≤ b → b ≤ 57 → Is (b - 48) ≡ digitAnswer b
+pub at-digit : (b : ℕ) → 48 ≤ b → b ≤ 57 → Is (b - 48) ≡ digit_answer b
 at-digit b p q = simp (le-leb 48 b p, le-leb b 57 q)
 
-pub at-letter : (b : ℕ) → 65 ≤ b → b ≤ 70 → Is (b - 65 + 10) ≡ digitAnswer b
-at-letter b p q = simp (le-leb 48 b (omega arith), lt-leb b 57 (omega arith), le-leb 65 b p, le-leb b 70 q)
+pub at_letter : (b : ℕ) → 65 ≤ b → b ≤ 70 → Is (b - 65 + 10) ≡ digit_answer b
+at_letter b p q = simp (le-leb 48 b (omega arith), lt-leb b 57 (omega arith), le-leb 65 b p, le-leb b 70 q)
 
-pub at-below : (b : ℕ) → b < 48 → Refused 14 ≡ digitAnswer b
+pub at-below : (b : ℕ) → b < 48 → Refused 14 ≡ digit_answer b
 at-below b p = simp (lt-leb 48 b p, lt-leb 65 b (omega arith))
 
-pub at-between : (b : ℕ) → 57 < b → b < 65 → Refused 14 ≡ digitAnswer b
+pub at-between : (b : ℕ) → 57 < b → b < 65 → Refused 14 ≡ digit_answer b
 at-between b p q = simp (le-leb 48 b (omega arith), lt-leb b 57 p, lt-leb 65 b q)
 
-pub at_above : (b : ℕ) → 70 < b → Refused 14 ≡ digitAnswer b
+pub at_above : (b : ℕ) → 70 < b → Refused 14 ≡ digit_answer b
 at_above b p = simp (le-leb 48 b (omega arith), lt-leb b 57 (omega arith), le-leb 65 b (omega arith), lt-leb b 70 p)
 
 -- what the two answers say of the byte
-pub told-digit : (b v : ℕ) → digitAnswer b ≡ Is v → (isDigit b ≡ true) × (v ≡ digit b)
-told-digit b v e = go (isDigit b) e
+pub told_digit : (b v : ℕ) → digit_answer b ≡ Is v → (is_digit b ≡ true) × (v ≡ digit b)
+told_digit b v e = go (is_digit b) e
   where
     go : (t : Bool) → pick t (Is (digit b)) (Refused 14) ≡ Is v → (t ≡ true) × (v ≡ digit b)
     go true k = (refl, cc)
     go false k = let z : ◌≡◌ {A = ℕ} 0 1 = cc in absurd (omega arith)
 
-pub told-other : (b k : ℕ) → digitAnswer b ≡ Refused k → isDigit b ≡ false
-told-other b k e = go (isDigit b) e
+pub told_other : (b k : ℕ) → digit_answer b ≡ Refused k → is_digit b ≡ false
+told_other b k e = go (is_digit b) e
   where
     go : (t : Bool) → pick t (Is (digit b)) (Refused 14) ≡ Refused k → t ≡ false
     go true j = let z : ◌≡◌ {A = ℕ} 0 1 = cc in absurd (omega arith)
     go false j = refl
 
 -- four bits hold a digit
-pub digit-small : (b : ℕ) → isDigit b ≡ true → digit b < 16
+pub digit-small : (b : ℕ) → is_digit b ≡ true → digit b < 16
 digit-small b e = go (leb b 57) refl (leb 65 b) (leb b 70) refl e
   where
     go : (t : Bool) → leb b 57 ≡ t → (u v : Bool) → leb b 70 ≡ v → ((leb 48 b && t) || (u && v)) ≡ true → pick t (b - 48) (b - 65 + 10) < 16
@@ -54,15 +54,15 @@ digit-small b e = go (leb b 57) refl (leb 65 b) (leb b 70) refl e
     go false p u false q e = absurd (true≢false (sym (rw (and-false (leb 48 b), and-false u) at e)))
 
 -- a test that fails at i fails however many come after it
-pub all-not : (f : ℕ → Bool) (i n : ℕ) → i < n → f i ≡ false → allTo f n ≡ false
+pub all-not : (f : ℕ → Bool) (i n : ℕ) → i < n → f i ≡ false → all_to f n ≡ false
 all-not f i zero h e = absurd (not-suc-le-zero h)
 all-not f i (suc n) h e =
     elim (ℕ_discrete i n) [
-      | yes j ↦ rw (← j, e, and-false (allTo f i))
+      | yes j ↦ rw (← j, e, and-false (all_to f i))
       | no j ↦ rw (all-not f i n (omega arith) e)
     ]
 
-pub all-at : (f : ℕ → Bool) (i n : ℕ) → i < n → allTo f n ≡ true → f i ≡ true
+pub all-at : (f : ℕ → Bool) (i n : ℕ) → i < n → all_to f n ≡ true → f i ≡ true
 all-at f i n h e = go (f i) refl
   where
     go : (t : Bool) → f i ≡ t → t ≡ true
@@ -70,28 +70,28 @@ all-at f i n h e = go (f i) refl
     go false k = sym (all-not f i n h k) ∙ e
 
 -- the number of the first byte that is no digit, and none
-pub told-fault : (t : List ℕ) (i k : ℕ) → i < length t → digitAnswer (get_or t i 0) ≡ Refused k → k ≡ digitsFault t (length t)
-told-fault t i k h e =
-    let n : k ≡ 14 = go (isDigit (get_or t i 0)) e in
-    let f : allDigits t (length t) ≡ false = all-not (λ j. isDigit (get_or t j 0)) i (length t) h (told-other (get_or t i 0) k e) in
+pub told_fault : (t : List ℕ) (i k : ℕ) → i < length t → digit_answer (get_or t i 0) ≡ Refused k → k ≡ digits_fault t (length t)
+told_fault t i k h e =
+    let n : k ≡ 14 = go (is_digit (get_or t i 0)) e in
+    let f : all_digits t (length t) ≡ false = all-not (λ j. is_digit (get_or t j 0)) i (length t) h (told_other (get_or t i 0) k e) in
     rw f n
   where
     go : (b : Bool) → pick b (Is (digit (get_or t i 0))) (Refused 14) ≡ Refused k → k ≡ 14
     go true j = let z : ◌≡◌ {A = ℕ} 0 1 = cc in absurd (omega arith)
     go false j = cc
 
-pub no-fault : (t : List ℕ) → allDigits t (length t) ≡ true → 0 ≡ digitsFault t (length t)
-no-fault t e = rw e refl
+pub no_fault : (t : List ℕ) → all_digits t (length t) ≡ true → 0 ≡ digits_fault t (length t)
+no_fault t e = rw e refl
 
-pub fault-none : (t : List ℕ) → digitsFault t (length t) ≡ 0 → allDigits t (length t) ≡ true
-fault-none t e = go (allDigits t (length t)) e
+pub fault_none : (t : List ℕ) → digits_fault t (length t) ≡ 0 → all_digits t (length t) ≡ true
+fault_none t e = go (all_digits t (length t)) e
   where
     go : (b : Bool) → ◌≡◌ {A = ℕ} (pick b 0 14) 0 → b ≡ true
     go true k = refl
     go false k = absurd (omega arith)
 
-pub fault-some : (t : List ℕ) (k : ℕ) → k ≡ digitsFault t (length t) → (k ≡ 0 → ⊥) → (allDigits t (length t) ≡ false) × (k ≡ 14)
-fault-some t k e h = go (allDigits t (length t)) e
+pub fault_some : (t : List ℕ) (k : ℕ) → k ≡ digits_fault t (length t) → (k ≡ 0 → ⊥) → (all_digits t (length t) ≡ false) × (k ≡ 14)
+fault_some t k e h = go (all_digits t (length t)) e
   where
     go : (b : Bool) → k ≡ pick b 0 14 → (b ≡ false) × (k ≡ 14)
     go true j = absurd (h j)

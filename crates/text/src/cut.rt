@@ -1,8 +1,8 @@
 // The input cut into lines, block by block, and its end.
 ghost use Rattle.std.specs.Prelude.{◌≡◌, false, [], ◌∷◌, ◌++◌, ◌+◌, ◌*◌, ◌≤◌, length, take, drop};
-ghost use Rattle.trellis.specs.Sizes.{lineRoom, mostLineBytes, mostPrinted};
-ghost use Rattle.machine.specs.inner.Blocks.{fedOut, closeOut};
-ghost use Rattle.text.specs.inner.Held.{heldIn, keptOf, put_at, toNewline, KeepsPart, fedHeld, quiet, closeHeld};
+ghost use Rattle.trellis.specs.Sizes.{line_room, most_line_bytes, most_printed};
+ghost use Rattle.machine.specs.inner.Blocks.{fed_out, close_out};
+ghost use Rattle.text.specs.inner.Held.{held_in, kept_of, put_at, to_newline, KeepsPart, fed_held, quiet, close_held};
 
 use crate::line_end;
 use crate::state::State;
@@ -11,7 +11,7 @@ use scalar::sizes;
 // "Lines end in byte 0A": the place of the first one from `at` on, or the end.
 fn newline(bytes: &[u8], at: usize) -> usize
     requires { at ≤ length bytes.now }
-    ensures { (result ≡ at + toNewline (drop at bytes.now)) × (result ≤ length bytes.now) }
+    ensures { (result ≡ at + to_newline (drop at bytes.now)) × (result ≤ length bytes.now) }
 {
     let mut i = at;
     while i < bytes.len() {
@@ -46,15 +46,15 @@ fn keep(st: State, part: &[u8], line: &mut [u8]) -> State
 
 // A part of a line, and its end.
 fn whole(st: State, part: &[u8], line: &mut [u8], code: &mut [u8], out: &mut [u8]) -> State
-    requires line_len { (length line.old ≡ lineRoom) × ((length code.old ≡ mostLineBytes)
-        × ((st.ended ≡ false) × (toNewline part.now ≡ length part.now))) }
-    requires part_in_bounds { st.full + length (fedOut (keptOf (heldIn st line.old code.old)) (part.now ++ (0x0A ∷ []))) ≤ length out.old }
-    ensures held { heldIn result line.new code.new
-        ≡ fedHeld (heldIn st line.old code.old) (part.now ++ (0x0A ∷ [])) }
-    ensures full { result.full ≡ st.full + length (fedOut (keptOf (heldIn st line.old code.old))
+    requires line_len { (length line.old ≡ line_room) × ((length code.old ≡ most_line_bytes)
+        × ((st.ended ≡ false) × (to_newline part.now ≡ length part.now))) }
+    requires part_in_bounds { st.full + length (fed_out (kept_of (held_in st line.old code.old)) (part.now ++ (0x0A ∷ []))) ≤ length out.old }
+    ensures held { held_in result line.new code.new
+        ≡ fed_held (held_in st line.old code.old) (part.now ++ (0x0A ∷ [])) }
+    ensures full { result.full ≡ st.full + length (fed_out (kept_of (held_in st line.old code.old))
         (part.now ++ (0x0A ∷ []))) }
     ensures out_then { out.new
-        ≡ put_at out.old st.full (fedOut (keptOf (heldIn st line.old code.old))
+        ≡ put_at out.old st.full (fed_out (kept_of (held_in st line.old code.old))
         (part.now ++ (0x0A ∷ []))) }
 {
     let s = keep(st, part, line);
@@ -63,13 +63,13 @@ fn whole(st: State, part: &[u8], line: &mut [u8], code: &mut [u8], out: &mut [u8
 
 // A block, line by line; no byte counts once the program has ended.
 fn feed_over(st: State, bytes: &[u8], line: &mut [u8], code: &mut [u8], out: &mut [u8]) -> State
-    requires { (length line.old ≡ lineRoom) × ((length code.old ≡ mostLineBytes)
+    requires { (length line.old ≡ line_room) × ((length code.old ≡ most_line_bytes)
         × ((st.full ≡ 0) × (512 + 5 * length bytes.now ≤ length out.old))) }
-    ensures held { heldIn result line.new code.new
-        ≡ fedHeld (heldIn st line.old code.old) bytes.now }
-    ensures full { result.full ≡ length (fedOut (keptOf (heldIn st line.old code.old)) bytes.now) }
+    ensures held { held_in result line.new code.new
+        ≡ fed_held (held_in st line.old code.old) bytes.now }
+    ensures full { result.full ≡ length (fed_out (kept_of (held_in st line.old code.old)) bytes.now) }
     ensures out_then { out.new
-        ≡ put_at out.old 0 (fedOut (keptOf (heldIn st line.old code.old)) bytes.now) }
+        ≡ put_at out.old 0 (fed_out (kept_of (held_in st line.old code.old)) bytes.now) }
 {
     let mut s = st;
     let mut at = 0;
@@ -95,14 +95,14 @@ pub fn feed_in(
     code: &mut [u8],
     out: &mut [u8],
 ) -> State
-    requires { (length line.old ≡ lineRoom) × ((length code.old ≡ mostLineBytes)
+    requires { (length line.old ≡ line_room) × ((length code.old ≡ most_line_bytes)
         × ((n ≤ length block.now) × (512 + 5 * n ≤ length out.old))) }
-    ensures held { heldIn result line.new code.new
-        ≡ fedHeld (heldIn st line.old code.old) (take n block.now) }
+    ensures held { held_in result line.new code.new
+        ≡ fed_held (held_in st line.old code.old) (take n block.now) }
     ensures full { result.full
-        ≡ length (fedOut (keptOf (heldIn st line.old code.old)) (take n block.now)) }
+        ≡ length (fed_out (kept_of (held_in st line.old code.old)) (take n block.now)) }
     ensures out_then { out.new
-        ≡ put_at out.old 0 (fedOut (keptOf (heldIn st line.old code.old)) (take n block.now)) }
+        ≡ put_at out.old 0 (fed_out (kept_of (held_in st line.old code.old)) (take n block.now)) }
 {
     let s = State {
         len: st.len,
@@ -128,11 +128,11 @@ fn silent(st: State) -> bool
 
 // The end of the input: what is printed for what is kept, and how many bytes that are.
 pub fn close_in(st: State, line: &[u8], code: &mut [u8], out: &mut [u8]) -> usize
-    requires { (length line.now ≡ lineRoom) × ((length code.old ≡ mostLineBytes) × (length out.old ≡ mostPrinted)) }
-    ensures written { result ≡ length (closeOut (keptOf (heldIn st line.now code.old))) }
-    ensures code_then { code.new ≡ (closeHeld (heldIn st line.now code.old)).bytes }
+    requires { (length line.now ≡ line_room) × ((length code.old ≡ most_line_bytes) × (length out.old ≡ most_printed)) }
+    ensures written { result ≡ length (close_out (kept_of (held_in st line.now code.old))) }
+    ensures code_then { code.new ≡ (close_held (held_in st line.now code.old)).bytes }
     ensures out_then { out.new
-        ≡ put_at out.old 0 (closeOut (keptOf (heldIn st line.now code.old))) }
+        ≡ put_at out.old 0 (close_out (kept_of (held_in st line.now code.old))) }
 {
     if silent(st) {
         return 0;

@@ -1,8 +1,8 @@
 // A line of text: hexadecimal digits, two a byte.
 ghost use Rattle.std.specs.Prelude.{◌≡◌, true, ◌++◌, ◌/◌, ◌<◌, ◌≤◌, length, drop};
-ghost use Rattle.field.specs.Answers.{writtenReply};
-ghost use Rattle.machine.specs.Line.{isDigit, digit, lineBytes, lineReply, lineLeaves};
-ghost use Rattle.text.specs.inner.Digits.{digitAnswer, digitsFault, allDigits};
+ghost use Rattle.field.specs.Answers.{written_reply};
+ghost use Rattle.machine.specs.Line.{is_digit, digit, line_bytes, line_reply, line_leaves};
+ghost use Rattle.text.specs.inner.Digits.{digit_answer, digits_fault, all_digits};
 
 use field::Written;
 use scalar::sizes;
@@ -16,7 +16,7 @@ enum Digit {
 
 // "hexadecimal digits 0-9 and A-F"; "14, .. another byte".
 fn value(b: u8) -> Digit
-    ensures { result ≡ digitAnswer b }
+    ensures { result ≡ digit_answer b }
 {
     match b {
         b'0'..=b'9' => Digit::Is(b - b'0'),
@@ -27,7 +27,7 @@ fn value(b: u8) -> Digit
 
 // The number that refuses the first byte that is no digit; 0 if all are.
 pub fn fault(text: &[u8]) -> u8
-    ensures { result ≡ digitsFault text.now (length text.now) }
+    ensures { result ≡ digits_fault text.now (length text.now) }
 {
     let mut i = 0;
     while i < text.len() {
@@ -42,7 +42,7 @@ pub fn fault(text: &[u8]) -> u8
 
 // The value of a byte that is known to be a digit.
 fn nibble(b: u8) -> u8
-    requires { isDigit b ≡ true }
+    requires { is_digit b ≡ true }
     ensures { (result ≡ digit b) × (result < 16) }
 {
     match value(b) {
@@ -53,8 +53,8 @@ fn nibble(b: u8) -> u8
 
 // "two a byte".
 pub fn fill(text: &[u8], out: &mut [u8])
-    requires { (allDigits text.now (length text.now) ≡ true) × (length text.now / 2 ≤ length out.old) }
-    ensures { out.new ≡ lineBytes text.now ++ drop (length text.now / 2) out.old }
+    requires { (all_digits text.now (length text.now) ≡ true) × (length text.now / 2 ≤ length out.old) }
+    ensures { out.new ≡ line_bytes text.now ++ drop (length text.now / 2) out.old }
 {
     let n = text.len() / 2;
     let mut i = 0;
@@ -68,8 +68,8 @@ pub fn fill(text: &[u8], out: &mut [u8])
 
 // "Line: 15, 14, 2."; nothing is written before the last of these is tested.
 pub fn line(text: &[u8], out: &mut [u8]) -> Written
-    ensures reply { writtenReply result ≡ lineReply text.now out.old }
-    ensures out_then { out.new ≡ lineLeaves text.now out.old }
+    ensures reply { written_reply result ≡ line_reply text.now out.old }
+    ensures out_then { out.new ≡ line_leaves text.now out.old }
 {
     if sizes::MOST_LINE < text.len() {
         return Written::Refused(15);

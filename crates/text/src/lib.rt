@@ -7,11 +7,11 @@ mod print;
 pub mod state;
 
 ghost use Rattle.std.specs.Prelude.{◌≡◌, ◌++◌, length, take, drop};
-ghost use Rattle.field.specs.Answers.{writtenReply};
-ghost use Rattle.machine.specs.Line.{lineReply, lineLeaves};
-ghost use Rattle.machine.specs.Printing.{frameLine};
-ghost use Rattle.machine.specs.inner.Blocks.{fedOut, closeOut};
-ghost use Rattle.text.specs.inner.Held.{heldIn, keptOf, put_at, fedHeld, closeHeld};
+ghost use Rattle.field.specs.Answers.{written_reply};
+ghost use Rattle.machine.specs.Line.{line_reply, line_leaves};
+ghost use Rattle.machine.specs.Printing.{frame_line};
+ghost use Rattle.machine.specs.inner.Blocks.{fed_out, close_out};
+ghost use Rattle.text.specs.inner.Held.{held_in, kept_of, put_at, fed_held, close_held};
 
 use crate::state::State;
 use field::Written;
@@ -19,8 +19,8 @@ use scalar::sizes;
 
 // The bytes of a line of text. "Line: 15, 14, 2."; nothing is written before the last of these is tested.
 pub fn line(text: &[u8], out: &mut [u8]) -> Written
-    ensures reply { writtenReply result ≡ lineReply text.now out.old }
-    ensures out_then { out.new ≡ lineLeaves text.now out.old }
+    ensures reply { written_reply result ≡ line_reply text.now out.old }
+    ensures out_then { out.new ≡ line_leaves text.now out.old }
 {
     hex::line(text, out)
 }
@@ -28,10 +28,10 @@ pub fn line(text: &[u8], out: &mut [u8]) -> Written
 // The line that the program prints for a frame's line of text, with its end, and how many bytes it has. The longest has 517 bytes: 256
 // symbols, and 2 + 2 + 1.
 pub fn frame_line(code: &[u8], text: &[u8], out: &mut [u8; sizes::MOST_PRINTED]) -> usize
-    ensures written { result ≡ length (frameLine code.now text.now) }
+    ensures written { result ≡ length (frame_line code.now text.now) }
     ensures out_then { out.new
-        ≡ frameLine code.now text.now
-        ++ drop (length (frameLine code.now text.now)) out.old }
+        ≡ frame_line code.now text.now
+        ++ drop (length (frame_line code.now text.now)) out.old }
 {
     print::frame_line(code, text, out)
 }
@@ -46,12 +46,12 @@ pub fn feed(
     code: &mut [u8; sizes::MOST_LINE_BYTES],
     out: &mut [u8; sizes::MOST_BLOCK_PRINTED],
 ) -> State
-    ensures held { heldIn result line.new code.new
-        ≡ fedHeld (heldIn st line.old code.old) (take n block.now) }
+    ensures held { held_in result line.new code.new
+        ≡ fed_held (held_in st line.old code.old) (take n block.now) }
     ensures full { result.full
-        ≡ length (fedOut (keptOf (heldIn st line.old code.old)) (take n block.now)) }
+        ≡ length (fed_out (kept_of (held_in st line.old code.old)) (take n block.now)) }
     ensures out_then { out.new
-        ≡ put_at out.old 0 (fedOut (keptOf (heldIn st line.old code.old)) (take n block.now)) }
+        ≡ put_at out.old 0 (fed_out (kept_of (held_in st line.old code.old)) (take n block.now)) }
 {
     let k = scalar::min_usize(n, sizes::MOST_BLOCK);
     cut::feed_in(st, block, k, line, code, out)
@@ -65,10 +65,10 @@ pub fn close(
     code: &mut [u8; sizes::MOST_LINE_BYTES],
     out: &mut [u8; sizes::MOST_PRINTED],
 ) -> usize
-    ensures written { result ≡ length (closeOut (keptOf (heldIn st line.now code.old))) }
-    ensures code_then { code.new ≡ (closeHeld (heldIn st line.now code.old)).bytes }
+    ensures written { result ≡ length (close_out (kept_of (held_in st line.now code.old))) }
+    ensures code_then { code.new ≡ (close_held (held_in st line.now code.old)).bytes }
     ensures out_then { out.new
-        ≡ put_at out.old 0 (closeOut (keptOf (heldIn st line.now code.old))) }
+        ≡ put_at out.old 0 (close_out (kept_of (held_in st line.now code.old))) }
 {
     cut::close_in(st, line, code, out)
 }

@@ -1,11 +1,11 @@
 // What happens where a line ends: the code line is read and kept or refused, a frame is printed.
 ghost use Rattle.std.specs.Prelude.{◌≡◌, false, not, ◌++◌, ◌+◌, ◌≤◌, length, take, drop};
-ghost use Rattle.trellis.specs.Sizes.{lineRoom, mostLineBytes};
-ghost use Rattle.machine.specs.Printing.{frameLine};
+ghost use Rattle.trellis.specs.Sizes.{line_room, most_line_bytes};
+ghost use Rattle.machine.specs.Printing.{frame_line};
 ghost use Rattle.machine.specs.Program.{read_code};
-ghost use Rattle.machine.specs.inner.Blocks.{codeOut, lineFinishedOut};
+ghost use Rattle.machine.specs.inner.Blocks.{code_out, line_finished_out};
 ghost use Rattle.trellis.specs.Lists.{pick};
-ghost use Rattle.text.specs.inner.Held.{heldIn, keptOf, put_at, codeBytes, accepts, finishedHeld};
+ghost use Rattle.text.specs.inner.Held.{held_in, kept_of, put_at, code_bytes, accepts, finished_held};
 
 use crate::state::State;
 use crate::{hex, print};
@@ -32,18 +32,18 @@ fn print_in(
     out: &mut [u8],
     full: usize,
 ) -> usize
-    requires { full + length (frameLine code.now text.now) ≤ length out.old }
-    ensures written { result ≡ full + length (frameLine code.now text.now) }
-    ensures out_then { out.new ≡ put_at out.old full (frameLine code.now text.now) }
+    requires { full + length (frame_line code.now text.now) ≤ length out.old }
+    ensures written { result ≡ full + length (frame_line code.now text.now) }
+    ensures out_then { out.new ≡ put_at out.old full (frame_line code.now text.now) }
 {
     let n = print::frame_line(code, text, row);
     put(row, n, out, full)
 }
 
 fn print(code: &[u8], text: &[u8], out: &mut [u8], full: usize) -> usize
-    requires { full + length (frameLine code.now text.now) ≤ length out.old }
-    ensures written { result ≡ full + length (frameLine code.now text.now) }
-    ensures out_then { out.new ≡ put_at out.old full (frameLine code.now text.now) }
+    requires { full + length (frame_line code.now text.now) ≤ length out.old }
+    ensures written { result ≡ full + length (frame_line code.now text.now) }
+    ensures out_then { out.new ≡ put_at out.old full (frame_line code.now text.now) }
 {
     let mut row = [0u8; sizes::MOST_PRINTED];
     print_in(code, text, &mut row, out, full)
@@ -51,10 +51,10 @@ fn print(code: &[u8], text: &[u8], out: &mut [u8], full: usize) -> usize
 
 // The bytes of the code line; none if the line is refused.
 fn code_bytes(text: &[u8], code: &mut [u8]) -> usize
-    requires { length code.old ≡ mostLineBytes }
-    ensures written { (result ≡ length (codeBytes text.now)) × (result ≤ mostLineBytes) }
+    requires { length code.old ≡ most_line_bytes }
+    ensures written { (result ≡ length (code_bytes text.now)) × (result ≤ most_line_bytes) }
     ensures code_then { code.new
-        ≡ codeBytes text.now ++ drop (length (codeBytes text.now)) code.old }
+        ≡ code_bytes text.now ++ drop (length (code_bytes text.now)) code.old }
 {
     match hex::line(text, code) {
         Written::Bytes(n) => n,
@@ -73,14 +73,14 @@ fn accepted(code: &[u8]) -> bool
 
 // The code line read to its end: "a refused code line ends the program".
 fn finish_code(text: &[u8], code: &mut [u8], out: &mut [u8], full: usize) -> State
-    requires { (length code.old ≡ mostLineBytes) × (full + length (codeOut (read_code text.now)) ≤ length out.old) }
+    requires { (length code.old ≡ most_line_bytes) × (full + length (code_out (read_code text.now)) ≤ length out.old) }
     ensures held { (result.len ≡ 0)
-        × ((result.code ≡ pick (accepts (codeBytes text.now)) (length (codeBytes text.now)) 0)
-        × (result.ended ≡ not (accepts (codeBytes text.now)))) }
-    ensures full { result.full ≡ full + length (codeOut (read_code text.now)) }
+        × ((result.code ≡ pick (accepts (code_bytes text.now)) (length (code_bytes text.now)) 0)
+        × (result.ended ≡ not (accepts (code_bytes text.now)))) }
+    ensures full { result.full ≡ full + length (code_out (read_code text.now)) }
     ensures code_then { code.new
-        ≡ codeBytes text.now ++ drop (length (codeBytes text.now)) code.old }
-    ensures out_then { out.new ≡ put_at out.old full (codeOut (read_code text.now)) }
+        ≡ code_bytes text.now ++ drop (length (code_bytes text.now)) code.old }
+    ensures out_then { out.new ≡ put_at out.old full (code_out (read_code text.now)) }
 {
     let n = code_bytes(text, code);
     if accepted(&code[..n]) {
@@ -102,13 +102,13 @@ fn finish_code(text: &[u8], code: &mut [u8], out: &mut [u8], full: usize) -> Sta
 
 // A line read to its end.
 pub fn finish_line(st: State, line: &[u8], code: &mut [u8], out: &mut [u8]) -> State
-    requires { (length line.now ≡ lineRoom) × ((length code.old ≡ mostLineBytes) × ((st.ended ≡ false)
-        × (st.full + length (lineFinishedOut (keptOf (heldIn st line.now code.old))) ≤ length out.old))) }
-    ensures held { heldIn result line.now code.new
-        ≡ finishedHeld (heldIn st line.now code.old) }
-    ensures full { result.full ≡ st.full + length (lineFinishedOut (keptOf (heldIn st line.now code.old))) }
+    requires { (length line.now ≡ line_room) × ((length code.old ≡ most_line_bytes) × ((st.ended ≡ false)
+        × (st.full + length (line_finished_out (kept_of (held_in st line.now code.old))) ≤ length out.old))) }
+    ensures held { held_in result line.now code.new
+        ≡ finished_held (held_in st line.now code.old) }
+    ensures full { result.full ≡ st.full + length (line_finished_out (kept_of (held_in st line.now code.old))) }
     ensures out_then { out.new
-        ≡ put_at out.old st.full (lineFinishedOut (keptOf (heldIn st line.now code.old))) }
+        ≡ put_at out.old st.full (line_finished_out (kept_of (held_in st line.now code.old))) }
 {
     let t = scalar::min_usize(st.len, sizes::LINE_ROOM);
     let n = st.code;

@@ -1,10 +1,10 @@
 // The printed line of a frame: decoded from its line of text, and printed as two hexadecimal digits a byte.
 ghost use Rattle.std.specs.Prelude.{◌≡◌, ◌∷◌, ◌++◌, ◌+◌, ◌*◌, ◌<◌, ◌≤◌, length, drop};
-ghost use Rattle.trellis.specs.Sizes.{mostLineBytes, mostPrinted};
+ghost use Rattle.trellis.specs.Sizes.{most_line_bytes, most_printed};
 ghost use Rattle.machine.specs.CodeLine.{parse};
-ghost use Rattle.machine.specs.Printing.{digitOf, digitsOf, said, printed, ofFrame, frameLine};
-ghost use Rattle.layered.specs.Answers.{answerReply};
-ghost use Rattle.text.specs.inner.Lines.{asLine, over, DecodeRoom};
+ghost use Rattle.machine.specs.Printing.{digit_of, digits_of, said, printed, of_frame, frame_line};
+ghost use Rattle.layered.specs.Answers.{answer_reply};
+ghost use Rattle.text.specs.inner.Lines.{as_line, over, DecodeRoom};
 
 use crate::hex;
 use field::Written;
@@ -14,7 +14,7 @@ use scalar::sizes;
 // "hexadecimal digits 0-9 and A-F".
 fn digit(n: u8) -> u8
     requires { n < 16 }
-    ensures { result ≡ digitOf n }
+    ensures { result ≡ digit_of n }
 {
     if n < 10 { b'0' + n } else { b'A' + (n - 10) }
 }
@@ -22,7 +22,7 @@ fn digit(n: u8) -> u8
 // "two a byte".
 fn put(b: u8, out: &mut [u8])
     requires { length out.old ≡ 2 }
-    ensures { out.new ≡ digitsOf b }
+    ensures { out.new ≡ digits_of b }
 {
     out[0] = digit(b / 16);
     out[1] = digit(b % 16);
@@ -31,7 +31,7 @@ fn put(b: u8, out: &mut [u8])
 // "all as two-digit bytes"; "Each printed line ends in 0A."
 fn put_all(bytes: &[u8], out: &mut [u8])
     requires { length bytes.now * 2 < length out.old }
-    ensures { out.new ≡ over (asLine bytes.now) out.old }
+    ensures { out.new ≡ over (as_line bytes.now) out.old }
 {
     let n = bytes.len();
     let mut i = 0;
@@ -47,8 +47,8 @@ fn put_all(bytes: &[u8], out: &mut [u8])
 // "status, t, then the symbols"; the bytes written.
 fn put_line(status: u8, t: u8, symbols: &[u8], out: &mut [u8]) -> usize
     requires { length symbols.now * 2 + 5 ≤ length out.old }
-    ensures written { result ≡ length (asLine (status ∷ t ∷ symbols.now)) }
-    ensures out_then { out.new ≡ over (asLine (status ∷ t ∷ symbols.now)) out.old }
+    ensures written { result ≡ length (as_line (status ∷ t ∷ symbols.now)) }
+    ensures out_then { out.new ≡ over (as_line (status ∷ t ∷ symbols.now)) out.old }
 {
     put(status, &mut out[..2]);
     put(t, &mut out[2..4]);
@@ -58,9 +58,9 @@ fn put_line(status: u8, t: u8, symbols: &[u8], out: &mut [u8]) -> usize
 
 // "A refused line prints its number as such a byte (12 as 0C) and 00 only".
 fn answer(a: Answer, symbols: &[u8], out: &mut [u8]) -> usize
-    requires { (length symbols.now * 2 + 5 ≤ length out.old) × ((answerReply a).value ≤ 255) }
-    ensures written { result ≡ length (printed (said (answerReply a) symbols.now)) }
-    ensures out_then { out.new ≡ over (printed (said (answerReply a) symbols.now)) out.old }
+    requires { (length symbols.now * 2 + 5 ≤ length out.old) × ((answer_reply a).value ≤ 255) }
+    ensures written { result ≡ length (printed (said (answer_reply a) symbols.now)) }
+    ensures out_then { out.new ≡ over (printed (said (answer_reply a) symbols.now)) out.old }
 {
     match a {
         Answer::Refused(k) => put_line(k, 0, &symbols[..0], out),
@@ -82,10 +82,10 @@ fn frame_in(
     margins: &mut [u16],
     out: &mut [u8],
 ) -> usize
-    requires { DecodeRoom symbols.old costs.old store.old margins.old × (length out.old ≡ mostPrinted) }
-    ensures written { result ≡ length (printed (ofFrame (parse code.now) frame.now)) }
+    requires { DecodeRoom symbols.old costs.old store.old margins.old × (length out.old ≡ most_printed) }
+    ensures written { result ≡ length (printed (of_frame (parse code.now) frame.now)) }
     ensures out_then { out.new
-        ≡ over (printed (ofFrame (parse code.now) frame.now)) out.old }
+        ≡ over (printed (of_frame (parse code.now) frame.now)) out.old }
 {
     let d = layered::decode_counted(code, frame, symbols, costs, store, margins);
     let a = d.answer;
@@ -104,10 +104,10 @@ pub fn text_in(
     margins: &mut [u16],
     out: &mut [u8],
 ) -> usize
-    requires { (length bytes.old ≡ mostLineBytes)
-        × (DecodeRoom symbols.old costs.old store.old margins.old × (length out.old ≡ mostPrinted)) }
-    ensures written { result ≡ length (frameLine code.now text.now) }
-    ensures out_then { out.new ≡ over (frameLine code.now text.now) out.old }
+    requires { (length bytes.old ≡ most_line_bytes)
+        × (DecodeRoom symbols.old costs.old store.old margins.old × (length out.old ≡ most_printed)) }
+    ensures written { result ≡ length (frame_line code.now text.now) }
+    ensures out_then { out.new ≡ over (frame_line code.now text.now) out.old }
 {
     match hex::line(text, bytes) {
         Written::Refused(k) => answer(Answer::Refused(k), &symbols[..0], out),
@@ -117,10 +117,10 @@ pub fn text_in(
 
 // The same in an array for the longest line, with the room that a decoding takes.
 pub fn frame_line(code: &[u8], text: &[u8], out: &mut [u8; sizes::MOST_PRINTED]) -> usize
-    ensures written { result ≡ length (frameLine code.now text.now) }
+    ensures written { result ≡ length (frame_line code.now text.now) }
     ensures out_then { out.new
-        ≡ frameLine code.now text.now
-        ++ drop (length (frameLine code.now text.now)) out.old }
+        ≡ frame_line code.now text.now
+        ++ drop (length (frame_line code.now text.now)) out.old }
 {
     let mut bytes = [0u8; sizes::MOST_LINE_BYTES];
     let mut symbols = [0u8; sizes::MOST_SYMBOLS];

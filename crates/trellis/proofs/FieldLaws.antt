@@ -11,80 +11,80 @@ use lib.Bits as Bits
 use lib.Dec.{T, ltb, eqb, ltb→lt, eqb→eq}
 use lib.ListN.{get_or}
 use lib.Pow.{pow_pos}
-use Rattle.trellis.specs.Lists.{allTo}
-use Rattle.trellis.specs.Field.{xor, product, productIn, doubled}
-use Rattle.trellis.proofs.Xor.{xor-zero, xor_self, xor_assoc, xor-turn, xor_lt}
-use Rattle.trellis.proofs.Tests.{fst-T, snd-T, or_cases, all-at, each-field}
+use Rattle.trellis.specs.Lists.{all_to}
+use Rattle.trellis.specs.Field.{xor, product, product_in, doubled}
+use Rattle.trellis.proofs.Xor.{xor-zero, xor_self, xor_assoc, xor_turn, xor_lt}
+use Rattle.trellis.proofs.Tests.{fst_T, snd_T, or_cases, all-at, each_field}
 
-xor-half : (x y : ℕ) → xor x y / 2 ≡ xor (x / 2) (y / 2)
+xor_half : (x y : ℕ) → xor x y / 2 ≡ xor (x / 2) (y / 2)
 unfolding xor
-xor-half x y = Bits.xor_shr x y 1
+xor_half x y = Bits.xor_shr x y 1
 
-xor-odd : (x y : ℕ) → xor x y % 2 ≡ xor (x % 2) (y % 2)
+xor_odd : (x y : ℕ) → xor x y % 2 ≡ xor (x % 2) (y % 2)
 unfolding xor
-xor-odd x y = Bits.xor_mod x y 1
+xor_odd x y = Bits.xor_mod x y 1
 
-xor-top : (k r : ℕ) → r < 2 ^ k → xor (2 ^ k) r ≡ 2 ^ k + r
+xor_top : (k r : ℕ) → r < 2 ^ k → xor (2 ^ k) r ≡ 2 ^ k + r
 unfolding xor
-xor-top k r h = rw one-mul at (Bits.xor_shifted 1 k r h)
+xor_top k r h = rw one-mul at (Bits.xor_shifted 1 k r h)
 
 -- the first factor, where the dropped bit was one
 abbrev added : ℕ → ℕ → ℕ
 added u a = cond (eqb u 1) a 0
 
-added-xor : (u v a : ℕ) → u < 2 → v < 2 → added (xor u v) a ≡ xor (added u a) (added v a)
+added_xor : (u v a : ℕ) → u < 2 → v < 2 → added (xor u v) a ≡ xor (added u a) (added v a)
 unfolding xor
-added-xor zero zero a h k = refl
-added-xor zero (suc zero) a h k = refl
-added-xor (suc zero) zero a h k = sym (Bits.xor_zero_r a)
-added-xor (suc zero) (suc zero) a h k = sym (Bits.xor_self a)
-added-xor zero (suc (suc v)) a h k = absurd (omega arith)
-added-xor (suc zero) (suc (suc v)) a h k = absurd (omega arith)
-added-xor (suc (suc u)) v a h k = absurd (omega arith)
+added_xor zero zero a h k = refl
+added_xor zero (suc zero) a h k = refl
+added_xor (suc zero) zero a h k = sym (Bits.xor_zero_r a)
+added_xor (suc zero) (suc zero) a h k = sym (Bits.xor_self a)
+added_xor zero (suc (suc v)) a h k = absurd (omega arith)
+added_xor (suc zero) (suc (suc v)) a h k = absurd (omega arith)
+added_xor (suc (suc u)) v a h k = absurd (omega arith)
 
 swap4 : (a b c d : ℕ) → xor (xor a b) (xor c d) ≡ xor (xor a c) (xor b d)
-swap4 a b c d = rw (xor_assoc a b, xor-turn b c d, ← xor_assoc a c)
+swap4 a b c d = rw (xor_assoc a b, xor_turn b c d, ← xor_assoc a c)
 
-linear-in : (n p a x y : ℕ) → productIn n p a (xor x y) ≡ xor (productIn n p a x) (productIn n p a y)
-linear-in zero p a x y = sym (xor-zero 0)
-linear-in (suc n) p a x y =
-    rw (xor-odd x y, xor-half x y, added-xor (x % 2) (y % 2) a (mod-lt x (omega arith)) (mod-lt y (omega arith)), linear-in n p (doubled p a) (x / 2) (y / 2)) (swap4 _ _ _ _)
+linear_in : (n p a x y : ℕ) → product_in n p a (xor x y) ≡ xor (product_in n p a x) (product_in n p a y)
+linear_in zero p a x y = sym (xor-zero 0)
+linear_in (suc n) p a x y =
+    rw (xor_odd x y, xor_half x y, added_xor (x % 2) (y % 2) a (mod-lt x (omega arith)) (mod-lt y (omega arith)), linear_in n p (doubled p a) (x / 2) (y / 2)) (swap4 _ _ _ _)
 
 Linear : (ℕ → ℕ) → Type 0
 Linear f = (x y : ℕ) → f (xor x y) ≡ xor (f x) (f y)
 
 linear : (p h : ℕ) → Linear (product p h)
 unfolding Linear
-linear p h x y = linear-in p p h x y
+linear p h x y = linear_in p p h x y
 
-linear-zero : (f : ℕ → ℕ) → Linear f → f 0 ≡ 0
+linear_zero : (f : ℕ → ℕ) → Linear f → f 0 ≡ 0
 unfolding Linear
-linear-zero f L = ap f (sym (xor_self 0)) ∙ L 0 0 ∙ xor_self (f 0)
+linear_zero f L = ap f (sym (xor_self 0)) ∙ L 0 0 ∙ xor_self (f 0)
 
 -- linear functions that agree at the powers of two agree; and stay below 2 ^ p if they do there
 agree : (f : ℕ → ℕ) → Linear f → (p : ℕ) → ((i : ℕ) → i < p → f (2 ^ i) ≡ 2 ^ i) → (b : ℕ) → b < 2 ^ p → f b ≡ b
 unfolding Linear
-agree f L zero h b k = let e : b ≡ 0 = omega arith in rw e (linear-zero f L)
+agree f L zero h b k = let e : b ≡ 0 = omega arith in rw e (linear_zero f L)
 agree f L (suc p) h b k =
     elim (dec_lt b (2 ^ p)) [
       | yes l ↦ agree f L p (λ i j. h i (omega arith)) b l
       | no l ↦
           let r : ℕ = b - 2 ^ p in
           let s : r < 2 ^ p = omega arith in
-          let e : b ≡ xor (2 ^ p) r = sym (xor-top p r s ∙ omega arith) in
+          let e : b ≡ xor (2 ^ p) r = sym (xor_top p r s ∙ omega arith) in
           rw (e, L (2 ^ p) r, h p (omega arith), agree f L p (λ i j. h i (omega arith)) r s)
     ]
 
 stays : (f : ℕ → ℕ) → Linear f → (q p : ℕ) → ((i : ℕ) → i < p → f (2 ^ i) < 2 ^ q) → (b : ℕ) → b < 2 ^ p → f b < 2 ^ q
 unfolding Linear
-stays f L q zero h b k = let e : b ≡ 0 = omega arith in rw (e, linear-zero f L) (pow_pos q)
+stays f L q zero h b k = let e : b ≡ 0 = omega arith in rw (e, linear_zero f L) (pow_pos q)
 stays f L q (suc p) h b k =
     elim (dec_lt b (2 ^ p)) [
       | yes l ↦ stays f L q p (λ i j. h i (omega arith)) b l
       | no l ↦
           let r : ℕ = b - 2 ^ p in
           let s : r < 2 ^ p = omega arith in
-          let e : b ≡ xor (2 ^ p) r = sym (xor-top p r s ∙ omega arith) in
+          let e : b ≡ xor (2 ^ p) r = sym (xor_top p r s ∙ omega arith) in
           rw (e, L (2 ^ p) r) (xor_lt q _ _ (h p (omega arith)) (stays f L q p (λ i j. h i (omega arith)) r s))
     ]
 
@@ -96,14 +96,14 @@ pub inverse : ℕ → ℕ → ℕ
 inverse p h = get_or (inverses p) h 0
 
 -- times h and times its inverse undo each other at the powers of two
-undoneAt : ℕ → ℕ → ℕ → ℕ → Bool
-undoneAt p h g b = eqb (product p h (product p g b)) b && (eqb (product p g (product p h b)) b && (ltb (product p h b) (2 ^ p) && ltb (product p g b) (2 ^ p)))
+undone_at : ℕ → ℕ → ℕ → ℕ → Bool
+undone_at p h g b = eqb (product p h (product p g b)) b && (eqb (product p g (product p h b)) b && (ltb (product p h b) (2 ^ p) && ltb (product p g b) (2 ^ p)))
 
 pub field : ℕ → Bool
-field p = allTo (λ h. eqb h 0 || allTo (λ i. undoneAt p h (inverse p h) (2 ^ i)) p) (2 ^ p)
+field p = all_to (λ h. eqb h 0 || all_to (λ i. undone_at p h (inverse p h) (2 ^ i)) p) (2 ^ p)
 
 pub fields : T (field 2 && (field 3 && (field 4 && (field 5 && field 6))))
-unfolding field undoneAt inverse inverses xor
+unfolding field undone_at inverse inverses xor
 fields = tt
 
 pub record Inverse (p h g : ℕ) : Type 0 where
@@ -112,14 +112,14 @@ pub record Inverse (p h g : ℕ) : Type 0 where
   pub closed : (b : ℕ) → b < 2 ^ p → product p h b < 2 ^ p
   pub closed-back : (b : ℕ) → b < 2 ^ p → product p g b < 2 ^ p
 
-pub has-inverse : (p : ℕ) → T (field p) → (h : ℕ) → h < 2 ^ p → h ≢ 0 → Inverse p h (inverse p h)
-unfolding field undoneAt Linear
-has-inverse p F h l n =
+pub has_inverse : (p : ℕ) → T (field p) → (h : ℕ) → h < 2 ^ p → h ≢ 0 → Inverse p h (inverse p h)
+unfolding field undone_at Linear
+has_inverse p F h l n =
     record {
-      undoes = agree (λ b. product p h (product p g b)) (after h g) p (λ i j. eqb→eq (product p h (product p g (2 ^ i))) (2 ^ i) (let t = at i j in search (fst-T, snd-T)));
-      undone = agree (λ b. product p g (product p h b)) (after g h) p (λ i j. eqb→eq (product p g (product p h (2 ^ i))) (2 ^ i) (let t = at i j in search (fst-T, snd-T)));
-      closed = stays (product p h) (linear p h) p p (λ i j. ltb→lt (product p h (2 ^ i)) (2 ^ p) (let t = at i j in search (fst-T, snd-T)));
-      closed-back = stays (product p g) (linear p g) p p (λ i j. ltb→lt (product p g (2 ^ i)) (2 ^ p) (let t = at i j in search (fst-T, snd-T)));
+      undoes = agree (λ b. product p h (product p g b)) (after h g) p (λ i j. eqb→eq (product p h (product p g (2 ^ i))) (2 ^ i) (let t = at i j in search (fst_T, snd_T)));
+      undone = agree (λ b. product p g (product p h b)) (after g h) p (λ i j. eqb→eq (product p g (product p h (2 ^ i))) (2 ^ i) (let t = at i j in search (fst_T, snd_T)));
+      closed = stays (product p h) (linear p h) p p (λ i j. ltb→lt (product p h (2 ^ i)) (2 ^ p) (let t = at i j in search (fst_T, snd_T)));
+      closed-back = stays (product p g) (linear p g) p p (λ i j. ltb→lt (product p g (2 ^ i)) (2 ^ p) (let t = at i j in search (fst_T, snd_T)));
     }
   where
     g : ℕ
@@ -128,11 +128,11 @@ has-inverse p F h l n =
     after : (h g : ℕ) → Linear (λ b. product p h (product p g b))
     after h g x y = ap (product p h) (linear p g x y) ∙ linear p h (product p g x) (product p g y)
 
-    at : (i : ℕ) → i < p → T (undoneAt p h g (2 ^ i))
+    at : (i : ℕ) → i < p → T (undone_at p h g (2 ^ i))
     at i j =
-        all-at (λ i. undoneAt p h (inverse p h) (2 ^ i)) p
-        (⊎_elim (λ (e : T (eqb h 0)). absurd (n (eqb→eq h 0 e))) (λ (u : T (allTo (λ i. undoneAt p h (inverse p h) (2 ^ i)) p)). u)
-        (or_cases (eqb h 0) _ (all-at (λ h. eqb h 0 || allTo (λ i. undoneAt p h (inverse p h) (2 ^ i)) p) (2 ^ p) F h l))) i j
+        all-at (λ i. undone_at p h (inverse p h) (2 ^ i)) p
+        (⊎_elim (λ (e : T (eqb h 0)). absurd (n (eqb→eq h 0 e))) (λ (u : T (all_to (λ i. undone_at p h (inverse p h) (2 ^ i)) p)). u)
+        (or_cases (eqb h 0) _ (all-at (λ h. eqb h 0 || all_to (λ i. undone_at p h (inverse p h) (2 ^ i)) p) (2 ^ p) F h l))) i j
 
 pub fields_at : (p : ℕ) → 2 ≤ p → p ≤ 6 → T (field p)
-fields_at = each-field field fields
+fields_at = each_field field fields

@@ -11,15 +11,15 @@ use native.Mathlib.Omega.{arith}
 use lib.Dec.{T}
 use lib.ListN.{length, take}
 use Rattle.trellis.specs.Lists.{keep}
-use Rattle.trellis.specs.Rows.{before, insert, inOrder}
-use Rattle.trellis.proofs.Tests.{to-true}
-use Rattle.trellis.proofs.Ranks.{before-key, key-before}
+use Rattle.trellis.specs.Rows.{before, insert, in_order}
+use Rattle.trellis.proofs.Tests.{to_true}
+use Rattle.trellis.proofs.Ranks.{before_key, key_before}
 
-pub of-take : (s : ℕ) (l : List ℕ) {x : ℕ} → Memᴰ x (take s l) → Memᴰ x l
-of-take zero l m = absurd (Memᴰ.not-nil m)
-of-take (suc s) [] m = m
-of-take (suc s) (y ∷ l) {x} m =
-    ⊎_elim (λ (e : x ≡ y). Memᴰ.head e) (λ (k : Memᴰ x (take s l)). Memᴰ.tail (of-take s l k)) (Memᴰ.cases_cons m)
+pub of_take : (s : ℕ) (l : List ℕ) {x : ℕ} → Memᴰ x (take s l) → Memᴰ x l
+of_take zero l m = absurd (Memᴰ.not-nil m)
+of_take (suc s) [] m = m
+of_take (suc s) (y ∷ l) {x} m =
+    ⊎_elim (λ (e : x ≡ y). Memᴰ.head e) (λ (k : Memᴰ x (take s l)). Memᴰ.tail (of_take s l k)) (Memᴰ.cases_cons m)
 
 module _ (cost : ℕ → ℕ) where
   abbrev key : ℕ → ℕ
@@ -59,16 +59,16 @@ module _ (cost : ℕ → ℕ) where
           ⊎_elim (λ (e : x ≡ k). Memᴰ.head e) (λ (j : Memᴰ x l). Memᴰ.tail (below (Memᴰ.tail j))) (Memᴰ.cases_cons i))
           (Memᴰ.cases_cons m)
 
-  pub of-order : (l : List ℕ) {x : ℕ} → Memᴰ x (inOrder cost l) → Memᴰ x l
-  of-order [] m = m
-  of-order (n ∷ l) {x} m =
-      ⊎_elim (λ (e : x ≡ n). Memᴰ.head e) (λ (k : Memᴰ x (inOrder cost l)). Memᴰ.tail (of-order l k)) (Memᴰ.cases_cons (of-insert n (inOrder cost l) m))
+  pub of_order : (l : List ℕ) {x : ℕ} → Memᴰ x (in_order cost l) → Memᴰ x l
+  of_order [] m = m
+  of_order (n ∷ l) {x} m =
+      ⊎_elim (λ (e : x ≡ n). Memᴰ.head e) (λ (k : Memᴰ x (in_order cost l)). Memᴰ.tail (of_order l k)) (Memᴰ.cases_cons (of-insert n (in_order cost l) m))
 
-  in_order : (l : List ℕ) {x : ℕ} → Memᴰ x l → Memᴰ x (inOrder cost l)
-  in_order [] m = m
-  in_order (n ∷ l) {x} m =
-      in_insert n (inOrder cost l)
-      (⊎_elim (λ (e : x ≡ n). Memᴰ.head e) (λ (k : Memᴰ x l). Memᴰ.tail (in_order l k)) (Memᴰ.cases_cons m))
+  in_order_lem : (l : List ℕ) {x : ℕ} → Memᴰ x l → Memᴰ x (in_order cost l)
+  in_order_lem [] m = m
+  in_order_lem (n ∷ l) {x} m =
+      in_insert n (in_order cost l)
+      (⊎_elim (λ (e : x ≡ n). Memᴰ.head e) (λ (k : Memᴰ x l). Memᴰ.tail (in_order_lem l k)) (Memᴰ.cases_cons m))
 
   -- as many as there were, and as many that pass a test
   length-insert : (n : ℕ) (l : List ℕ) → length (insert cost n l) ≡ suc (length l)
@@ -79,9 +79,9 @@ module _ (cost : ℕ → ℕ) where
       go true e = refl
       go false e = ap suc e
 
-  pub length-order : (l : List ℕ) → length (inOrder cost l) ≡ length l
-  length-order [] = refl
-  length-order (n ∷ l) = length-insert n (inOrder cost l) ∙ ap suc (length-order l)
+  pub length_order : (l : List ℕ) → length (in_order cost l) ≡ length l
+  length_order [] = refl
+  length_order (n ∷ l) = length-insert n (in_order cost l) ∙ ap suc (length_order l)
 
   count-insert : (p : ℕ → Bool) (n : ℕ) (l : List ℕ) → length (keep p (insert cost n l)) ≡ length (keep p (n ∷ l))
   count-insert p n [] = refl
@@ -98,12 +98,12 @@ module _ (cost : ℕ → ℕ) where
       go true e = refl
       go false e = turned (p n) (p k) e
 
-  count-order : (p : ℕ → Bool) (l : List ℕ) → length (keep p (inOrder cost l)) ≡ length (keep p l)
+  count-order : (p : ℕ → Bool) (l : List ℕ) → length (keep p (in_order cost l)) ≡ length (keep p l)
   count-order p [] = refl
-  count-order p (n ∷ l) = count-insert p n (inOrder cost l) ∙ again (p n) (count-order p l)
+  count-order p (n ∷ l) = count-insert p n (in_order cost l) ∙ again (p n) (count-order p l)
     where
-      again : (b : Bool) → length (keep p (inOrder cost l)) ≡ length (keep p l)
-          → length (cond b (n ∷ keep p (inOrder cost l)) (keep p (inOrder cost l))) ≡ length (cond b (n ∷ keep p l) (keep p l))
+      again : (b : Bool) → length (keep p (in_order cost l)) ≡ length (keep p l)
+          → length (cond b (n ∷ keep p (in_order cost l)) (keep p (in_order cost l))) ≡ length (cond b (n ∷ keep p l) (keep p l))
       again true e = ap suc e
       again false e = e
 
@@ -117,23 +117,23 @@ module _ (cost : ℕ → ℕ) where
 
       go : (b : Bool) → before (cost n) n (cost k) k ≡ b → Rising (insert cost n l) → Rising (cond b (n ∷ k ∷ l) (k ∷ insert cost n l))
       go true e below =
-          let first : key n < key k = before-key (cost n) n (cost k) k h u (rw e tt) in
+          let first : key n < key k = before_key (cost n) n (cost k) k h u (rw e tt) in
           more {x = n}
           (λ y m. ⊎_elim (λ (q : y ≡ k). rw q (omega (arith, first))) (λ (i : Memᴰ y l). omega (arith, first, low y i)) (Memᴰ.cases_cons m))
           (more low r)
       go false e below =
           let first : key k ≤ key n =
           elim (dec_lt (key n) (key k)) [
-            | yes q ↦ absurd (rw e at (key-before (cost n) n (cost k) k h u q))
+            | yes q ↦ absurd (rw e at (key_before (cost n) n (cost k) k h u q))
             | no q ↦ omega arith
           ] in
           more {x = k} (λ y m. ⊎_elim (λ (q : y ≡ n). rw q first) (λ (i : Memᴰ y l). low y i) (Memᴰ.cases_cons (of-insert n l m))) below
 
-  rising-order : (l : List ℕ) → Small l → Rising (inOrder cost l)
+  rising-order : (l : List ℕ) → Small l → Rising (in_order cost l)
   unfolding Small
   rising-order [] s = none
   rising-order (n ∷ l) s =
-      rising-insert n (inOrder cost l) (s n (Memᴰ.head refl)) (λ x m. s x (Memᴰ.tail (of-order l m))) (rising-order l (λ x m. s x (Memᴰ.tail m)))
+      rising-insert n (in_order cost l) (s n (Memᴰ.head refl)) (λ x m. s x (Memᴰ.tail (of_order l m))) (rising-order l (λ x m. s x (Memᴰ.tail m)))
 
   in_take : (s : ℕ) {l : List ℕ} {x : ℕ} → Rising l → Small l → Memᴰ x l → length (keep (λ y. before (cost y) y (cost x) x) l) < s → Memᴰ x (take s l)
   unfolding Small
@@ -147,7 +147,7 @@ module _ (cost : ℕ → ℕ) where
       let v : y < 256 = small y (Memᴰ.head refl) in
       elim (dec_lt (key y) (key x)) [
         | yes q ↦
-            let b = to-true (key-before (cost y) y (cost x) x v u q) in
+            let b = to_true (key_before (cost y) y (cost x) x v u q) in
             Memᴰ.tail (in_take s r (λ z j. small z (Memᴰ.tail j)) i (less (before (cost y) y (cost x) x) b h))
         | no q ↦ Memᴰ.head (same (cost x) (cost y) x y u v (omega (arith, q, low x i)))
       ])
@@ -162,8 +162,8 @@ module _ (cost : ℕ → ℕ) where
       same c d x y h k e = omega arith
 
   -- a column with fewer than s before it is among the first s
-  pub in-first : (s : ℕ) (l : List ℕ) {x : ℕ} → ((y : ℕ) → Memᴰ y l → y < 256) → Memᴰ x l → length (keep (λ y. before (cost y) y (cost x) x) l) < s
-      → Memᴰ x (take s (inOrder cost l))
+  pub in_first : (s : ℕ) (l : List ℕ) {x : ℕ} → ((y : ℕ) → Memᴰ y l → y < 256) → Memᴰ x l → length (keep (λ y. before (cost y) y (cost x) x) l) < s
+      → Memᴰ x (take s (in_order cost l))
   unfolding Small
-  in-first s l {x} small m h =
-      in_take s (rising-order l small) (λ y k. small y (of-order l k)) (in_order l m) (omega (arith, count-order (λ y. before (cost y) y (cost x) x) l, h))
+  in_first s l {x} small m h =
+      in_take s (rising-order l small) (λ y k. small y (of_order l k)) (in_order_lem l m) (omega (arith, count-order (λ y. before (cost y) y (cost x) x) l, h))

@@ -11,9 +11,9 @@ use lib.Seq.{drop-cons, drop-length}
 use lib.Dec.{eqb, ltb}
 use borrow.Author.Tests.{eq-eqb, ne_eqb, le-ltb}
 use Rattle.trellis.specs.Lists.{others, smallest, pick}
-use Rattle.trellis.specs.Check.{firstZero, marginOf}
-use Rattle.trellis.specs.inner.Margins.{leastBut, marginAt}
-use Rattle.trellis.proofs.Lists.{smallest-le, smallest-in}
+use Rattle.trellis.specs.Check.{first_zero, margin_of}
+use Rattle.trellis.specs.inner.Margins.{least_but, margin_at}
+use Rattle.trellis.proofs.Lists.{smallest_le, smallest_in}
 
 -- the members other than the one at place n
 pub others-at : (l : List ℕ) (n x : ℕ) → x < length l → x ≢ n → Memᴰ (get_or l x 0) (others n l)
@@ -40,22 +40,22 @@ of_others (y ∷ l) (suc n) {v} m =
     ⊎_elim (λ (e : v ≡ y). (0, omega arith, λ i. omega arith, sym e))
     (λ (k : Memᴰ v (others n l)). let r = of_others l n k in (suc r.0, omega (arith, r.1), λ i. r.2 (omega arith), r.3)) (mathlib.Core.List.Memᴰ.cases_cons m)
 
-but-le : (b : ℕ) (l : List ℕ) (z n x : ℕ) → x < n → x ≢ z → leastBut b l z n ≤ get_or l x 0
-unfolding leastBut
-but-le b l z zero x h e = absurd (not-suc-le-zero h)
-but-le b l z (suc n) x h e =
+but_le : (b : ℕ) (l : List ℕ) (z n x : ℕ) → x < n → x ≢ z → least_but b l z n ≤ get_or l x 0
+unfolding least_but
+but_le b l z zero x h e = absurd (not-suc-le-zero h)
+but_le b l z (suc n) x h e =
     elim (ℕ_discrete x n) [
       | yes i ↦ let k : pick (eqb n z) b (get_or l n 0) ≡ get_or l n 0 = simp (ne_eqb n z (λ j. e (i ∙ j))) in rw i (omega (arith, k))
-      | no i ↦ omega (arith, but-le b l z n x (omega arith) e)
+      | no i ↦ omega (arith, but_le b l z n x (omega arith) e)
     ]
 
-but_in : (b : ℕ) (l : List ℕ) (z n : ℕ) → (leastBut b l z n ≡ b) ⊎ ((x : ℕ) × (x < n) × (x ≢ z) × (get_or l x 0 ≡ leastBut b l z n))
-unfolding leastBut
+but_in : (b : ℕ) (l : List ℕ) (z n : ℕ) → (least_but b l z n ≡ b) ⊎ ((x : ℕ) × (x < n) × (x ≢ z) × (get_or l x 0 ≡ least_but b l z n))
+unfolding least_but
 but_in b l z zero = inl refl
 but_in b l z (suc n) = go (but_in b l z n) (ℕ_discrete n z)
   where
     a : ℕ
-    a = leastBut b l z n
+    a = least_but b l z n
 
     v : ℕ
     v = pick (eqb n z) b (get_or l n 0)
@@ -80,94 +80,94 @@ module _ (l : List ℕ) (two : 2 ≤ length l) where
         | no e ↦ (get_or l 0 0, others-at l z 0 (omega arith) (λ i. e (sym i)))
       ]
 
-  pub least-but : (b : ℕ) → ((x : ℕ) → get_or l x 0 ≤ b) → (z : ℕ) → leastBut b l z (length l) ≡ smallest (others z l)
-  least-but b small z =
-      let r = of_others l z (smallest-in (some-other z).1) in
-      let up : leastBut b l z (length l) ≤ smallest (others z l) = omega (arith, but-le b l z (length l) r.0 r.1 r.2, r.3) in
-      ⊎_elim (λ (e : leastBut b l z (length l) ≡ b). omega (arith, small r.0, r.3))
-      (λ i. omega (arith, smallest-le (others-at l z i.0 i.1 i.2), i.3)) (but_in b l z (length l))
+  pub least_but_lem : (b : ℕ) → ((x : ℕ) → get_or l x 0 ≤ b) → (z : ℕ) → least_but b l z (length l) ≡ smallest (others z l)
+  least_but_lem b small z =
+      let r = of_others l z (smallest_in (some-other z).1) in
+      let up : least_but b l z (length l) ≤ smallest (others z l) = omega (arith, but_le b l z (length l) r.0 r.1 r.2, r.3) in
+      ⊎_elim (λ (e : least_but b l z (length l) ≡ b). omega (arith, small r.0, r.3))
+      (λ i. omega (arith, smallest_le (others-at l z i.0 i.1 i.2), i.3)) (but_in b l z (length l))
 
-  module _ (zero_in : Memᴰ 0 l) where
+  module _ (has_zero : Memᴰ 0 l) where
     least-none : smallest l ≡ 0
-    least-none = omega (arith, smallest-le zero_in)
+    least-none = omega (arith, smallest_le has_zero)
 
     -- where a cost is 0 the margin is the least of the others
-    pub margin-others : marginOf l ≡ smallest (others (firstZero l) l)
-    unfolding marginOf
+    pub margin-others : margin_of l ≡ smallest (others (first_zero l) l)
+    unfolding margin_of
     margin-others = omega (arith, least-none)
 
-    pub margin-least : (x : ℕ) → x < length l → x ≢ firstZero l → marginOf l ≤ get_or l x 0
-    margin-least x h e = omega (arith, margin-others, smallest-le (others-at l (firstZero l) x h e))
+    pub margin-least : (x : ℕ) → x < length l → x ≢ first_zero l → margin_of l ≤ get_or l x 0
+    margin-least x h e = omega (arith, margin-others, smallest_le (others-at l (first_zero l) x h e))
 
-    pub margin-attained : (x : ℕ) × (x < length l) × (x ≢ firstZero l) × (get_or l x 0 ≡ marginOf l)
+    pub margin-attained : (x : ℕ) × (x < length l) × (x ≢ first_zero l) × (get_or l x 0 ≡ margin_of l)
     margin-attained =
-        let r = of_others l (firstZero l) (smallest-in (some-other (firstZero l)).1) in
+        let r = of_others l (first_zero l) (smallest_in (some-other (first_zero l)).1) in
         (r.0, r.1, r.2, r.3 ∙ sym margin-others)
 
     -- "a tie has margin 0", and nothing else has
-    pub margin-tie : (marginOf l ≡ 0) ↔ ((x : ℕ) × (x < length l) × (x ≢ firstZero l) × (get_or l x 0 ≡ 0))
+    pub margin-tie : (margin_of l ≡ 0) ↔ ((x : ℕ) × (x < length l) × (x ≢ first_zero l) × (get_or l x 0 ≡ 0))
     margin-tie = (
       λ e. let r = margin-attained in (r.0, r.1, r.2, r.3 ∙ e),
       λ t. omega (arith, margin-least t.0 t.1 t.2, t.3),
     )
 
-    pub margin-small : (b : ℕ) → ((x : ℕ) → get_or l x 0 ≤ b) → marginOf l ≤ b
+    pub margin-small : (b : ℕ) → ((x : ℕ) → get_or l x 0 ≤ b) → margin_of l ≤ b
     margin-small b small = let r = margin-attained in omega (arith, small r.0, r.3)
 
     -- with a margin above 0 the decision is the only symbol of least cost
-    pub margin-only : 0 < marginOf l → (x : ℕ) → x < length l → get_or l x 0 ≡ 0 → x ≡ firstZero l
+    pub margin-only : 0 < margin_of l → (x : ℕ) → x < length l → get_or l x 0 ≡ 0 → x ≡ first_zero l
     margin-only h x i e =
-        elim (ℕ_discrete x (firstZero l)) [
+        elim (ℕ_discrete x (first_zero l)) [
           | yes k ↦ k
           | no k ↦ absurd (omega (arith, margin-least x i k))
         ]
 
 -- the search for the first 0, from a place on
-first-later : (x : ℕ) (l : List ℕ) → (x ≡ 0 → ⊥) → firstZero (x ∷ l) ≡ suc (firstZero l)
+first-later : (x : ℕ) (l : List ℕ) → (x ≡ 0 → ⊥) → first_zero (x ∷ l) ≡ suc (first_zero l)
 first-later zero l n = absurd (n refl)
 first-later (suc x) l n = refl
 
-pub zero-here : (s : List ℕ) (i : ℕ) → i < length s → get_or s i 0 ≡ 0 → firstZero (drop i s) ≡ 0
-zero-here s i h e = rw (drop-cons s i 0 h, e)
+pub zero_here : (s : List ℕ) (i : ℕ) → i < length s → get_or s i 0 ≡ 0 → first_zero (drop i s) ≡ 0
+zero_here s i h e = rw (drop-cons s i 0 h, e)
 
-pub zero-later : (s : List ℕ) (i : ℕ) → i < length s → (get_or s i 0 ≡ 0 → ⊥) → firstZero (drop i s) ≡ suc (firstZero (drop (suc i) s))
-zero-later s i h n = ap firstZero (drop-cons s i 0 h) ∙ first-later (get_or s i 0) (drop (suc i) s) n
+pub zero-later : (s : List ℕ) (i : ℕ) → i < length s → (get_or s i 0 ≡ 0 → ⊥) → first_zero (drop i s) ≡ suc (first_zero (drop (suc i) s))
+zero-later s i h n = ap first_zero (drop-cons s i 0 h) ∙ first-later (get_or s i 0) (drop (suc i) s) n
 
-pub zero-none : (s : List ℕ) → firstZero (drop (length s) s) ≡ 0
+pub zero-none : (s : List ℕ) → first_zero (drop (length s) s) ≡ 0
 zero-none s = rw (drop-length s)
 
 -- a search ends with the list at the latest, and before that with a 0
-pub first-most : (l : List ℕ) → firstZero l ≤ length l
+pub first-most : (l : List ℕ) → first_zero l ≤ length l
 first-most [] = omega arith
 first-most (zero ∷ l) = omega arith
 first-most (suc x ∷ l) = omega (arith, first-most l)
 
-pub first_member : (l : List ℕ) → firstZero l < length l → Memᴰ 0 l
+pub first_member : (l : List ℕ) → first_zero l < length l → Memᴰ 0 l
 first_member [] h = absurd (not-suc-le-zero h)
 first_member (zero ∷ l) h = mathlib.Core.List.Memᴰ.head refl
 first_member (suc x ∷ l) h = mathlib.Core.List.Memᴰ.tail (first_member l (omega arith))
 
-single : (b : ℕ) (l : List ℕ) (z : ℕ) → length l < 2 → marginAt b l z ≡ marginOf l
-unfolding marginOf marginAt
+single : (b : ℕ) (l : List ℕ) (z : ℕ) → length l < 2 → margin_at b l z ≡ margin_of l
+unfolding margin_of margin_at
 single b [] z k = refl
 single b (zero ∷ []) z k = refl
 single b (suc x ∷ []) z k = omega arith
 single b (x ∷ y ∷ l) z k = absurd (omega arith)
 
 -- where the search ends, the loop over the other costs gives the margin; a single cost has none, and margin 0
-pub margin-found : (b : ℕ) (l : List ℕ) → ((x : ℕ) → get_or l x 0 ≤ b) → (z : ℕ) → z ≡ firstZero l → z < length l → marginAt b l z ≡ marginOf l
-unfolding marginAt
-margin-found b l small z e h = elim (dec_le 2 (length l)) [ yes k ↦ more k | no k ↦ single b l z (omega (arith, k)) ]
+pub margin_found : (b : ℕ) (l : List ℕ) → ((x : ℕ) → get_or l x 0 ≤ b) → (z : ℕ) → z ≡ first_zero l → z < length l → margin_at b l z ≡ margin_of l
+unfolding margin_at
+margin_found b l small z e h = elim (dec_le 2 (length l)) [ yes k ↦ more k | no k ↦ single b l z (omega (arith, k)) ]
   where
-    more : 2 ≤ length l → pick (ltb (length l) 2) 0 (leastBut b l z (length l)) ≡ marginOf l
+    more : 2 ≤ length l → pick (ltb (length l) 2) 0 (least_but b l z (length l)) ≡ margin_of l
     more k =
         simp (le-ltb (length l) 2 k)
-        (rw e (least-but l k b small (firstZero l) ∙ sym (margin-others l k (first_member l (omega (arith, e, h))))))
+        (rw e (least_but_lem l k b small (first_zero l) ∙ sym (margin-others l k (first_member l (omega (arith, e, h))))))
 
 -- no cost of 0: nothing is left out, and the margin is 0
-pub margin-none : (l : List ℕ) → firstZero l ≡ length l → marginOf l ≡ 0
-unfolding marginOf
-margin-none l e = let h : others (firstZero l) l ≡ l = ap (λ n. others n l) e ∙ all l in rw h (omega arith)
+pub margin-none : (l : List ℕ) → first_zero l ≡ length l → margin_of l ≡ 0
+unfolding margin_of
+margin-none l e = let h : others (first_zero l) l ≡ l = ap (λ n. others n l) e ∙ all l in rw h (omega arith)
   where
     all : (l : List ℕ) → others (length l) l ≡ l
     all [] = refl

@@ -5,10 +5,10 @@ use mathlib.Core.Bool.{Bool, true, false, cond, ◌&&◌}
 use Prim.Native.Nat.{ℕ, zero, suc, ◌+◌, ◌/◌, ◌≤◌}
 use native.Mathlib.Omega.{arith}
 use lib.Dec.{leb, ltb, leb→le}
-use Rattle.trellis.specs.Rules.{ruleOf, ruleFor, join_of, powerOf, most_of, greatestOf, firstOk}
-use Rattle.trellis.proofs.Tests.{of-true}
+use Rattle.trellis.specs.Rules.{rule_of, rule_for, join_of, power_of, most_of, greatest_of, first_ok}
+use Rattle.trellis.proofs.Tests.{of_true}
 use Rattle.trellis.proofs.Sent.{Joins}
-use Rattle.trellis.proofs.Instances.{sum-joins, max-joins}
+use Rattle.trellis.proofs.Instances.{sum_joins, max_joins}
 
 pub most-some : (f : ℕ) → 2 ≤ most_of f
 most-some f = go (ltb (f / 16) 2)
@@ -25,29 +25,29 @@ most-few f = go (ltb (f / 16) 2)
     go false = omega arith
 
 -- all that the theory asks of a join of costs holds for the sum and for the greatest
-pub join-joins : (greatest : Bool) → Joins (join_of greatest)
-join-joins true = max-joins
-join-joins false = sum-joins
+pub join_joins : (greatest : Bool) → Joins (join_of greatest)
+join_joins true = max_joins
+join_joins false = sum_joins
 
-pub first-joins : (f : ℕ) → Joins (ruleFor f).join
-first-joins f = join-joins (greatestOf f)
+pub first_joins : (f : ℕ) → Joins (rule_for f).join
+first_joins f = join_joins (greatest_of f)
 
-pub first-power : (f : ℕ) → firstOk f ≡ true → (2 ≤ powerOf f) × (powerOf f ≤ 6)
-unfolding firstOk
-first-power f e = go (leb (f / 16) 3) (leb 2 (powerOf f)) refl (leb (powerOf f) 6) refl e
+pub first-power : (f : ℕ) → first_ok f ≡ true → (2 ≤ power_of f) × (power_of f ≤ 6)
+unfolding first_ok
+first-power f e = go (leb (f / 16) 3) (leb 2 (power_of f)) refl (leb (power_of f) 6) refl e
   where
     apart : false ≡ true → ⊥
     apart e = let z : ◌≡◌ {A = ℕ} 0 1 = cc in omega arith
 
-    go : (a b : Bool) → leb 2 (powerOf f) ≡ b → (c : Bool) → leb (powerOf f) 6 ≡ c → a && (b && c) ≡ true → (2 ≤ powerOf f) × (powerOf f ≤ 6)
-    go true true i true j e = (leb→le 2 (powerOf f) (of-true i), leb→le (powerOf f) 6 (of-true j))
+    go : (a b : Bool) → leb 2 (power_of f) ≡ b → (c : Bool) → leb (power_of f) 6 ≡ c → a && (b && c) ≡ true → (2 ≤ power_of f) × (power_of f ≤ 6)
+    go true true i true j e = (leb→le 2 (power_of f) (of_true i), leb→le (power_of f) 6 (of_true j))
     go true true i false j e = absurd (apart e)
     go true false i c j e = absurd (apart e)
     go false b i c j e = absurd (apart e)
 
 -- Document 02: "Old code lines give the old bytes": all that a code line's first byte fixes is the rule
-pub old-rule : (p : ℕ) → 2 ≤ p → p ≤ 6 → (firstOk p ≡ true) × (ruleFor p ≡ ruleOf p ◌+◌ 2)
-unfolding firstOk
+pub old-rule : (p : ℕ) → 2 ≤ p → p ≤ 6 → (first_ok p ≡ true) × (rule_for p ≡ rule_of p ◌+◌ 2)
+unfolding first_ok
 old-rule zero h k = absurd (omega arith)
 old-rule (suc zero) h k = absurd (omega arith)
 old-rule (suc (suc zero)) h k = (refl, refl)

@@ -12,57 +12,57 @@ use native.Mathlib.Omega.{arith}
 use lib.Dec.{T, ltb, eqb, ltb→lt, eqb→eq, eqb_refl}
 use lib.ListN.{length, get_or, set, length-append, length-map, length-take}
 use lib.Seq.{get_or-set_other}
-use Rattle.trellis.specs.Lists.{each, keep, countFrom, up_to, others, put}
+use Rattle.trellis.specs.Lists.{each, keep, count_from, up_to, others, put}
 use Rattle.trellis.specs.Field.{xor}
-use Rattle.trellis.specs.Check.{column, Rule, Column, Fits, none, more, Allowed, costOf, costAt, decision, decisions, decided, sentAt, deviations, weightedSum}
-use Rattle.trellis.specs.Rows.{difference, symbol_at, entry, before, inOrder, cheapest, Entry, entry_of, kept, selections, among, apart, rows_of, joinedCost, sentFrom}
-use Rattle.trellis.specs.Kept.{Kept-count}
-use Rattle.trellis.proofs.Lists.{in-upTo, of-upTo, in_count, of-count, in-each, of-each, in-keep, of-keep, smallest-in, smallest-le}
+use Rattle.trellis.specs.Check.{column, Rule, Column, Fits, none, more, Allowed, cost_of, cost_at, decision, decisions, decided, sent_at, deviations, weighted_sum}
+use Rattle.trellis.specs.Rows.{difference, symbol_at, entry, before, in_order, cheapest, Entry, entry_of, kept, selections, among, apart, rows_of, joined_cost, sent_from}
+use Rattle.trellis.specs.Kept.{KeptCount}
+use Rattle.trellis.proofs.Lists.{in_up_to, of_up_to, in_count, of_count, in_each, of_each, in_keep, of_keep, smallest_in, smallest_le}
 use Rattle.trellis.proofs.Places.{length-count}
-use Rattle.trellis.proofs.Xor.{xor_assoc, xor-zero, xor_self, xor-right}
+use Rattle.trellis.proofs.Xor.{xor_assoc, xor-zero, xor_self, xor_right}
 use Rattle.trellis.proofs.Total.{fits_below, fits-set, at-put, others_put}
 use Rattle.trellis.proofs.Sent.{Proper, deviates-small, goal, fits-decisions, decisions-cost, decisions-few, at-decisions, cost-others, put_in, sent-below, sent_is}
-use Rattle.trellis.proofs.Tests.{both, fst-T, snd-T, or_left, or_right, or_cases, all-or-one}
+use Rattle.trellis.proofs.Tests.{both, fst_T, snd_T, or_left, or_right, or_cases, all-or-one}
 use Rattle.trellis.proofs.Ranks.{placed}
-use Rattle.trellis.proofs.InOrder.{of-take, of-order, length-order, in-first}
-use Rattle.trellis.proofs.Kept.{rank, KeepsColumn, fine, improve, weightOf, difference-small, symbol-at, symbol-own, cost-set, few-set, sum-set, w₀, f₀, at₀, else₀, few₀, cost₀, sum₀, row-some}
+use Rattle.trellis.proofs.InOrder.{of_take, of_order, length_order, in_first}
+use Rattle.trellis.proofs.Kept.{rank, KeepsColumn, fine, improve, weight_of, difference-small, symbol-at, symbol_own, cost-set, few-set, sum-set, w₀, f₀, at₀, else₀, few₀, cost₀, sum₀, row-some}
 
-length-rows : (f : ℕ → List Entry) (w : ℕ) (l : List ℕ) → ((x : ℕ) → length (f x) ≡ w) → length (each f l) ≡ w * length l
-length-rows f w [] g = omega arith
-length-rows f w (x ∷ l) g = rw (length-append (f x), g x, length-rows f w l g) (omega arith)
+length_rows : (f : ℕ → List Entry) (w : ℕ) (l : List ℕ) → ((x : ℕ) → length (f x) ≡ w) → length (each f l) ≡ w * length l
+length_rows f w [] g = omega arith
+length_rows f w (x ∷ l) g = rw (length-append (f x), g x, length_rows f w l g) (omega arith)
 
 -- how many entries are kept
-pub kept-count : Kept-count
+pub kept-count : KeptCount
 unfolding kept cheapest
-kept-count R s cs = (one, length-rows (λ a. map (entry_of R cs a) (cheapest R s cs a)) (min s (length cs)) (countFrom 1 (R.size - 1)) row ∙ ap (λ n. min s (length cs) * n) (length-count 1 (R.size - 1)))
+kept-count R s cs = (one, length_rows (λ a. map (entry_of R cs a) (cheapest R s cs a)) (min s (length cs)) (count_from 1 (R.size - 1)) row ∙ ap (λ n. min s (length cs) * n) (length-count 1 (R.size - 1)))
   where
     one : (a : ℕ) → length (cheapest R s cs a) ≡ min s (length cs)
-    one a = length-take s (inOrder (entry R cs a) (up_to (length cs))) ∙ ap (min s) (length-order (entry R cs a) (up_to (length cs)) ∙ length-count 0 (length cs))
+    one a = length-take s (in_order (entry R cs a) (up_to (length cs))) ∙ ap (min s) (length_order (entry R cs a) (up_to (length cs)) ∙ length-count 0 (length cs))
 
     row : (a : ℕ) → length (map (entry_of R cs a) (cheapest R s cs a)) ≡ min s (length cs)
     row a = length-map (cheapest R s cs a) (entry_of R cs a) ∙ one a
 
 -- a selection of at most k entries, member by member
-in-selections : (k : ℕ) (es : List Entry) (e : Entry) (l : List Entry) → Memᴰ e es → Memᴰ l (selections k es) → Memᴰ (e ∷ l) (selections (suc k) es)
-in-selections k es e l m i = Memᴰ.tail (in-each (λ e. map (λ l. e ∷ l) (selections k es)) m (Memᴰ.map (λ l. e ∷ l) i))
+in_selections : (k : ℕ) (es : List Entry) (e : Entry) (l : List Entry) → Memᴰ e es → Memᴰ l (selections k es) → Memᴰ (e ∷ l) (selections (suc k) es)
+in_selections k es e l m i = Memᴰ.tail (in_each (λ e. map (λ l. e ∷ l) (selections k es)) m (Memᴰ.map (λ l. e ∷ l) i))
 
-no-selection : (k : ℕ) (es : List Entry) → Memᴰ [] (selections k es)
-no-selection zero es = Memᴰ.head refl
-no-selection (suc k) es = Memᴰ.head refl
+no_selection : (k : ℕ) (es : List Entry) → Memᴰ [] (selections k es)
+no_selection zero es = Memᴰ.head refl
+no_selection (suc k) es = Memᴰ.head refl
 
 record Selected (k : ℕ) (es l : List Entry) : Type 0 where
   few : length l ≤ k
   from : (e : Entry) → Memᴰ e l → Memᴰ e es
 
-of-selections : (k : ℕ) (es l : List Entry) → Memᴰ l (selections k es) → Selected k es l
-of-selections zero es l m = rw (Memᴰ.eq_of_singleton m) (record { few = omega arith; from = λ e i. absurd (Memᴰ.not-nil i) })
-of-selections (suc k) es l m =
+of_selections : (k : ℕ) (es l : List Entry) → Memᴰ l (selections k es) → Selected k es l
+of_selections zero es l m = rw (Memᴰ.eq_of_singleton m) (record { few = omega arith; from = λ e i. absurd (Memᴰ.not-nil i) })
+of_selections (suc k) es l m =
     ⊎_elim
     (λ (q : l ≡ []). rw q (record { few = omega arith; from = λ e i. absurd (Memᴰ.not-nil i) }))
     (λ (i : Memᴰ l (each (λ e. map (λ l. e ∷ l) (selections k es)) es)).
-    let r = of-each (λ e. map (λ l. e ∷ l) (selections k es)) es i in
+    let r = of_each (λ e. map (λ l. e ∷ l) (selections k es)) es i in
     let s = Memᴰ.of_map (λ l. r.0 ∷ l) (selections k es) r.2 in
-    let S = of-selections k es s.0 s.1 in
+    let S = of_selections k es s.0 s.1 in
     rw (← s.2)
     (record {
       few = omega (arith, S.few);
@@ -70,16 +70,16 @@ of-selections (suc k) es l m =
     }))
     (Memᴰ.cases_cons m)
 
-not_T : (b : Bool) → T (not b) → T b → ⊥
-not_T true s t = s
-not_T false s t = t
+not__t : (b : Bool) → T (not b) → T b → ⊥
+not__t true s t = s
+not__t false s t = t
 
 T_not : (b : Bool) → (T b → ⊥) → T (not b)
 T_not true h = h tt
 T_not false h = tt
 
-same-right : (a b z : ℕ) → xor a z ≡ xor b z → a ≡ b
-same-right a b z e = sym (simp (xor_assoc, xor_self, xor-right)) ∙ ap (λ y. xor y z) e ∙ simp (xor_assoc, xor_self, xor-right)
+same_right : (a b z : ℕ) → xor a z ≡ xor b z → a ≡ b
+same_right a b z e = sym (simp (xor_assoc, xor_self, xor_right)) ∙ ap (λ y. xor y z) e ∙ simp (xor_assoc, xor_self, xor_right)
 
 -- every column at its decision
 all-decided : {q : ℕ} {ds : List Column} {w : List ℕ} → Fits q ds w → ((m : ℕ) → m < length ds → get_or w m 0 ≡ (decision (column ds m)).symbol) → w ≡ decisions ds
@@ -102,18 +102,18 @@ module _ (R : Rule) (cs : List Column) (P : Proper R cs) where
   kept_real : (e : Entry) → Memᴰ e K → Real e
   unfolding kept cheapest
   kept_real e m =
-      let r = of-each (λ a. map (entry_of R cs a) (cheapest R (suc R.most) cs a)) (countFrom 1 (R.size - 1)) m in
+      let r = of_each (λ a. map (entry_of R cs a) (cheapest R (suc R.most) cs a)) (count_from 1 (R.size - 1)) m in
       let s = Memᴰ.of_map (entry_of R cs r.0) (cheapest R (suc R.most) cs r.0) r.2 in
-      let o = of-order (entry R cs r.0) (up_to (length cs)) (of-take (suc R.most) _ s.1) in
-      rw (← s.2) (record { row_small = omega (arith, of-count 1 (R.size - 1) r.0 r.1, P.wide); place-small = of-upTo o; costs = refl })
+      let o = of_order (entry R cs r.0) (up_to (length cs)) (of_take (suc R.most) _ s.1) in
+      rw (← s.2) (record { row_small = omega (arith, of_count 1 (R.size - 1) r.0 r.1, P.wide); place-small = of_up_to o; costs = refl })
 
   -- a selection as a choice
   record Built (ns : List ℕ) (l : List Entry) : Type 0 where
     word : List ℕ
     fits : Fits R.size cs word
-    cost : costOf R cs word ≡ joinedCost R l
+    cost : cost_of R cs word ≡ joined_cost R l
     few : deviations cs word ≤ length l
-    sum : weightedSum R cs word ≡ xor (rows_of l) (decided R cs)
+    sum : weighted_sum R cs word ≡ xor (rows_of l) (decided R cs)
     rest : (m : ℕ) → m < length cs → T (among m ns) → get_or word m 0 ≡ (decision (column cs m)).symbol
 
   built : (ns : List ℕ) (l : List Entry) → ((e : Entry) → Memᴰ e l → Real e) → T (apart ns l) → Built ns l
@@ -130,7 +130,7 @@ module _ (R : Rule) (cs : List Column) (P : Proper R cs) where
   built ns (e ∷ l) h t =
       let E = h e (Memᴰ.head refl) in
       let j = E.place-small in
-      let B = built (e.place ∷ ns) l (λ f m. h f (Memᴰ.tail m)) (snd-T (not (among e.place ns)) _ t) in
+      let B = built (e.place ∷ ns) l (λ f m. h f (Memᴰ.tail m)) (snd_T (not (among e.place ns)) _ t) in
       let y : ℕ = symbol_at R (column cs e.place) e.row in
       let s = symbol-at R cs P e.place j e.row E.row_small in
       let d : get_or B.word e.place 0 ≡ (decision (column cs e.place)).symbol = B.rest e.place j (or_left (eqb e.place e.place) _ (eqb_refl e.place)) in
@@ -141,7 +141,7 @@ module _ (R : Rule) (cs : List Column) (P : Proper R cs) where
         few = omega (arith, few-set R cs P e.place j B.fits d s.1, deviates-small (column cs e.place) y, B.few);
         sum = sum-set R cs P e.place j B.fits d s.1 ∙ rw (s.0, B.sum) (sym (xor_assoc e.row (rows_of l) _));
         rest = λ m i k.
-            let m≢ : m ≢ e.place = λ q. not_T (among e.place ns) (fst-T (not (among e.place ns)) _ t) (rw q at k) in
+            let m≢ : m ≢ e.place = λ q. not__t (among e.place ns) (fst_T (not (among e.place ns)) _ t) (rw q at k) in
             get_or-set_other B.word e.place m y 0 m≢ ∙ B.rest m i (or_right (eqb m e.place) _ k);
       }
 
@@ -150,11 +150,11 @@ module _ (R : Rule) (cs : List Column) (P : Proper R cs) where
     passes s = apart (n ∷ []) s && eqb (rows_of s) a
 
     -- none is cheaper than the sent cost
-    none-cheaper : (s : List Entry) → Memᴰ s (selections R.most K) → T (passes s) → sentAt R cs n a ≤ joinedCost R s
+    none-cheaper : (s : List Entry) → Memᴰ s (selections R.most K) → T (passes s) → sent_at R cs n a ≤ joined_cost R s
     none-cheaper s m t =
-        let S = of-selections R.most K s m in
-        let B = built (n ∷ []) s (λ e i. kept_real e (S.from e i)) (fst-T (apart (n ∷ []) s) _ t) in
-        let e : rows_of s ≡ a = eqb→eq _ _ (snd-T (apart (n ∷ []) s) _ t) in
+        let S = of_selections R.most K s m in
+        let B = built (n ∷ []) s (λ e i. kept_real e (S.from e i)) (fst_T (apart (n ∷ []) s) _ t) in
+        let e : rows_of s ≡ a = eqb→eq _ _ (snd_T (apart (n ∷ []) s) _ t) in
         let g : Allowed R cs (goal R cs P a) B.word = record { fits = B.fits; few = omega (arith, B.few, S.few); sum = B.sum ∙ ap (λ y. xor y (decided R cs)) e } in
         omega (arith, B.cost, sent-below R cs P a n l B.word g (B.rest n l (or_left (eqb n n) false (eqb_refl n))))
 
@@ -162,8 +162,8 @@ module _ (R : Rule) (cs : List Column) (P : Proper R cs) where
     record Chosen (N : ℕ) (w : List ℕ) : Type 0 where
       picks : List Entry
       inside : Memᴰ picks (selections N K)
-      cost : joinedCost R picks ≡ costOf R cs w
-      sum : weightedSum R cs w ≡ xor (rows_of picks) (decided R cs)
+      cost : joined_cost R picks ≡ cost_of R cs w
+      sum : weighted_sum R cs w ≡ xor (rows_of picks) (decided R cs)
       differ : (ns : List ℕ) → ((m : ℕ) → T (among m ns) → get_or w m 0 ≡ (decision (column cs m)).symbol) → T (apart ns picks)
 
     cheap-entry : (m x : ℕ) → m < length cs → x < R.size → difference R (column cs m) x ≢ 0 → rank R cs m x < suc R.most
@@ -171,24 +171,24 @@ module _ (R : Rule) (cs : List Column) (P : Proper R cs) where
     unfolding kept cheapest rank entry
     cheap-entry m x j h some low =
         let b : ℕ = difference R (column cs m) x in
-        let e : symbol_at R (column cs m) b ≡ x = symbol-own R cs P m j x h in
+        let e : symbol_at R (column cs m) b ≡ x = symbol_own R cs P m j x h in
         let k : length (keep (λ y. before (entry R cs b y) y (entry R cs b m) m) (up_to (length cs))) < suc R.most = rw e low in
-        in-each (λ a. map (entry_of R cs a) (cheapest R (suc R.most) cs a))
+        in_each (λ a. map (entry_of R cs a) (cheapest R (suc R.most) cs a))
         (in_count 1 (R.size - 1) b (omega (arith, some)) (omega (arith, difference-small R cs P m j x h)))
-        (Memᴰ.map (entry_of R cs b) (in-first (entry R cs b) (suc R.most) (up_to (length cs)) (λ y i. omega (arith, of-upTo {n = length cs} i, P.short)) (in-upTo j) k))
+        (Memᴰ.map (entry_of R cs b) (in_first (entry R cs b) (suc R.most) (up_to (length cs)) (λ y i. omega (arith, of_up_to {n = length cs} i, P.short)) (in_up_to j) k))
 
     undeviating : (N : ℕ) → Chosen N (decisions cs)
     unfolding decided
-    undeviating N = record { picks = []; inside = no-selection N K; cost = sym (decisions-cost R cs P 0); sum = sym (xor-zero _); differ = λ ns h. tt }
+    undeviating N = record { picks = []; inside = no_selection N K; cost = sym (decisions-cost R cs P 0); sum = sym (xor-zero _); differ = λ ns h. tt }
 
     -- a deviation m and the selection of the rest
     module _ (N : ℕ) (w : List ℕ) (f : Fits R.size cs w) (m : ℕ) (j : m < length cs) (d : get_or w m 0 ≢ (decision (column cs m)).symbol) (low : rank R cs m (get_or w m 0) < suc R.most) (C : Chosen N (w₀ R cs P w f m j d)) where
       abbrev b : ℕ
       b = difference R (column cs m) (get_or w m 0)
 
-      own : entry R cs b m ≡ costAt (column cs m) (get_or w m 0)
+      own : entry R cs b m ≡ cost_at (column cs m) (get_or w m 0)
       unfolding entry
-      own = ap (costAt (column cs m)) (symbol-own R cs P m j (get_or w m 0) (fits_below f m j))
+      own = ap (cost_at (column cs m)) (symbol_own R cs P m j (get_or w m 0) (fits_below f m j))
 
       apart_more : (ns : List ℕ) → ((i : ℕ) → T (among i ns) → get_or w i 0 ≡ (decision (column cs i)).symbol) → T (apart ns (entry_of R cs b m ∷ C.picks))
       apart_more ns h =
@@ -206,7 +206,7 @@ module _ (R : Rule) (cs : List Column) (P : Proper R cs) where
       deviating =
           record {
             picks = entry_of R cs b m ∷ C.picks;
-            inside = in-selections N K (entry_of R cs b m) C.picks (cheap-entry m (get_or w m 0) j (fits_below f m j) (row-some R cs P w f m j d) low) C.inside;
+            inside = in_selections N K (entry_of R cs b m) C.picks (cheap-entry m (get_or w m 0) j (fits_below f m j) (row-some R cs P w f m j d) low) C.inside;
             cost = ap₂ R.join own C.cost ∙ sym (cost₀ R cs P w f m j d);
             sum = sum₀ R cs P w f m j d ∙ rw C.sum (sym (xor_assoc b (rows_of C.picks) (decided R cs)));
             differ = apart_more;
@@ -250,7 +250,7 @@ module _ (R : Rule) (cs : List Column) (P : Proper R cs) where
         (all-or-one (at? w) (length cs))
 
     -- a selection of the kept entries that costs no more than the sent cost
-    best : (s : List Entry) × Memᴰ s (keep passes (selections R.most K)) × (joinedCost R s ≤ sentAt R cs n a)
+    best : (s : List Entry) × Memᴰ s (keep passes (selections R.most K)) × (joined_cost R s ≤ sent_at R cs n a)
     best =
         let S = sent_is R cs P a small n l in
         let z : ℕ = (decision (column cs n)).symbol in
@@ -258,24 +258,24 @@ module _ (R : Rule) (cs : List Column) (P : Proper R cs) where
         let g : Allowed R cs (goal R cs P a) w = put_in R cs P a n l S.choice S.allowed in
         let e : get_or w n 0 ≡ z = at-put cs n z l S.allowed.fits in
         let o : others n w ≡ S.choice = others_put cs n z l S.allowed.fits in
-        let c : costOf R cs w ≡ sentAt R cs n a = cost-others R cs P a n l w g.fits e ∙ ap (costOf R (others n cs)) o ∙ S.attained in
-        let r = improve R cs P a n l (suc (placed (weightOf R cs P) 0 w)) w (record { good = g; here = e }) (le_refl _) in
+        let c : cost_of R cs w ≡ sent_at R cs n a = cost-others R cs P a n l w g.fits e ∙ ap (cost_of R (others n cs)) o ∙ S.attained in
+        let r = improve R cs P a n l (suc (placed (weight_of R cs P) 0 w)) w (record { good = g; here = e }) (le_refl _) in
         let v : List ℕ = r.0 in
         let k : KeepsColumn R cs P a n v = r.1 in
         let C = chosen R.most v k.good.fits r.3 k.good.few in
         let at_n : (m : ℕ) → T (among m (n ∷ [])) → get_or v m 0 ≡ (decision (column cs m)).symbol =
         λ m t. let q : m ≡ n = ⊎_elim (λ (s : T (eqb m n)). eqb→eq m n s) (λ (s : ⊥). absurd s) (or_cases (eqb m n) false t) in rw q k.here in
-        let q : rows_of C.picks ≡ a = same-right (rows_of C.picks) a (decided R cs) (sym C.sum ∙ k.good.sum) in (
+        let q : rows_of C.picks ≡ a = same_right (rows_of C.picks) a (decided R cs) (sym C.sum ∙ k.good.sum) in (
           C.picks,
-          in-keep passes C.inside (both (apart (n ∷ []) C.picks) _ (C.differ (n ∷ []) at_n) (rw q (eqb_refl a))),
+          in_keep passes C.inside (both (apart (n ∷ []) C.picks) _ (C.differ (n ∷ []) at_n) (rw q (eqb_refl a))),
           omega (arith, r.2, c, C.cost),
         )
 
     -- sent costs from the k + 1 cheapest entries of each row are the sent costs
-    pub kept-sent : sentFrom R (kept R (suc R.most) cs) n a ≡ sentAt R cs n a
-    unfolding sentFrom
+    pub kept-sent : sent_from R (kept R (suc R.most) cs) n a ≡ sent_at R cs n a
+    unfolding sent_from
     kept-sent =
-        let m = Memᴰ.map (joinedCost R) best.1 in
-        let r = Memᴰ.of_map (joinedCost R) (keep passes (selections R.most K)) (smallest-in m) in
-        let h = of-keep passes (selections R.most K) r.1 in
-        omega (arith, smallest-le m, best.2, r.2, none-cheaper r.0 h.0 h.1)
+        let m = Memᴰ.map (joined_cost R) best.1 in
+        let r = Memᴰ.of_map (joined_cost R) (keep passes (selections R.most K)) (smallest_in m) in
+        let h = of_keep passes (selections R.most K) r.1 in
+        omega (arith, smallest_le m, best.2, r.2, none-cheaper r.0 h.0 h.1)

@@ -13,13 +13,13 @@ use native.Mathlib.Omega.{arith}
 use lib.Dec.{T, ltb, eqb, ltb→lt, eqb→eq, eqb_refl}
 use lib.ListN.{length, get_or, set, get_or-map}
 use lib.Seq.{get_or-set_same, get_or-set_other}
-use Rattle.trellis.specs.Lists.{put, others, keep, countFrom, up_to}
+use Rattle.trellis.specs.Lists.{put, others, keep, count_from, up_to}
 use Rattle.trellis.specs.Field.{xor}
-use Rattle.trellis.specs.Check.{column, blank, Rule, Column, Fits, none, more, Allowed, IsLeast, costOf, costAt, weigh, deviates, decision, decisions, decided, shift, sentAt, extra, extraOfAll, deviations, weightedSum, total}
+use Rattle.trellis.specs.Check.{column, blank, Rule, Column, Fits, none, more, Allowed, IsLeast, cost_of, cost_at, weigh, deviates, decision, decisions, decided, shift, sent_at, extra, extra_of_all, deviations, weighted_sum, total}
 use Rattle.trellis.specs.Record.{above}
-use Rattle.trellis.proofs.Lists.{in-upTo, of-upTo, smallest-in, smallest-le}
-use Rattle.trellis.proofs.Least.{least-is, is-least}
-use Rattle.trellis.proofs.Xor.{xor-zero, xor_assoc, xor_lt, xor-turn, xor-cancel}
+use Rattle.trellis.proofs.Lists.{in_up_to, of_up_to, smallest_in, smallest_le}
+use Rattle.trellis.proofs.Least.{least_is, is_least}
+use Rattle.trellis.proofs.Xor.{xor-zero, xor_assoc, xor_lt, xor_turn, xor_cancel}
 use Rattle.trellis.proofs.Total.{Gathers, fits-length, fits-others, fits-set, fits-put, others_put, at-put, total-others, others-set, others-map}
 
 -- what + and max share
@@ -31,10 +31,10 @@ pub record Joins (op : ℕ → ℕ → ℕ) : Type 0 where
 -- a column of an accepted check
 pub record Sound (R : Rule) (c : Column) : Type 0 where
   pub below : (decision c).symbol < R.size
-  pub free : costAt c (decision c).symbol ≡ 0
+  pub free : cost_at c (decision c).symbol ≡ 0
   pub closed : (x : ℕ) → x < R.size → weigh R c x < R.size
   pub solve : (b : ℕ) → b < R.size → ℕ
-  pub solve-below : (b : ℕ) (h : b < R.size) → solve b h < R.size
+  pub solve_below : (b : ℕ) (h : b < R.size) → solve b h < R.size
   pub single : (x y : ℕ) → x < R.size → y < R.size → weigh R c x ≡ weigh R c y → x ≡ y
   pub solves : (b : ℕ) (h : b < R.size) → weigh R c (solve b h) ≡ b
 
@@ -50,7 +50,7 @@ pub record Proper (R : Rule) (cs : List Column) : Type 0 where
   pub wide : 2 ≤ R.size
 
 pub xors : Gathers xor
-xors = record { left = xor-zero; turn = xor-turn; assoc = xor_assoc }
+xors = record { left = xor-zero; turn = xor_turn; assoc = xor_assoc }
 
 pub sums : Gathers ◌+◌
 sums = record { left = zero-add; turn = add_left_comm; assoc = add_assoc }
@@ -67,15 +67,15 @@ pub total-zero : (op : ℕ → ℕ → ℕ) → Gathers op → (f : Column → �
 total-zero op G f [] h = refl
 total-zero op G f (c ∷ cs) h = rw (h 0 (omega arith), total-zero op G f cs (λ n k. h (suc n) (omega arith))) (G.left 0)
 
-pub deviates-cases : (c : Column) (x : ℕ) → (x ≡ (decision c).symbol) ⊎ (deviates c x ≡ 1)
-deviates-cases c x = go (eqb x (decision c).symbol) refl
+pub deviates_cases : (c : Column) (x : ℕ) → (x ≡ (decision c).symbol) ⊎ (deviates c x ≡ 1)
+deviates_cases c x = go (eqb x (decision c).symbol) refl
   where
     go : (b : Bool) → eqb x (decision c).symbol ≡ b → (x ≡ (decision c).symbol) ⊎ (◌≡◌ {A = ℕ} (cond b 0 1) 1)
     go true e = inl (eqb→eq _ _ (rw e tt))
     go false e = inr refl
 
 pub deviates-small : (c : Column) (x : ℕ) → deviates c x ≤ 1
-deviates-small c x = ⊎_elim (λ e. omega (arith, same-symbol c x e)) (λ e. omega arith) (deviates-cases c x)
+deviates-small c x = ⊎_elim (λ e. omega (arith, same-symbol c x e)) (λ e. omega arith) (deviates_cases c x)
 
 -- fewer deviations than columns: a column keeps its decision
 pub undeviated : {q : ℕ} {cs : List Column} {w : List ℕ} → Fits q cs w → deviations cs w < length cs → (n : ℕ) × (n < length cs) × (get_or w n 0 ≡ (decision (column cs n)).symbol)
@@ -84,17 +84,17 @@ undeviated (more {c = c} {cs = cs} {x = x} {w = w} k f) h =
     ⊎_elim
     (λ (e : x ≡ (decision c).symbol). (0, omega arith, e))
     (λ (e : deviates c x ≡ 1). let r = undeviated f (omega arith) in (suc r.0, omega (arith, r.1), r.2))
-    (deviates-cases c x)
+    (deviates_cases c x)
 
 -- columns of a list that all deviate are at most the deviations
-pub count-le : {q : ℕ} {cs : List Column} {w : List ℕ} → Fits q cs w → (p : ℕ → Bool) (i : ℕ)
-    → ((j n : ℕ) → n ≡ i + j → j < length cs → T (p n) → get_or w j 0 ≡ (decision (column cs j)).symbol → ⊥) → length (keep p (countFrom i (length cs))) ≤ deviations cs w
-count-le none p i h = omega arith
-count-le (more {c = c} {cs = cs} {x = x} {w = w} k f) p i h =
-    go (p i) refl (count-le f p (suc i) (λ j n e l. h (suc j) n (omega arith) (omega arith))) (deviates-cases c x)
+pub count_le : {q : ℕ} {cs : List Column} {w : List ℕ} → Fits q cs w → (p : ℕ → Bool) (i : ℕ)
+    → ((j n : ℕ) → n ≡ i + j → j < length cs → T (p n) → get_or w j 0 ≡ (decision (column cs j)).symbol → ⊥) → length (keep p (count_from i (length cs))) ≤ deviations cs w
+count_le none p i h = omega arith
+count_le (more {c = c} {cs = cs} {x = x} {w = w} k f) p i h =
+    go (p i) refl (count_le f p (suc i) (λ j n e l. h (suc j) n (omega arith) (omega arith))) (deviates_cases c x)
   where
-    go : (b : Bool) → p i ≡ b → length (keep p (countFrom (suc i) (length cs))) ≤ deviations cs w → (x ≡ (decision c).symbol) ⊎ (deviates c x ≡ 1)
-        → length (cond b (i ∷ keep p (countFrom (suc i) (length cs))) (keep p (countFrom (suc i) (length cs)))) ≤ deviates c x + deviations cs w
+    go : (b : Bool) → p i ≡ b → length (keep p (count_from (suc i) (length cs))) ≤ deviations cs w → (x ≡ (decision c).symbol) ⊎ (deviates c x ≡ 1)
+        → length (cond b (i ∷ keep p (count_from (suc i) (length cs))) (keep p (count_from (suc i) (length cs)))) ≤ deviates c x + deviations cs w
     go false e ih d = omega arith
     go true e ih (inl d) = absurd (h 0 i (omega arith) (omega arith) (rw e tt) d)
     go true e ih (inr d) = omega arith
@@ -111,8 +111,8 @@ module _ (R : Rule) (cs : List Column) (P : Proper R cs) (a : ℕ) where
       go [] h = none
       go (d ∷ ds) h = more (h 0 (omega arith)) (go ds (λ n k. h (suc n) (omega arith)))
 
-  pub decisions-cost : costOf R cs (decisions cs) ≡ 0
-  decisions-cost = total-zero R.join P.joins.gathers costAt cs (λ n h. (P.sound n h).free)
+  pub decisions-cost : cost_of R cs (decisions cs) ≡ 0
+  decisions-cost = total-zero R.join P.joins.gathers cost_at cs (λ n h. (P.sound n h).free)
 
   pub decisions-few : deviations cs (decisions cs) ≡ 0
   decisions-few = total-zero ◌+◌ sums deviates cs (λ n h. same-symbol (column cs n) _ refl)
@@ -124,18 +124,18 @@ module _ (R : Rule) (cs : List Column) (P : Proper R cs) (a : ℕ) where
     pub at-decisions : get_or (decisions cs) n 0 ≡ z
     at-decisions = get_or-map (λ c. (decision c).symbol) cs n blank
 
-    pub split-decided : decided R cs ≡ xor (weigh R (column cs n) z) (shift R cs n)
+    pub split_decided : decided R cs ≡ xor (weigh R (column cs n) z) (shift R cs n)
     unfolding decided shift
-    split-decided = rw (total-others xor xors (weigh R) fits-decisions n l, others-map (λ c. (decision c).symbol) cs n, at-decisions)
+    split_decided = rw (total-others xor xors (weigh R) fits-decisions n l, others-map (λ c. (decision c).symbol) cs n, at-decisions)
 
     module _ (w : List ℕ) (f : Fits R.size cs w) (e : get_or w n 0 ≡ z) where
-      pub cost-others : costOf R cs w ≡ costOf R (others n cs) (others n w)
-      cost-others = rw (total-others R.join P.joins.gathers costAt f n l, e, (P.sound n l).free) (P.joins.gathers.left _)
+      pub cost-others : cost_of R cs w ≡ cost_of R (others n cs) (others n w)
+      cost-others = rw (total-others R.join P.joins.gathers cost_at f n l, e, (P.sound n l).free) (P.joins.gathers.left _)
 
       pub few-others : deviations cs w ≡ deviations (others n cs) (others n w)
       few-others = rw (total-others ◌+◌ sums deviates f n l, same-symbol (column cs n) (get_or w n 0) e) (zero-add _)
 
-      pub sum-others : weightedSum R cs w ≡ xor (weigh R (column cs n) z) (weightedSum R (others n cs) (others n w))
+      pub sum-others : weighted_sum R cs w ≡ xor (weigh R (column cs n) z) (weighted_sum R (others n cs) (others n w))
       sum-others = rw (total-others xor xors (weigh R) f n l, e)
 
     -- a choice that decides column n, and a choice for the others
@@ -145,8 +145,8 @@ module _ (R : Rule) (cs : List Column) (P : Proper R cs) (a : ℕ) where
           fits = fits-others h.fits n;
           few = omega (arith, h.few, few-others w h.fits e);
           sum =
-              sym (xor-cancel (weigh R (column cs n) z) (weightedSum R (others n cs) (others n w)))
-              ∙ rw (← sum-others w h.fits e, h.sum, split-decided, xor-turn a, xor-cancel);
+              sym (xor_cancel (weigh R (column cs n) z) (weighted_sum R (others n cs) (others n w)))
+              ∙ rw (← sum-others w h.fits e, h.sum, split_decided, xor_turn a, xor_cancel);
         }
 
     pub put_in : (w : List ℕ) → Allowed R (others n cs) (xor a (shift R cs n)) w → Allowed R cs goal (put n z w)
@@ -157,14 +157,14 @@ module _ (R : Rule) (cs : List Column) (P : Proper R cs) (a : ℕ) where
         record {
           fits = f;
           few = rw (few-others (put n z w) f e, o) h.few;
-          sum = rw (sum-others (put n z w) f e, o, h.sum, split-decided) (xor-turn _ _ _);
+          sum = rw (sum-others (put n z w) f e, o, h.sum, split_decided) (xor_turn _ _ _);
         }
 
-  pub sent-below : (n : ℕ) (l : n < length cs) (w : List ℕ) → Allowed R cs goal w → get_or w n 0 ≡ z n l → sentAt R cs n a ≤ costOf R cs w
-  unfolding sentAt
+  pub sent-below : (n : ℕ) (l : n < length cs) (w : List ℕ) → Allowed R cs goal w → get_or w n 0 ≡ z n l → sent_at R cs n a ≤ cost_of R cs w
+  unfolding sent_at
   sent-below n l w h e =
       let t = take_out n l w e h in
-      rw (cost-others n l w h.fits e) ((least-is R (others n cs) (xor a (shift R cs n)) (others n w) t).least (others n w) t)
+      rw (cost-others n l w h.fits e) ((least_is R (others n cs) (xor a (shift R cs n)) (others n w) t).least (others n w) t)
 
   module _ (small : a < R.size) where
     -- one deviation is enough
@@ -184,7 +184,7 @@ module _ (R : Rule) (cs : List Column) (P : Proper R cs) (a : ℕ) where
 
       single-fits : Fits R.size cs single
       unfolding single symbol
-      single-fits = fits-set fits-decisions m ((P.sound m j).solve-below target target_small)
+      single-fits = fits-set fits-decisions m ((P.sound m j).solve_below target target_small)
 
       single-at : get_or single m 0 ≡ symbol
       unfolding single
@@ -194,9 +194,9 @@ module _ (R : Rule) (cs : List Column) (P : Proper R cs) (a : ℕ) where
       unfolding single
       single-others = others-set (decisions cs) m symbol
 
-      single-cost : costOf R cs single ≡ costAt (column cs m) symbol
+      single-cost : cost_of R cs single ≡ cost_at (column cs m) symbol
       single-cost =
-          rw (total-others R.join P.joins.gathers costAt single-fits m j, single-at, single-others, ← cost-others m j (decisions cs) fits-decisions (at-decisions m j), decisions-cost)
+          rw (total-others R.join P.joins.gathers cost_at single-fits m j, single-at, single-others, ← cost-others m j (decisions cs) fits-decisions (at-decisions m j), decisions-cost)
           (P.joins.right _)
 
       single-allowed : Allowed R cs goal single
@@ -205,7 +205,7 @@ module _ (R : Rule) (cs : List Column) (P : Proper R cs) (a : ℕ) where
           record {
             fits = single-fits;
             few = rw (total-others ◌+◌ sums deviates single-fits m j, single-others, ← few-others m j (decisions cs) fits-decisions (at-decisions m j), decisions-few) (omega (arith, P.one, deviates-small (column cs m) (get_or single m 0)));
-            sum = unfold symbol in rw (total-others xor xors (weigh R) single-fits m j, single-at, single-others, (P.sound m j).solves target target_small, split-decided m j, others-map (λ c. (decision c).symbol) cs m) (xor_assoc _ _ _);
+            sum = unfold symbol in rw (total-others xor xors (weigh R) single-fits m j, single-at, single-others, (P.sound m j).solves target target_small, split_decided m j, others-map (λ c. (decision c).symbol) cs m) (xor_assoc _ _ _);
           }
 
     -- a choice with one deviation, in a column other than n, is one for the columns other than n
@@ -213,34 +213,34 @@ module _ (R : Rule) (cs : List Column) (P : Proper R cs) (a : ℕ) where
     unfolding single
     single-keeps n m l j ne = get_or-set_other (decisions cs) m n (symbol m j) 0 ne ∙ at-decisions n l
 
-    pub sent-one : (n m : ℕ) (l : n < length cs) (j : m < length cs) → n ≢ m → sentAt R cs n a ≤ costAt (column cs m) (symbol m j)
+    pub sent-one : (n m : ℕ) (l : n < length cs) (j : m < length cs) → n ≢ m → sent_at R cs n a ≤ cost_at (column cs m) (symbol m j)
     sent-one n m l j ne = rw (← single-cost m j) (sent-below n l (single m j) (single-allowed m j) (single-keeps n m l j ne))
 
-    pub sent_is : (n : ℕ) (l : n < length cs) → IsLeast R (others n cs) (xor a (shift R cs n)) (sentAt R cs n a)
-    unfolding sentAt
+    pub sent_is : (n : ℕ) (l : n < length cs) → IsLeast R (others n cs) (xor a (shift R cs n)) (sent_at R cs n a)
+    unfolding sent_at
     sent_is n l =
         elim (ℕ_discrete n 0) [
           | yes e ↦ by 1 (omega (arith, P.two)) (omega arith)
           | no e ↦ by 0 (omega arith) e
         ]
       where
-        by : (m : ℕ) → m < length cs → n ≢ m → IsLeast R (others n cs) (xor a (shift R cs n)) (sentAt R cs n a)
-        by m j ne = least-is R (others n cs) (xor a (shift R cs n)) _ (take_out n l (single m j) (single-keeps n m l j ne) (single-allowed m j))
+        by : (m : ℕ) → m < length cs → n ≢ m → IsLeast R (others n cs) (xor a (shift R cs n)) (sent_at R cs n a)
+        by m j ne = least_is R (others n cs) (xor a (shift R cs n)) _ (take_out n l (single m j) (single-keeps n m l j ne) (single-allowed m j))
 
     -- E is sent to a column
-    pub extra-sent : (n : ℕ) × (n < length cs) × (sentAt R cs n a ≡ extra R cs a)
+    pub extra-sent : (n : ℕ) × (n < length cs) × (sent_at R cs n a ≡ extra R cs a)
     unfolding extra
     extra-sent =
-        let r = Memᴰ.of_map (λ n. sentAt R cs n a) (up_to (length cs)) (smallest-in (Memᴰ.map (λ n. sentAt R cs n a) (in-upTo {n = length cs} {x = 0} (omega (arith, P.two))))) in
-        (r.0, of-upTo r.1, r.2)
+        let r = Memᴰ.of_map (λ n. sent_at R cs n a) (up_to (length cs)) (smallest_in (Memᴰ.map (λ n. sent_at R cs n a) (in_up_to {n = length cs} {x = 0} (omega (arith, P.two))))) in
+        (r.0, of_up_to r.1, r.2)
 
     -- and to none less
-    pub extra-le : (n : ℕ) → n < length cs → extra R cs a ≤ sentAt R cs n a
+    pub extra_le : (n : ℕ) → n < length cs → extra R cs a ≤ sent_at R cs n a
     unfolding extra
-    extra-le n l = smallest-le (Memᴰ.map (λ n. sentAt R cs n a) (in-upTo l))
+    extra_le n l = smallest_le (Memᴰ.map (λ n. sent_at R cs n a) (in_up_to l))
 
     -- It is the cost of a choice for all columns with at most k deviations, one column of which keeps its decision
-    pub extra-at : (w : List ℕ) × Allowed R cs goal w × (costOf R cs w ≡ extra R cs a)
+    pub extra-at : (w : List ℕ) × Allowed R cs goal w × (cost_of R cs w ≡ extra R cs a)
     extra-at =
         let r = extra-sent in
         let n : ℕ = r.0 in
@@ -257,12 +257,12 @@ module _ (R : Rule) (cs : List Column) (P : Proper R cs) (a : ℕ) where
     unfolding above
     above-few =
         let w = extra-at in
-        omega (arith, w.1.few, count-le w.1.fits (λ n. ltb (extra R cs a) (sentAt R cs n a)) 0 (clash w.0 w.1 w.2))
+        omega (arith, w.1.few, count_le w.1.fits (λ n. ltb (extra R cs a) (sent_at R cs n a)) 0 (clash w.0 w.1 w.2))
       where
-        clash : (w : List ℕ) → Allowed R cs goal w → costOf R cs w ≡ extra R cs a
-            → (j n : ℕ) → n ≡ 0 + j → j < length cs → T (ltb (extra R cs a) (sentAt R cs n a)) → get_or w j 0 ≡ (decision (column cs j)).symbol → ⊥
+        clash : (w : List ℕ) → Allowed R cs goal w → cost_of R cs w ≡ extra R cs a
+            → (j n : ℕ) → n ≡ 0 + j → j < length cs → T (ltb (extra R cs a) (sent_at R cs n a)) → get_or w j 0 ≡ (decision (column cs j)).symbol → ⊥
         clash w h c j n e l t k =
-            let s : extra R cs a < sentAt R cs j a = rw (e, zero-add j) at (ltb→lt (extra R cs a) (sentAt R cs n a) t) in
+            let s : extra R cs a < sent_at R cs j a = rw (e, zero-add j) at (ltb→lt (extra R cs a) (sent_at R cs n a) t) in
             omega (arith, sent-below j l w h k)
 
     -- where the degree exceeds k, E is what document 01 says
@@ -272,15 +272,15 @@ module _ (R : Rule) (cs : List Column) (P : Proper R cs) (a : ℕ) where
           choice = extra-at.0;
           allowed = extra-at.1;
           attained = extra-at.2;
-          least = λ w h. let r = undeviated h.fits (omega (arith, h.few)) in omega (arith, extra-le r.0 r.1, sent-below r.0 r.1 w h r.2);
+          least = λ w h. let r = undeviated h.fits (omega (arith, h.few)) in omega (arith, extra_le r.0 r.1, sent-below r.0 r.1 w h r.2);
         }
 
-    pub extra-of-all : R.most < length cs → extraOfAll R cs a ≡ extra R cs a
-    unfolding extraOfAll
-    extra-of-all deep = is-least R cs goal (extra-least deep)
+    pub extra_of_all_lem : R.most < length cs → extra_of_all R cs a ≡ extra R cs a
+    unfolding extra_of_all
+    extra_of_all_lem deep = is_least R cs goal (extra-least deep)
 
 -- S(0) = 0: the decisions
-pub sent-zero : (R : Rule) (cs : List Column) → Proper R cs → (n : ℕ) → n < length cs → sentAt R cs n 0 ≡ 0
+pub sent-zero : (R : Rule) (cs : List Column) → Proper R cs → (n : ℕ) → n < length cs → sent_at R cs n 0 ≡ 0
 unfolding decided
 sent-zero R cs P n l =
     let h : Allowed R cs (xor 0 (decided R cs)) (decisions cs) =

@@ -15,14 +15,14 @@ use lib.Seq.{get_or-take, get_or-drop, drop-cons, take-suc}
 use lib.Pow.{pow_pos}
 use Rattle.trellis.specs.Lists.{keep, others}
 use Rattle.trellis.specs.Field.{xor}
-use Rattle.trellis.specs.Check.{column, blank, Rule, Column, Fits, none, more, costOf, costAt, weigh, deviates, decision, deviations, weightedSum, total, choices, shift, sentAt}
-use Rattle.trellis.specs.Sweep.{mark, Counted, Keeps, counted?, swept, leastTo, deviationCost, stepped, across, joined, sweptSent}
-use Rattle.trellis.proofs.Tests.{both, fst-T, snd-T}
-use Rattle.trellis.proofs.Lists.{in-keep, of-keep}
-use Rattle.trellis.proofs.Least.{in-choices, of-choices}
-use Rattle.trellis.proofs.Xor.{xor_comm, xor-right, xor-cancel}
-use Rattle.trellis.proofs.Total.{Gathers, fits-append, fits-split, total-append}
-use Rattle.trellis.proofs.Sent.{Joins, Sound, Proper, xors, sums, same-symbol, deviates-cases, sent_is}
+use Rattle.trellis.specs.Check.{column, blank, Rule, Column, Fits, none, more, cost_of, cost_at, weigh, deviates, decision, deviations, weighted_sum, total, choices, shift, sent_at}
+use Rattle.trellis.specs.Sweep.{mark, Counted, Keeps, counted?, swept, least_to, deviation_cost, stepped, across, joined, swept_sent}
+use Rattle.trellis.proofs.Tests.{both, fst_T, snd_T}
+use Rattle.trellis.proofs.Lists.{in_keep, of_keep}
+use Rattle.trellis.proofs.Least.{in_choices, of_choices}
+use Rattle.trellis.proofs.Xor.{xor_comm, xor_right, xor_cancel}
+use Rattle.trellis.proofs.Total.{Gathers, fits-append, fits_split, total-append}
+use Rattle.trellis.proofs.Sent.{Joins, Sound, Proper, xors, sums, same-symbol, deviates_cases, sent_is}
 use Rattle.trellis.proofs.Records.{size-xor}
 
 -- below the mark, m is the least number with the property
@@ -30,17 +30,17 @@ pub record Near (P : ℕ → Type 0) (m : ℕ) : Type 0 where
   pub attained : (mark ≤ m) ⊎ P m
   pub least : (n : ℕ) → P n → m ≤ n
 
-pub near-one : {P : ℕ → Type 0} {a b : ℕ} → Near P a → Near P b → a ≤ mark → b ≤ mark → a ≡ b
-near-one {P} {a} {b} A B h k = omega (arith, side A B k, side B A h)
+pub near_one : {P : ℕ → Type 0} {a b : ℕ} → Near P a → Near P b → a ≤ mark → b ≤ mark → a ≡ b
+near_one {P} {a} {b} A B h k = omega (arith, side A B k, side B A h)
   where
     side : {x y : ℕ} → Near P x → Near P y → y ≤ mark → y ≤ x
     side {x} {y} X Y u = ⊎_elim (λ (g : mark ≤ x). omega arith) (λ (g : P x). Y.least x g) X.attained
 
-pub near-iff : {P Q : ℕ → Type 0} → ((m : ℕ) → P m → Q m) → ((m : ℕ) → Q m → P m) → {k : ℕ} → Near P k → Near Q k
-near-iff f g {k} b = record { attained = ⊎_elim (λ h. inl h) (λ h. inr (f k h)) b.attained; least = λ n h. b.least n (g n h) }
+pub near_iff : {P Q : ℕ → Type 0} → ((m : ℕ) → P m → Q m) → ((m : ℕ) → Q m → P m) → {k : ℕ} → Near P k → Near Q k
+near_iff f g {k} b = record { attained = ⊎_elim (λ h. inl h) (λ h. inr (f k h)) b.attained; least = λ n h. b.least n (g n h) }
 
-near-min : {P Q : ℕ → Type 0} {a b : ℕ} → Near P a → Near Q b → Near (λ m. P m ⊎ Q m) (min a b)
-near-min {P} {Q} {a} {b} A B =
+near_min : {P Q : ℕ → Type 0} {a b : ℕ} → Near P a → Near Q b → Near (λ m. P m ⊎ Q m) (min a b)
+near_min {P} {Q} {a} {b} A B =
     record {
       attained =
           elim (dec_le a b) [
@@ -50,28 +50,28 @@ near-min {P} {Q} {a} {b} A B =
       least = λ n s. ⊎_elim (λ (p : P n). omega (arith, A.least n p)) (λ (p : Q n). omega (arith, B.least n p)) s;
     }
 
-pub leastTo-mark : (f : ℕ → ℕ) (n : ℕ) → leastTo f n ≤ mark
-leastTo-mark f zero = le_refl _
-leastTo-mark f (suc n) = omega (arith, leastTo-mark f n)
+pub least_to-mark : (f : ℕ → ℕ) (n : ℕ) → least_to f n ≤ mark
+least_to-mark f zero = le_refl _
+least_to-mark f (suc n) = omega (arith, least_to-mark f n)
 
-near-leastTo : (P : ℕ → ℕ → Type 0) (f : ℕ → ℕ) (n : ℕ) → ((x : ℕ) → x < n → Near (P x) (f x)) → Near (λ m. (x : ℕ) × (x < n) × P x m) (leastTo f n)
-near-leastTo P f zero h = record { attained = inl (le_refl _); least = λ m s. absurd (not-suc-le-zero s.1) }
-near-leastTo P f (suc n) h =
-    near-iff {P = λ m. ((x : ℕ) × (x < n) × P x m) ⊎ P n m}
+near_least_to : (P : ℕ → ℕ → Type 0) (f : ℕ → ℕ) (n : ℕ) → ((x : ℕ) → x < n → Near (P x) (f x)) → Near (λ m. (x : ℕ) × (x < n) × P x m) (least_to f n)
+near_least_to P f zero h = record { attained = inl (le_refl _); least = λ m s. absurd (not-suc-le-zero s.1) }
+near_least_to P f (suc n) h =
+    near_iff {P = λ m. ((x : ℕ) × (x < n) × P x m) ⊎ P n m}
     (λ m s. ⊎_elim (λ (r : (x : ℕ) × (x < n) × P x m). (r.0, omega (arith, r.1), r.2)) (λ (p : P n m). (n, omega arith, p)) s)
     (λ m s. elim (ℕ_discrete s.0 n) [
       | yes e ↦ inr (rw e at s.2)
       | no e ↦ inl (s.0, omega (arith, s.1), s.2)
     ])
-    (near-min (near-leastTo P f n (λ x l. h x (omega arith))) (h n (omega arith)))
+    (near_min (near_least_to P f n (λ x l. h x (omega arith))) (h n (omega arith)))
 
-near-fold : (l : List ℕ) → Near (λ m. Memᴰ m l) (foldr min mark l)
-near-fold [] = record { attained = inl (le_refl _); least = λ m s. absurd (Memᴰ.not-nil s) }
-near-fold (x ∷ l) =
-    near-iff {P = λ m. (m ≡ x) ⊎ Memᴰ m l}
+near_fold : (l : List ℕ) → Near (λ m. Memᴰ m l) (foldr min mark l)
+near_fold [] = record { attained = inl (le_refl _); least = λ m s. absurd (Memᴰ.not-nil s) }
+near_fold (x ∷ l) =
+    near_iff {P = λ m. (m ≡ x) ⊎ Memᴰ m l}
     (λ m s. ⊎_elim (λ (e : m ≡ x). Memᴰ.head e) (λ (k : Memᴰ m l). Memᴰ.tail k) s)
     (λ m s. Memᴰ.cases_cons s)
-    (near-min {P = λ m. m ≡ x} record { attained = inr refl; least = λ n e. omega arith } (near-fold l))
+    (near_min {P = λ m. m ≡ x} record { attained = inr refl; least = λ n e. omega arith } (near_fold l))
 
 fold-mark : (l : List ℕ) → foldr min mark l ≤ mark
 fold-mark [] = le_refl _
@@ -79,35 +79,35 @@ fold-mark (x ∷ l) = omega (arith, fold-mark l)
 
 -- m is the cost of a choice with j deviations and weighted sum t
 abbrev pub SweepCosts : Rule → List Column → ℕ → ℕ → ℕ → Type 0
-SweepCosts R cs j t m = (w : List ℕ) × Counted R cs j t w × (costOf R cs w ≡ m)
+SweepCosts R cs j t m = (w : List ℕ) × Counted R cs j t w × (cost_of R cs w ≡ m)
 
 module _ (R : Rule) (cs : List Column) (j t : ℕ) where
   pub swept-mark : swept R cs j t ≤ mark
   unfolding swept
-  swept-mark = fold-mark (map (costOf R cs) (keep (counted? R cs j t) (choices R.size cs)))
+  swept-mark = fold-mark (map (cost_of R cs) (keep (counted? R cs j t) (choices R.size cs)))
 
-  pub swept-near : Near (SweepCosts R cs j t) (swept R cs j t)
+  pub swept_near : Near (SweepCosts R cs j t) (swept R cs j t)
   unfolding swept
-  swept-near =
-      near-iff
+  swept_near =
+      near_iff
       (λ m s.
-      let r = Memᴰ.of_map (costOf R cs) (keep (counted? R cs j t) (choices R.size cs)) s in
-      let k = of-keep (counted? R cs j t) (choices R.size cs) r.1 in
-      (r.0, record { fits = of-choices R.size cs r.0 k.0; count = eqb→eq _ _ (fst-T (eqb (deviations cs r.0) j) _ k.1); sum = eqb→eq _ _ (snd-T (eqb (deviations cs r.0) j) _ k.1) }, r.2))
-      (λ m s. rw (← s.2) (Memᴰ.map (costOf R cs) (in-keep (counted? R cs j t) (in-choices s.1.fits) (both (eqb (deviations cs s.0) j) _ (rw s.1.count (eqb_refl j)) (rw s.1.sum (eqb_refl t))))))
-      (near-fold _)
+      let r = Memᴰ.of_map (cost_of R cs) (keep (counted? R cs j t) (choices R.size cs)) s in
+      let k = of_keep (counted? R cs j t) (choices R.size cs) r.1 in
+      (r.0, record { fits = of_choices R.size cs r.0 k.0; count = eqb→eq _ _ (fst_T (eqb (deviations cs r.0) j) _ k.1); sum = eqb→eq _ _ (snd_T (eqb (deviations cs r.0) j) _ k.1) }, r.2))
+      (λ m s. rw (← s.2) (Memᴰ.map (cost_of R cs) (in_keep (counted? R cs j t) (in_choices s.1.fits) (both (eqb (deviations cs s.0) j) _ (rw s.1.count (eqb_refl j)) (rw s.1.sum (eqb_refl t))))))
+      (near_fold _)
 
   -- where every such choice costs less than the mark: the least of them, or the mark where there is none
-  pub swept_keeps : ((w : List ℕ) → Counted R cs j t w → costOf R cs w < mark) → Keeps R cs j t (swept R cs j t)
+  pub swept_keeps : ((w : List ℕ) → Counted R cs j t w → cost_of R cs w < mark) → Keeps R cs j t (swept R cs j t)
   swept_keeps small =
       ⊎_elim
-      (λ (h : mark ≤ swept R cs j t). inr (omega (arith, swept-mark), λ w c. absurd (omega (arith, small w c, swept-near.least (costOf R cs w) (w, c, refl)))))
-      (λ (h : SweepCosts R cs j t (swept R cs j t)). inl record { choice = h.0; counted = h.1; attained = h.2; least = λ w c. swept-near.least (costOf R cs w) (w, c, refl) })
-      swept-near.attained
+      (λ (h : mark ≤ swept R cs j t). inr (omega (arith, swept-mark), λ w c. absurd (omega (arith, small w c, swept_near.least (cost_of R cs w) (w, c, refl)))))
+      (λ (h : SweepCosts R cs j t (swept R cs j t)). inl record { choice = h.0; counted = h.1; attained = h.2; least = λ w c. swept_near.least (cost_of R cs w) (w, c, refl) })
+      swept_near.attained
 
 -- no column: one choice, of cost 0
 pub swept_none : (R : Rule) (j t : ℕ) → swept R [] j t ≡ cond (eqb j 0) (cond (eqb t 0) 0 mark) mark
-swept_none R j t = near-one (swept-near R [] j t) (go (eqb j 0) refl (eqb t 0) refl) (swept-mark R [] j t) (capped (eqb j 0) (eqb t 0))
+swept_none R j t = near_one (swept_near R [] j t) (go (eqb j 0) refl (eqb t 0) refl) (swept-mark R [] j t) (capped (eqb j 0) (eqb t 0))
   where
     capped : (a b : Bool) → cond a (cond b 0 mark) mark ≤ mark
     capped true true = omega arith
@@ -138,15 +138,15 @@ module _ (R : Rule) (J : Joins R.join) where
       }
 
   -- a column in front
-  module _ (c : Column) (below : (decision c).symbol < R.size) (free : costAt c (decision c).symbol ≡ 0) (cs : List Column) where
+  module _ (c : Column) (below : (decision c).symbol < R.size) (free : cost_at c (decision c).symbol ≡ 0) (cs : List Column) where
     abbrev z : ℕ
     z = (decision c).symbol
 
     -- the cost of a deviation
-    near-cost : (x : ℕ) → Near (λ m. (x ≢ z) × (m ≡ costAt c x)) (deviationCost c x)
+    near-cost : (x : ℕ) → Near (λ m. (x ≢ z) × (m ≡ cost_at c x)) (deviation_cost c x)
     near-cost x = go (eqb x z) refl
       where
-        go : (b : Bool) → eqb x z ≡ b → Near (λ m. (x ≢ z) × (m ≡ costAt c x)) (cond b mark (costAt c x))
+        go : (b : Bool) → eqb x z ≡ b → Near (λ m. (x ≢ z) × (m ≡ cost_at c x)) (cond b mark (cost_at c x))
         go true e = record { attained = inl (le_refl _); least = λ n s. absurd (s.0 (eqb→eq x z (rw e tt))) }
         go false e = record { attained = inr ((λ h. let u : T (eqb x z) = rw h (eqb_refl z) in rw e at u), refl); least = λ n s. omega arith }
 
@@ -154,23 +154,23 @@ module _ (R : Rule) (J : Joins R.join) where
     Keeping j t m = SweepCosts R cs j (xor t (weigh R c z)) m
 
     abbrev Deviating : ℕ → ℕ → ℕ → Type 0
-    Deviating j t m = (x : ℕ) × (x < R.size) × ((y v : ℕ) × ((x ≢ z) × (y ≡ costAt c x)) × SweepCosts R cs j (xor t (weigh R c x)) v × (m ≡ R.join y v))
+    Deviating j t m = (x : ℕ) × (x < R.size) × ((y v : ℕ) × ((x ≢ z) × (y ≡ cost_at c x)) × SweepCosts R cs j (xor t (weigh R c x)) v × (m ≡ R.join y v))
 
     moved : (x : ℕ) {s t : ℕ} → s ≡ xor t (weigh R c x) → xor (weigh R c x) s ≡ t
-    moved x {s} {t} e = rw (e, xor_comm t) (xor-cancel (weigh R c x) t)
+    moved x {s} {t} e = rw (e, xor_comm t) (xor_cancel (weigh R c x) t)
 
     back : (x : ℕ) {s t : ℕ} → xor (weigh R c x) s ≡ t → s ≡ xor t (weigh R c x)
-    back x {s} {t} e = sym (rw (← e, xor_comm (xor (weigh R c x) s)) (xor-cancel (weigh R c x) s))
+    back x {s} {t} e = sym (rw (← e, xor_comm (xor (weigh R c x) s)) (xor_cancel (weigh R c x) s))
 
     keeping : (j t m : ℕ) → Keeping j t m → SweepCosts R (c ∷ cs) j t m
     keeping j t m h = (
       z ∷ h.0,
       record { fits = more below h.1.fits; count = rw (same-symbol c z refl, zero-add) h.1.count; sum = moved z h.1.sum },
-      rw (free, J.gathers.left (costOf R cs h.0)) h.2,
+      rw (free, J.gathers.left (cost_of R cs h.0)) h.2,
     )
 
     differs : (x : ℕ) → x ≢ z → deviates c x ≡ 1
-    differs x n = ⊎_elim (λ (e : x ≡ z). absurd (n e)) (λ e. e) (deviates-cases c x)
+    differs x n = ⊎_elim (λ (e : x ≡ z). absurd (n e)) (λ e. e) (deviates_cases c x)
 
     deviating : (j t m : ℕ) → Deviating j t m → SweepCosts R (c ∷ cs) (suc j) t m
     deviating j t m h =
@@ -184,25 +184,25 @@ module _ (R : Rule) (J : Joins R.join) where
     split : (j t m : ℕ) → SweepCosts R (c ∷ cs) j t m → Keeping j t m ⊎ ((i : ℕ) × (j ≡ suc i) × Deviating i t m)
     split j t m (w, h, e) = go h.fits h.count h.sum e
       where
-        go : {w : List ℕ} → Fits R.size (c ∷ cs) w → deviations (c ∷ cs) w ≡ j → weightedSum R (c ∷ cs) w ≡ t → costOf R (c ∷ cs) w ≡ m → Keeping j t m ⊎ ((i : ℕ) × (j ≡ suc i) × Deviating i t m)
+        go : {w : List ℕ} → Fits R.size (c ∷ cs) w → deviations (c ∷ cs) w ≡ j → weighted_sum R (c ∷ cs) w ≡ t → cost_of R (c ∷ cs) w ≡ m → Keeping j t m ⊎ ((i : ℕ) × (j ≡ suc i) × Deviating i t m)
         go (more {x = x} {w = w} k f) d s e =
             elim (ℕ_discrete x z) [
               | yes u ↦
-                  inl (w, record { fits = f; count = sym (zero-add _) ∙ ap (λ y. y + deviations cs w) (sym (same-symbol c x u)) ∙ d; sum = back z (ap (λ y. xor (weigh R c y) (weightedSum R cs w)) (sym u) ∙ s) }, sym (J.gathers.left _) ∙ ap (λ y. R.join y (costOf R cs w)) (sym (ap (costAt c) u ∙ free)) ∙ e)
-              | no u ↦ inr (deviations cs w, omega (arith, differs x u), (x, k, (costAt c x, costOf R cs w, (u, refl), (w, record { fits = f; count = refl; sum = back x s }, refl), sym e)))
+                  inl (w, record { fits = f; count = sym (zero-add _) ∙ ap (λ y. y + deviations cs w) (sym (same-symbol c x u)) ∙ d; sum = back z (ap (λ y. xor (weigh R c y) (weighted_sum R cs w)) (sym u) ∙ s) }, sym (J.gathers.left _) ∙ ap (λ y. R.join y (cost_of R cs w)) (sym (ap (cost_at c) u ∙ free)) ∙ e)
+              | no u ↦ inr (deviations cs w, omega (arith, differs x u), (x, k, (cost_at c x, cost_of R cs w, (u, refl), (w, record { fits = f; count = refl; sum = back x s }, refl), sym e)))
             ]
 
     step-near : (j t : ℕ) → Near (SweepCosts R (c ∷ cs) j t) (stepped R c (swept R cs) j t)
     unfolding stepped
     step-near zero t =
-        near-iff (keeping 0 t) (λ m h. ⊎_elim (λ k. k) (λ (r : (i : ℕ) × (0 ≡ suc i) × Deviating i t m). absurd (omega (arith, r.1))) (split 0 t m h)) (swept-near R cs 0 (xor t (weigh R c z)))
+        near_iff (keeping 0 t) (λ m h. ⊎_elim (λ k. k) (λ (r : (i : ℕ) × (0 ≡ suc i) × Deviating i t m). absurd (omega (arith, r.1))) (split 0 t m h)) (swept_near R cs 0 (xor t (weigh R c z)))
     step-near (suc j) t =
-        near-iff {P = λ m. Keeping (suc j) t m ⊎ Deviating j t m}
+        near_iff {P = λ m. Keeping (suc j) t m ⊎ Deviating j t m}
         (λ m s. ⊎_elim (keeping (suc j) t m) (deviating j t m) s)
         (λ m h. ⊎_elim (λ k. inl k) (λ (r : (i : ℕ) × (suc j ≡ suc i) × Deviating i t m). let e : j ≡ r.0 = omega (arith, r.1) in inr (rw e r.2)) (split (suc j) t m h))
-        (near-min (swept-near R cs (suc j) (xor t (weigh R c z)))
-        (near-leastTo _ (λ x. R.join (deviationCost c x) (swept R cs j (xor t (weigh R c x)))) R.size
-        (λ x l. near-join _ _ (deviationCost c x) (swept R cs j (xor t (weigh R c x))) (near-cost x) (swept-near R cs j (xor t (weigh R c x))))))
+        (near_min (swept_near R cs (suc j) (xor t (weigh R c z)))
+        (near_least_to _ (λ x. R.join (deviation_cost c x) (swept R cs j (xor t (weigh R c x)))) R.size
+        (λ x l. near-join _ _ (deviation_cost c x) (swept R cs j (xor t (weigh R c x))) (near-cost x) (swept_near R cs j (xor t (weigh R c x))))))
 
     step-mark : (j t : ℕ) → stepped R c (swept R cs) j t ≤ mark
     unfolding stepped
@@ -211,7 +211,7 @@ module _ (R : Rule) (J : Joins R.join) where
 
     -- the sweep from the last column to the first: one step more
     pub swept-front : (j t : ℕ) → swept R (c ∷ cs) j t ≡ stepped R c (swept R cs) j t
-    swept-front j t = near-one (swept-near R (c ∷ cs) j t) (step-near j t) (swept-mark R (c ∷ cs) j t) (step-mark j t)
+    swept-front j t = near_one (swept_near R (c ∷ cs) j t) (step-near j t) (swept-mark R (c ∷ cs) j t) (step-mark j t)
 
     total-last : (op : ℕ → ℕ → ℕ) → Gathers op → ((a : ℕ) → op a 0 ≡ a) → (f : Column → ℕ → ℕ) {w : List ℕ} (x : ℕ) → Fits R.size cs w → total op f (cs ++ (c ∷ [])) (w ++ (x ∷ [])) ≡ op (f c x) (total op f cs w)
     total-last op G r f {w} x h = total-append op G f h (c ∷ []) (x ∷ []) ∙ G.turn (total op f cs w) (f c x) 0 ∙ ap (op (f c x)) (r (total op f cs w))
@@ -219,15 +219,15 @@ module _ (R : Rule) (J : Joins R.join) where
     turned : (j t m : ℕ) → SweepCosts R (c ∷ cs) j t m → SweepCosts R (cs ++ (c ∷ [])) j t m
     turned j t m (w, h, e) = go h.fits h.count h.sum e
       where
-        go : {w : List ℕ} → Fits R.size (c ∷ cs) w → deviations (c ∷ cs) w ≡ j → weightedSum R (c ∷ cs) w ≡ t → costOf R (c ∷ cs) w ≡ m → SweepCosts R (cs ++ (c ∷ [])) j t m
+        go : {w : List ℕ} → Fits R.size (c ∷ cs) w → deviations (c ∷ cs) w ≡ j → weighted_sum R (c ∷ cs) w ≡ t → cost_of R (c ∷ cs) w ≡ m → SweepCosts R (cs ++ (c ∷ [])) j t m
         go (more {x = x} {w = w} k f) d s e = (
           w ++ (x ∷ []),
-          record { fits = fits-append f (more k none); count = total-last ◌+◌ sums add-zero deviates x f ∙ d; sum = total-last xor xors xor-right (weigh R) x f ∙ s },
-          total-last R.join J.gathers J.right costAt x f ∙ e,
+          record { fits = fits-append f (more k none); count = total-last ◌+◌ sums add-zero deviates x f ∙ d; sum = total-last xor xors xor_right (weigh R) x f ∙ s },
+          total-last R.join J.gathers J.right cost_at x f ∙ e,
         )
 
     turned-back : (j t m : ℕ) → SweepCosts R (cs ++ (c ∷ [])) j t m → SweepCosts R (c ∷ cs) j t m
-    turned-back j t m (u, h, e) = let r = fits-split cs h.fits in go r.0 r.2 r.3 r.4
+    turned-back j t m (u, h, e) = let r = fits_split cs h.fits in go r.0 r.2 r.3 r.4
       where
         go : (w : List ℕ) {v : List ℕ} → Fits R.size cs w → Fits R.size (c ∷ []) v → u ≡ w ++ v → SweepCosts R (c ∷ cs) j t m
         go w f (more {x = x} k none) g = (
@@ -235,21 +235,21 @@ module _ (R : Rule) (J : Joins R.join) where
           record {
             fits = more k f;
             count = sym (total-last ◌+◌ sums add-zero deviates x f) ∙ ap (deviations (cs ++ (c ∷ []))) (sym g) ∙ h.count;
-            sum = sym (total-last xor xors xor-right (weigh R) x f) ∙ ap (weightedSum R (cs ++ (c ∷ []))) (sym g) ∙ h.sum;
+            sum = sym (total-last xor xors xor_right (weigh R) x f) ∙ ap (weighted_sum R (cs ++ (c ∷ []))) (sym g) ∙ h.sum;
           },
-          sym (total-last R.join J.gathers J.right costAt x f) ∙ ap (costOf R (cs ++ (c ∷ []))) (sym g) ∙ e,
+          sym (total-last R.join J.gathers J.right cost_at x f) ∙ ap (cost_of R (cs ++ (c ∷ []))) (sym g) ∙ e,
         )
 
     -- the sweep from the first column to the last: the same step
     pub swept-back : (j t : ℕ) → swept R (cs ++ (c ∷ [])) j t ≡ stepped R c (swept R cs) j t
     swept-back j t =
-        near-one (swept-near R (cs ++ (c ∷ [])) j t) (near-iff (turned j t) (turned-back j t) (step-near j t)) (swept-mark R (cs ++ (c ∷ [])) j t) (step-mark j t)
+        near_one (swept_near R (cs ++ (c ∷ [])) j t) (near_iff (turned j t) (turned-back j t) (step-near j t)) (swept-mark R (cs ++ (c ∷ [])) j t) (step-mark j t)
 
   -- m is the cost of a choice with at most k deviations and weighted sum t
   abbrev CostsUpTo : List Column → ℕ → ℕ → ℕ → Type 0
-  CostsUpTo cs k t m = (w : List ℕ) × (Fits R.size cs w × (deviations cs w ≤ k) × (weightedSum R cs w ≡ t)) × (costOf R cs w ≡ m)
+  CostsUpTo cs k t m = (w : List ℕ) × (Fits R.size cs w × (deviations cs w ≤ k) × (weighted_sum R cs w ≡ t)) × (cost_of R cs w ≡ m)
 
-  module _ (cs ds : List Column) (small : (w : List ℕ) → Fits R.size cs w → weightedSum R cs w < R.size) (k t : ℕ) where
+  module _ (cs ds : List Column) (small : (w : List ℕ) → Fits R.size cs w → weighted_sum R cs w < R.size) (k t : ℕ) where
     abbrev Both : ℕ → ℕ → ℕ → ℕ → Type 0
     Both i j s m = (x y : ℕ) × SweepCosts R cs i s x × SweepCosts R ds j (xor s t) y × (m ≡ R.join x y)
 
@@ -267,33 +267,33 @@ module _ (R : Rule) (J : Joins R.join) where
           (
             fits-append a.1.fits b.1.fits,
             omega (arith, total-append ◌+◌ sums deviates a.1.fits ds b.0, a.1.count, b.1.count, h.1, h.2.1),
-            total-append xor xors (weigh R) a.1.fits ds b.0 ∙ rw (a.1.sum, b.1.sum) (xor-cancel s t),
+            total-append xor xors (weigh R) a.1.fits ds b.0 ∙ rw (a.1.sum, b.1.sum) (xor_cancel s t),
           ),
-          total-append R.join J.gathers costAt a.1.fits ds b.0 ∙ rw (a.2, b.2) (sym h.2.2.2.4),
+          total-append R.join J.gathers cost_at a.1.fits ds b.0 ∙ rw (a.2, b.2) (sym h.2.2.2.4),
         )
 
     shared : (m : ℕ) → CostsUpTo (cs ++ ds) k t m → Shared m
     shared m h =
-        let r = fits-split cs h.1.0 in
+        let r = fits_split cs h.1.0 in
         let w : List ℕ = r.0 in
         let v : List ℕ = r.1 in
         let e : h.0 ≡ w ++ v = r.4 in
         let d : deviations cs w + deviations ds v ≤ k = omega (arith, ap (deviations (cs ++ ds)) e, total-append ◌+◌ sums deviates r.2 ds v, h.1.1) in
-        let s : xor (weightedSum R cs w) (weightedSum R ds v) ≡ t = sym (total-append xor xors (weigh R) r.2 ds v) ∙ ap (weightedSum R (cs ++ ds)) (sym e) ∙ h.1.2 in (
+        let s : xor (weighted_sum R cs w) (weighted_sum R ds v) ≡ t = sym (total-append xor xors (weigh R) r.2 ds v) ∙ ap (weighted_sum R (cs ++ ds)) (sym e) ∙ h.1.2 in (
           deviations cs w,
           omega arith,
           (
             deviations ds v,
             omega arith,
             (
-              weightedSum R cs w,
+              weighted_sum R cs w,
               small w r.2,
               (
-                costOf R cs w,
-                costOf R ds v,
+                cost_of R cs w,
+                cost_of R ds v,
                 (w, record { fits = r.2; count = refl; sum = refl }, refl),
-                (v, record { fits = r.3; count = refl; sum = rw (← s) (sym (xor-cancel _ _)) }, refl),
-                sym h.2 ∙ ap (costOf R (cs ++ ds)) e ∙ total-append R.join J.gathers costAt r.2 ds v,
+                (v, record { fits = r.3; count = refl; sum = rw (← s) (sym (xor_cancel _ _)) }, refl),
+                sym h.2 ∙ ap (cost_of R (cs ++ ds)) e ∙ total-append R.join J.gathers cost_at r.2 ds v,
               ),
             ),
           ),
@@ -302,38 +302,38 @@ module _ (R : Rule) (J : Joins R.join) where
     joined-near : Near (CostsUpTo (cs ++ ds) k t) (joined R (swept R cs) (swept R ds) k t)
     unfolding joined
     joined-near =
-        near-iff there shared
-        (near-leastTo _ (λ i. leastTo (across R (swept R cs) (swept R ds) t i) (suc (k - i))) (suc k)
-        (λ i u. near-leastTo _ (across R (swept R cs) (swept R ds) t i) (suc (k - i))
-        (λ j v. near-leastTo _ (λ s. R.join (swept R cs i s) (swept R ds j (xor s t))) R.size
-        (λ s l. near-join (SweepCosts R cs i s) (SweepCosts R ds j (xor s t)) (swept R cs i s) (swept R ds j (xor s t)) (swept-near R cs i s) (swept-near R ds j (xor s t))))))
+        near_iff there shared
+        (near_least_to _ (λ i. least_to (across R (swept R cs) (swept R ds) t i) (suc (k - i))) (suc k)
+        (λ i u. near_least_to _ (across R (swept R cs) (swept R ds) t i) (suc (k - i))
+        (λ j v. near_least_to _ (λ s. R.join (swept R cs i s) (swept R ds j (xor s t))) R.size
+        (λ s l. near-join (SweepCosts R cs i s) (SweepCosts R ds j (xor s t)) (swept R cs i s) (swept R ds j (xor s t)) (swept_near R cs i s) (swept_near R ds j (xor s t))))))
 
     joined-mark : joined R (swept R cs) (swept R ds) k t ≤ mark
     unfolding joined
-    joined-mark = leastTo-mark _ (suc k)
+    joined-mark = least_to-mark _ (suc k)
 
-pub others-split : {A : Type 0} (n : ℕ) (cs : List A) → take n cs ++ drop (suc n) cs ≡ others n cs
-others-split zero [] = refl
-others-split (suc n) [] = refl
-others-split zero (c ∷ cs) = refl
-others-split {A} (suc n) (c ∷ cs) = ap {B = List A} (λ l. c ∷ l) (others-split n cs)
+pub others_split : {A : Type 0} (n : ℕ) (cs : List A) → take n cs ++ drop (suc n) cs ≡ others n cs
+others_split zero [] = refl
+others_split (suc n) [] = refl
+others_split zero (c ∷ cs) = refl
+others_split {A} (suc n) (c ∷ cs) = ap {B = List A} (λ l. c ∷ l) (others_split n cs)
 
 -- a choice costs at most 255 for each deviation
 module _ (R : Rule) (J : Joins R.join) (within : (a b : ℕ) → R.join a b ≤ a + b) where
   cost-small : (b : ℕ) {cs : List Column} {w : List ℕ} → Fits R.size cs w
-      → ((n : ℕ) → n < length cs → (costAt (column cs n) (decision (column cs n)).symbol ≡ 0) × ((x : ℕ) → costAt (column cs n) x ≤ b))
-      → costOf R cs w ≤ deviations cs w * b
+      → ((n : ℕ) → n < length cs → (cost_at (column cs n) (decision (column cs n)).symbol ≡ 0) × ((x : ℕ) → cost_at (column cs n) x ≤ b))
+      → cost_of R cs w ≤ deviations cs w * b
   cost-small b none h = omega arith
   cost-small b (more {c = c} {cs = cs} {x = x} {w = w} k f) h =
       let r = cost-small b f (λ n l. h (suc n) (omega arith)) in
       ⊎_elim
-      (λ (e : x ≡ (decision c).symbol). omega (arith, r, within (costAt c x) (costOf R cs w), ap (costAt c) e, (h 0 (omega arith)).0, ap (λ y. (y + deviations cs w) * b) (same-symbol c x e), ap (λ y. y * b) (zero-add (deviations cs w))))
-      (λ (e : deviates c x ≡ 1). omega (arith, r, within (costAt c x) (costOf R cs w), (h 0 (omega arith)).1 x, ap (λ y. (y + deviations cs w) * b) e, suc-mul (deviations cs w) b))
-      (deviates-cases c x)
+      (λ (e : x ≡ (decision c).symbol). omega (arith, r, within (cost_at c x) (cost_of R cs w), ap (cost_at c) e, (h 0 (omega arith)).0, ap (λ y. (y + deviations cs w) * b) (same-symbol c x e), ap (λ y. y * b) (zero-add (deviations cs w))))
+      (λ (e : deviates c x ≡ 1). omega (arith, r, within (cost_at c x) (cost_of R cs w), (h 0 (omega arith)).1 x, ap (λ y. (y + deviations cs w) * b) e, suc-mul (deviations cs w) b))
+      (deviates_cases c x)
 
 -- the sweeps of a proper check
 module _ (R : Rule) (cs : List Column) (P : Proper R cs) where
-  sums-small : (ds : List Column) → ((n : ℕ) → n < length ds → Sound R (column ds n)) → (w : List ℕ) → Fits R.size ds w → weightedSum R ds w < R.size
+  sums-small : (ds : List Column) → ((n : ℕ) → n < length ds → Sound R (column ds n)) → (w : List ℕ) → Fits R.size ds w → weighted_sum R ds w < R.size
   sums-small [] h [] none = rw P.power (pow_pos P.p)
   sums-small (d ∷ ds) h (x ∷ w) (more k f) = size-xor R cs P _ _ ((h 0 (omega arith)).closed x k) (sums-small ds (λ n l. h (suc n) (omega arith)) w f)
 
@@ -344,14 +344,14 @@ module _ (R : Rule) (cs : List Column) (P : Proper R cs) where
   sound-drop n i l = rw (get_or-drop n cs i blank) (P.sound (n + i) (omega (arith, length-drop n cs)))
 
   -- "joins the two sweeps for column n": the sent cost
-  pub swept-sent : (n a : ℕ) → n < length cs → a < R.size → sentAt R cs n a ≤ mark → sweptSent R cs n a ≡ sentAt R cs n a
-  unfolding sweptSent
+  pub swept-sent : (n a : ℕ) → n < length cs → a < R.size → sent_at R cs n a ≤ mark → swept_sent R cs n a ≡ sent_at R cs n a
+  unfolding swept_sent
   swept-sent n a l h m =
       let t : ℕ = xor a (shift R cs n) in
       let i = sent_is R cs P a h n l in
-      let b : Near (CostsUpTo R P.joins (others n cs) R.most t) (sentAt R cs n a) =
+      let b : Near (CostsUpTo R P.joins (others n cs) R.most t) (sent_at R cs n a) =
       record { attained = inr (i.choice, (i.allowed.fits, i.allowed.few, i.allowed.sum), i.attained); least = λ v s. omega (arith, i.least s.0 record { fits = s.1.0; few = s.1.1; sum = s.1.2 }, s.2) } in
-      near-one (rw (← others-split n cs) (joined-near R P.joins (take n cs) (drop (suc n) cs) (sums-small (take n cs) (sound-take n)) R.most t)) b (joined-mark R P.joins (take n cs) (drop (suc n) cs) (sums-small (take n cs) (sound-take n)) R.most t) m
+      near_one (rw (← others_split n cs) (joined-near R P.joins (take n cs) (drop (suc n) cs) (sums-small (take n cs) (sound-take n)) R.most t)) b (joined-mark R P.joins (take n cs) (drop (suc n) cs) (sums-small (take n cs) (sound-take n)) R.most t) m
 
   -- one column more, before n and after n
   pub swept-before : (n : ℕ) → n < length cs → (j t : ℕ) → swept R (take (suc n) cs) j t ≡ stepped R (column cs n) (swept R (take n cs)) j t
@@ -365,8 +365,8 @@ module _ (R : Rule) (cs : List Column) (P : Proper R cs) where
       rw e (swept-front R P.joins (column cs n) (P.sound n l).below (P.sound n l).free (drop (suc n) cs) j t)
 
   -- "Each kept cost is proved to be that least, with a mark where no choice exists": any part of the columns, up to three deviations
-  module _ (within : (a b : ℕ) → R.join a b ≤ a + b) (bytes : (n : ℕ) → n < length cs → (x : ℕ) → costAt (column cs n) x ≤ 255) where
-    keeps : (ds : List Column) → ((n : ℕ) → n < length ds → (costAt (column ds n) (decision (column ds n)).symbol ≡ 0) × ((x : ℕ) → costAt (column ds n) x ≤ 255))
+  module _ (within : (a b : ℕ) → R.join a b ≤ a + b) (bytes : (n : ℕ) → n < length cs → (x : ℕ) → cost_at (column cs n) x ≤ 255) where
+    keeps : (ds : List Column) → ((n : ℕ) → n < length ds → (cost_at (column ds n) (decision (column ds n)).symbol ≡ 0) × ((x : ℕ) → cost_at (column ds n) x ≤ 255))
         → (j t : ℕ) → j ≤ 3 → Keeps R ds j t (swept R ds j t)
     keeps ds h j t l =
         swept_keeps R ds j t (λ w c. omega (arith, cost-small R P.joins within 255 c.fits h, mul-le-mul_right 255 l, ap (λ y. y * 255) c.count))

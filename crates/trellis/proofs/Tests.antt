@@ -7,7 +7,7 @@ use native.Mathlib.Nat.{not-suc-le-zero}
 use native.Mathlib.Decide.{ℕ_discrete}
 use native.Mathlib.Omega.{arith}
 use lib.Dec.{T}
-use Rattle.trellis.specs.Lists.{allTo}
+use Rattle.trellis.specs.Lists.{all_to}
 
 -- a Boolean and its fact
 pub holds-or-not : (b : Bool) → T b ⊎ (T b → ⊥)
@@ -30,33 +30,33 @@ pub both : (a b : Bool) → T a → T b → T (a && b)
 both true b s t = t
 both false b s t = absurd s
 
-pub fst-T : (a b : Bool) → T (a && b) → T a
-fst-T true b t = tt
-fst-T false b t = t
+pub fst_T : (a b : Bool) → T (a && b) → T a
+fst_T true b t = tt
+fst_T false b t = t
 
-pub snd-T : (a b : Bool) → T (a && b) → T b
-snd-T true b t = t
-snd-T false b t = absurd t
+pub snd_T : (a b : Bool) → T (a && b) → T b
+snd_T true b t = t
+snd_T false b t = absurd t
 
-pub of-true : {b : Bool} → b ≡ true → T b
-of-true e = rw e tt
+pub of_true : {b : Bool} → b ≡ true → T b
+of_true e = rw e tt
 
-pub to-true : {b : Bool} → T b → b ≡ true
-to-true {b = true} t = refl
-to-true {b = false} t = absurd t
+pub to_true : {b : Bool} → T b → b ≡ true
+to_true {b = true} t = refl
+to_true {b = false} t = absurd t
 
 -- a test that holds at each number below n
-pub all-at : (f : ℕ → Bool) (n : ℕ) → T (allTo f n) → (m : ℕ) → m < n → T (f m)
+pub all-at : (f : ℕ → Bool) (n : ℕ) → T (all_to f n) → (m : ℕ) → m < n → T (f m)
 all-at f zero h m l = absurd (not-suc-le-zero l)
 all-at f (suc n) h m l =
     elim (ℕ_discrete m n) [
-      | yes e ↦ rw e (snd-T (allTo f n) (f n) h)
-      | no e ↦ all-at f n (fst-T (allTo f n) (f n) h) m (omega arith)
+      | yes e ↦ rw e (snd_T (all_to f n) (f n) h)
+      | no e ↦ all-at f n (fst_T (all_to f n) (f n) h) m (omega arith)
     ]
 
-pub all_of : (f : ℕ → Bool) (n : ℕ) → ((m : ℕ) → m < n → T (f m)) → T (allTo f n)
+pub all_of : (f : ℕ → Bool) (n : ℕ) → ((m : ℕ) → m < n → T (f m)) → T (all_to f n)
 all_of f zero h = tt
-all_of f (suc n) h = both (allTo f n) (f n) (all_of f n (λ m l. h m (omega arith))) (h n (omega arith))
+all_of f (suc n) h = both (all_to f n) (f n) (all_of f n (λ m l. h m (omega arith))) (h n (omega arith))
 
 -- a test at each number below n, or one at which it fails
 pub all-or-one : (p : ℕ → Bool) (n : ℕ) → ((m : ℕ) → m < n → T (p m)) ⊎ ((m : ℕ) × (m < n) × (T (p m) → ⊥))
@@ -70,12 +70,12 @@ all-or-one p (suc n) = go (all-or-one p n) (holds-or-not (p n))
     go (inl a) (inl d) = inl (λ m h. elim (ℕ_discrete m n) [ yes e ↦ rw e d | no e ↦ a m (omega arith) ])
 
 -- a test that holds for each field, p from 2 to 6
-pub each-field : (f : ℕ → Bool) → T (f 2 && (f 3 && (f 4 && (f 5 && f 6)))) → (p : ℕ) → 2 ≤ p → p ≤ 6 → T (f p)
-each-field f t zero l h = absurd (omega arith)
-each-field f t (suc zero) l h = absurd (omega arith)
-each-field f t (suc (suc zero)) l h = fst-T (f 2) _ t
-each-field f t (suc (suc (suc zero))) l h = fst-T (f 3) _ (snd-T (f 2) _ t)
-each-field f t (suc (suc (suc (suc zero)))) l h = fst-T (f 4) _ (snd-T (f 3) _ (snd-T (f 2) _ t))
-each-field f t (suc (suc (suc (suc (suc zero))))) l h = fst-T (f 5) _ (snd-T (f 4) _ (snd-T (f 3) _ (snd-T (f 2) _ t)))
-each-field f t (suc (suc (suc (suc (suc (suc zero)))))) l h = snd-T (f 5) _ (snd-T (f 4) _ (snd-T (f 3) _ (snd-T (f 2) _ t)))
-each-field f t (suc (suc (suc (suc (suc (suc (suc p))))))) l h = absurd (omega arith)
+pub each_field : (f : ℕ → Bool) → T (f 2 && (f 3 && (f 4 && (f 5 && f 6)))) → (p : ℕ) → 2 ≤ p → p ≤ 6 → T (f p)
+each_field f t zero l h = absurd (omega arith)
+each_field f t (suc zero) l h = absurd (omega arith)
+each_field f t (suc (suc zero)) l h = fst_T (f 2) _ t
+each_field f t (suc (suc (suc zero))) l h = fst_T (f 3) _ (snd_T (f 2) _ t)
+each_field f t (suc (suc (suc (suc zero)))) l h = fst_T (f 4) _ (snd_T (f 3) _ (snd_T (f 2) _ t))
+each_field f t (suc (suc (suc (suc (suc zero))))) l h = fst_T (f 5) _ (snd_T (f 4) _ (snd_T (f 3) _ (snd_T (f 2) _ t)))
+each_field f t (suc (suc (suc (suc (suc (suc zero)))))) l h = snd_T (f 5) _ (snd_T (f 4) _ (snd_T (f 3) _ (snd_T (f 2) _ t)))
+each_field f t (suc (suc (suc (suc (suc (suc (suc p))))))) l h = absurd (omega arith)

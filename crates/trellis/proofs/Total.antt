@@ -58,9 +58,9 @@ module _ {q : ℕ} where
   fits-append none g = g
   fits-append (more k h) g = more k (fits-append h g)
 
-  pub fits-split : (cs : List Column) {ds : List Column} {u : List ℕ} → Fits q (cs ++ ds) u → (w v : List ℕ) × Fits q cs w × Fits q ds v × (u ≡ w ++ v)
-  fits-split [] {u = u} f = ([], u, none, f, refl)
-  fits-split (c ∷ cs) (more {x = x} k f) = let r = fits-split cs f in (x ∷ r.0, r.1, more k r.2, r.3, ap {B = List ℕ} (λ l. x ∷ l) r.4)
+  pub fits_split : (cs : List Column) {ds : List Column} {u : List ℕ} → Fits q (cs ++ ds) u → (w v : List ℕ) × Fits q cs w × Fits q ds v × (u ≡ w ++ v)
+  fits_split [] {u = u} f = ([], u, none, f, refl)
+  fits_split (c ∷ cs) (more {x = x} k f) = let r = fits_split cs f in (x ∷ r.0, r.1, more k r.2, r.3, ap {B = List ℕ} (λ l. x ∷ l) r.4)
 
   module _ (op : ℕ → ℕ → ℕ) (G : Gathers op) (f : Column → ℕ → ℕ) where
     pub total-append : {cs : List Column} {w : List ℕ} → Fits q cs w → (ds : List Column) (v : List ℕ) → total op f (cs ++ ds) (w ++ v) ≡ op (total op f cs w) (total op f ds v)

@@ -25,15 +25,15 @@ digit (suc zero) (suc zero) (suc (suc w)) hu hv hw = absurd (omega arith)
 digit (suc zero) (suc (suc v)) w hu hv hw = absurd (omega arith)
 digit (suc (suc u)) v w hu hv hw = absurd (omega arith)
 
-bit-assoc : (a b c : ℕ) → bit_xor (bit_xor a b) c ≡ bit_xor a (bit_xor b c)
-bit-assoc =
+bit_assoc : (a b c : ℕ) → bit_xor (bit_xor a b) c ≡ bit_xor a (bit_xor b c)
+bit_assoc =
     bin_ind (λ (a : ℕ). (b c : ℕ) → bit_xor (bit_xor a b) c ≡ bit_xor a (bit_xor b c)) (λ b c. refl)
     λ a ih b c.
     rw (xor_step (bit_xor a b) c, xor_step a (bit_xor b c), xor_shr a b 1, xor_shr b c 1, xor_mod a b 1, xor_mod b c 1, ih (b / 2) (c / 2), digit (a % 2) (b % 2) (c % 2) (mod-lt a (omega arith)) (mod-lt b (omega arith)) (mod-lt c (omega arith)))
 
 pub xor_assoc : (a b c : ℕ) → xor (xor a b) c ≡ xor a (xor b c)
 unfolding xor
-xor_assoc = bit-assoc
+xor_assoc = bit_assoc
 
 pub xor_comm : (a b : ℕ) → xor a b ≡ xor b a
 unfolding xor
@@ -51,11 +51,11 @@ pub xor_lt : (k a b : ℕ) → a < 2 ^ k → b < 2 ^ k → xor a b < 2 ^ k
 unfolding xor
 xor_lt = Bits.xor_lt
 
-pub xor-turn : (a b c : ℕ) → xor a (xor b c) ≡ xor b (xor a c)
-xor-turn a b c = rw (← xor_assoc a b c, xor_comm a b, xor_assoc b a c)
+pub xor_turn : (a b c : ℕ) → xor a (xor b c) ≡ xor b (xor a c)
+xor_turn a b c = rw (← xor_assoc a b c, xor_comm a b, xor_assoc b a c)
 
-pub xor-cancel : (a b : ℕ) → xor a (xor a b) ≡ b
-xor-cancel a b = rw (← xor_assoc a a b, xor_self a) (xor-zero b)
+pub xor_cancel : (a b : ℕ) → xor a (xor a b) ≡ b
+xor_cancel a b = rw (← xor_assoc a a b, xor_self a) (xor-zero b)
 
-pub xor-right : (a : ℕ) → xor a 0 ≡ a
-xor-right a = xor_comm a 0 ∙ xor-zero a
+pub xor_right : (a : ℕ) → xor a 0 ≡ a
+xor_right a = xor_comm a 0 ∙ xor-zero a

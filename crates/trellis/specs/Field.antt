@@ -17,13 +17,13 @@ doubled p a = cond (eqb (a * 2 / 2 ^ p % 2) 1) (xor (a * 2) (polynomial p)) (a *
 
 -- "The product follows its own recurrence, halving the second factor each time: the first factor is doubled .. for the next step, and as
 -- it was before doubling it is added where the dropped bit was one." Here with at most n halvings (SPEC 1.4)
-abbrev pub productIn : ℕ → ℕ → ℕ → ℕ → ℕ
-productIn zero p a b = 0
-productIn (suc n) p a b = xor (cond (eqb (b % 2) 1) a 0) (productIn n p (doubled p a) (b / 2))
+abbrev pub product_in : ℕ → ℕ → ℕ → ℕ → ℕ
+product_in zero p a b = 0
+product_in (suc n) p a b = xor (cond (eqb (b % 2) 1) a 0) (product_in n p (doubled p a) (b / 2))
 
 -- an element has p bits: after p halvings the second factor is 0
 abbrev pub product : ℕ → ℕ → ℕ → ℕ
-product p a b = productIn p p a b
+product p a b = product_in p p a b
 
 -- s divided by h: the element that times h is s, by looking at each. For h not 0 there is just one (proofs/Quotients.antt)
 unfoldable pub quotient : ℕ → ℕ → ℕ → ℕ

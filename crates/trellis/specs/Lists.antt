@@ -3,13 +3,13 @@ use Rattle.std.specs.Prelude.{Bool, true, false, cond, ◌&&◌, ℕ, zero, suc,
 use mathlib.Core.List.{List, [], ◌∷◌, ◌++◌, foldr}
 
 -- i, i + 1, .., n of them
-abbrev pub countFrom : ℕ → ℕ → List ℕ
-countFrom i zero = []
-countFrom i (suc n) = i ∷ countFrom (suc i) n
+abbrev pub count_from : ℕ → ℕ → List ℕ
+count_from i zero = []
+count_from i (suc n) = i ∷ count_from (suc i) n
 
 -- 0, 1, .. n - 1
 abbrev pub up_to : ℕ → List ℕ
-up_to n = countFrom 0 n
+up_to n = count_from 0 n
 
 -- the members that pass a test, in their order
 abbrev pub keep : {A : Type 0} → (A → Bool) → List A → List A
@@ -54,9 +54,9 @@ upto f zero s = s
 upto f (suc n) s = f n (upto f n s)
 
 -- the test holds at each number below n
-abbrev pub allTo : (ℕ → Bool) → ℕ → Bool
-allTo f zero = true
-allTo f (suc n) = allTo f n && f n
+abbrev pub all_to : (ℕ → Bool) → ℕ → Bool
+all_to f zero = true
+all_to f (suc n) = all_to f n && f n
 
 -- f 0, .., f (n - 1)
 abbrev pub tab : (ℕ → ℕ) → ℕ → List ℕ

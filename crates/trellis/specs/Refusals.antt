@@ -9,15 +9,15 @@ pub data Test : Type 0 where
   unless : Bool → ℕ → Test
 
 -- what the number of the first line that applies leads to, or what else
-abbrev pub refusedBy {ℓ} : {A : Type ℓ} → List Test → (ℕ → A) → A → A
-refusedBy [] bad good = good
-refusedBy (when b k ∷ l) bad good = pick b (bad k) (refusedBy l bad good)
-refusedBy (unless b k ∷ l) bad good = pick b (refusedBy l bad good) (bad k)
+abbrev pub refused_by {ℓ} : {A : Type ℓ} → List Test → (ℕ → A) → A → A
+refused_by [] bad good = good
+refused_by (when b k ∷ l) bad good = pick b (bad k) (refused_by l bad good)
+refused_by (unless b k ∷ l) bad good = pick b (refused_by l bad good) (bad k)
 
 -- the number itself, 0 for none
-abbrev pub faultBy : List Test → ℕ
-faultBy l = refusedBy l (λ k. k) 0
+abbrev pub fault_by : List Test → ℕ
+fault_by l = refused_by l (λ k. k) 0
 
 -- whether no line applies
 abbrev pub passes : List Test → Bool
-passes l = refusedBy l (λ k. false) true
+passes l = refused_by l (λ k. false) true

@@ -16,8 +16,8 @@ abbrev pub refusal : ℕ → Reply
 refusal n = record { refused = true; number = n; value = 0 }
 
 -- "The result is found (0) or not found (1), with t"
-abbrev pub foundIn : ℕ → Reply
-foundIn t = record { refused = false; number = 0; value = t }
+abbrev pub found_in : ℕ → Reply
+found_in t = record { refused = false; number = 0; value = t }
 
-abbrev pub notFoundIn : ℕ → Reply
-notFoundIn t = record { refused = false; number = 1; value = t }
+abbrev pub not_found_in : ℕ → Reply
+not_found_in t = record { refused = false; number = 1; value = t }

@@ -1,7 +1,7 @@
 -- The six bytes and the bits of pending by number: what the last arms of the matches give.
 use mathlib.Core.Path.{◌≡◌, refl}
 use Prim.Native.Nat.{ℕ, zero, suc}
-use Rattle.window.specs.Window.{Registers, read, bitFor}
+use Rattle.window.specs.Window.{Registers, read, bit_for}
 
 -- byte 0, or a byte past 5
 pub at_other : (r : Registers) (a : ℕ) → (a ≡ 1 → ⊥) → (a ≡ 2 → ⊥) → (a ≡ 3 → ⊥) → (a ≡ 4 → ⊥) → (a ≡ 5 → ⊥) → 0 ≡ read r a
@@ -15,10 +15,10 @@ at_other r (suc (suc (suc (suc (suc zero))))) h i j k l = absurd (l refl)
 at_other r (suc (suc (suc (suc (suc (suc a)))))) h i j k l = refl
 
 -- a state that sets no bit
-pub no-bit : (s : ℕ) → (s ≡ 2 → ⊥) → (s ≡ 3 → ⊥) → (s ≡ 4 → ⊥) → ◌≡◌ {A = ℕ} 0 (bitFor s)
-no-bit zero h i j = refl
-no-bit (suc zero) h i j = refl
-no-bit (suc (suc zero)) h i j = absurd (h refl)
-no-bit (suc (suc (suc zero))) h i j = absurd (i refl)
-no-bit (suc (suc (suc (suc zero)))) h i j = absurd (j refl)
-no-bit (suc (suc (suc (suc (suc s))))) h i j = refl
+pub no_bit : (s : ℕ) → (s ≡ 2 → ⊥) → (s ≡ 3 → ⊥) → (s ≡ 4 → ⊥) → ◌≡◌ {A = ℕ} 0 (bit_for s)
+no_bit zero h i j = refl
+no_bit (suc zero) h i j = refl
+no_bit (suc (suc zero)) h i j = absurd (h refl)
+no_bit (suc (suc (suc zero))) h i j = absurd (i refl)
+no_bit (suc (suc (suc (suc zero)))) h i j = absurd (j refl)
+no_bit (suc (suc (suc (suc (suc s))))) h i j = refl

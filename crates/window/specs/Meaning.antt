@@ -6,5 +6,5 @@ use Rattle.window.specs.declared.registers.Registers.{Registers}
 abbrev pub bytes_of : Registers → Bytes
 bytes_of r = record { state = r.state; refusal = r.refusal; iterations = r.iterations; mask = r.mask; pending = r.pending }
 
-abbrev pub windowOf : Registers → Buffers → Window
-windowOf r b = record { registers = bytes_of r; buffers = b }
+abbrev pub window_of : Registers → Buffers → Window
+window_of r b = record { registers = bytes_of r; buffers = b }

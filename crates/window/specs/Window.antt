@@ -32,8 +32,8 @@ pub record Window : Type 0 where
   pub buffers : Buffers
 
 -- "Bit 0 of pending is set on entering 2 or 3, bit 1 on entering 4"
-abbrev pub bitFor : ℕ → ℕ
-bitFor state = get_or (0 ∷ 0 ∷ 1 ∷ 1 ∷ 2 ∷ []) state 0
+abbrev pub bit_for : ℕ → ℕ
+bit_for state = get_or (0 ∷ 0 ∷ 1 ∷ 1 ∷ 2 ∷ []) state 0
 
 unfoldable pub setting : ℕ → ℕ → ℕ
 setting pending bit = bit_or pending bit
@@ -41,7 +41,7 @@ setting pending bit = bit_or pending bit
 -- a state after a load or an iteration, with bytes 2 and 3; "mask and pending are kept"
 abbrev pub entering : ℕ → ℕ → ℕ → Registers → Registers
 entering state number t r =
-    record { state = state; refusal = number; iterations = t; mask = r.mask; pending = setting r.pending (bitFor state) }
+    record { state = state; refusal = number; iterations = t; mask = r.mask; pending = setting r.pending (bit_for state) }
 
 -- the window after such a moment
 abbrev pub taking : Moment → Registers → Window

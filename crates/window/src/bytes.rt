@@ -1,8 +1,8 @@
 // Changes of the registers that touch no buffer.
 ghost use Rattle.std.specs.Prelude.{◌≡◌, eqb};
 ghost use Rattle.trellis.specs.Lists.{pick};
-ghost use Rattle.layered.specs.Answers.{stageOf};
-ghost use Rattle.window.specs.Window.{bitFor, entering};
+ghost use Rattle.layered.specs.Answers.{stage_of};
+ghost use Rattle.window.specs.Window.{bit_for, entering};
 ghost use Rattle.window.specs.Meaning.{bytes_of};
 
 use crate::registers::Registers;
@@ -19,7 +19,7 @@ pub const REFUSED: u8 = 4;
 
 // "Bit 0 of pending is set on entering 2 or 3, bit 1 on entering 4".
 fn bit_for(state: u8) -> u8
-    ensures { result ≡ bitFor state }
+    ensures { result ≡ bit_for state }
 {
     match state {
         FOUND => 1,
@@ -45,7 +45,7 @@ fn entering(window: Registers, state: u8, number: u8, t: u8) -> Registers
 
 // The registers after a load or an iteration that ended in a stage at t; "Entering 4 .. sets byte 3 to 0."
 pub fn taking(window: Registers, stage: Stage, t: u8) -> Registers
-    ensures { bytes_of result ≡ entering (stageOf stage).state (stageOf stage).number (pick (eqb (stageOf stage).state 4) 0 t)
+    ensures { bytes_of result ≡ entering (stage_of stage).state (stage_of stage).number (pick (eqb (stage_of stage).state 4) 0 t)
         (bytes_of window) }
 {
     match stage {

@@ -2,7 +2,7 @@
 ghost use Rattle.std.specs.Prelude.{◌≡◌};
 ghost use Rattle.machine.specs.Decoding.{lending};
 ghost use Rattle.window.specs.Window.{load, second, command};
-ghost use Rattle.window.specs.Meaning.{windowOf};
+ghost use Rattle.window.specs.Meaning.{window_of};
 
 use crate::bytes;
 use crate::registers::Registers;
@@ -17,9 +17,9 @@ fn loaded(
     store: &[u8],
     margins: &mut [u16],
 ) -> Registers
-    ensures { windowOf result (lending symbols.new costs.new store.now margins.new)
+    ensures { window_of result (lending symbols.new costs.new store.now margins.new)
         ≡ load code.now frame.now
-        (windowOf window (lending symbols.old costs.old store.now margins.old)) }
+        (window_of window (lending symbols.old costs.old store.now margins.old)) }
 {
     let stage = layered::load(code, frame, symbols, costs, store, margins);
     bytes::taking(window, stage, 0)
@@ -35,9 +35,9 @@ fn iterated(
     store: &mut [u8],
     margins: &mut [u16],
 ) -> Registers
-    ensures { windowOf result (lending symbols.new costs.new store.new margins.new)
+    ensures { window_of result (lending symbols.new costs.new store.new margins.new)
         ≡ second code.now frame.now
-        (windowOf window (lending symbols.old costs.old store.old margins.old)) }
+        (window_of window (lending symbols.old costs.old store.old margins.old)) }
 {
     if window.state != bytes::RUNNING {
         return window;
@@ -61,9 +61,9 @@ pub fn command(
     store: &mut [u8],
     margins: &mut [u16],
 ) -> Registers
-    ensures { windowOf result (lending symbols.new costs.new store.new margins.new)
+    ensures { window_of result (lending symbols.new costs.new store.new margins.new)
         ≡ command code.now frame.now value
-        (windowOf window (lending symbols.old costs.old store.old margins.old)) }
+        (window_of window (lending symbols.old costs.old store.old margins.old)) }
 {
     if value == 1 {
         return loaded(window, code, frame, symbols, costs, store, margins);

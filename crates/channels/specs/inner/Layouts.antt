@@ -1,57 +1,57 @@
 -- What the functions ask and leave: the numbers and lengths that a channel needs, and room for each loop.
 use Rattle.std.specs.Prelude.{◌≡◌, List, ℕ, ◌+◌, ◌*◌, ◌≤◌, ◌<◌, min, eqb, length}
-use Rattle.trellis.specs.Refusals.{faultBy}
+use Rattle.trellis.specs.Refusals.{fault_by}
 use Rattle.trellis.specs.Rules.{size_of}
-use Rattle.trellis.specs.Sizes.{mostSymbols, mostExpansion, mostCosts, mostChannels}
+use Rattle.trellis.specs.Sizes.{most_symbols, most_expansion, most_costs, most_channels}
 use Rattle.machine.specs.CodeLine.{Code}
 use Rattle.machine.specs.Machine.{used}
 use Rattle.machine.specs.Decoding.{Buffers}
 use Rattle.machine.specs.Moments.{Moment}
-use Rattle.machine.specs.inner.Tables.{bytesBefore}
+use Rattle.machine.specs.inner.Tables.{bytes_before}
 use Rattle.machine.specs.inner.InRange.{Passable}
 use Rattle.codeline.specs.declared.answers.Numbers.{Numbers}
 use Rattle.codeline.specs.inner.Coding.{code_of, Coded}
 use Rattle.channels.specs.declared.layout.Layout.{Layout}
-use Rattle.channels.specs.Channels.{own_of, countTests, wholeTests}
-use Rattle.channels.specs.inner.Rounds.{Standing, Serves, lentIn, statusOf, patchAt}
+use Rattle.channels.specs.Channels.{own_of, count_tests, whole_tests}
+use Rattle.channels.specs.inner.Rounds.{Standing, Serves, lent_in, status_of, patch_at}
 
 -- "21, channel count not 1 to 8, before all; 22, A is 0, after 21."; 0 for neither
-unfoldable pub countFault : ℕ → ℕ → ℕ
-countFault n A = faultBy (countTests n A)
+unfoldable pub count_fault : ℕ → ℕ → ℕ
+count_fault n A = fault_by (count_tests n A)
 
 -- a layout by its numbers
 pub record LaidOut (k : Numbers) (ds : List ℕ) (z : Layout) : Type 0 where
-  pub numbers-is : z.numbers ≡ k
-  pub columns-is : z.columns ≡ k.columns
-  pub costs-is : z.costs ≡ k.columns * size_of k.first
-  pub store_is : z.store ≡ bytesBefore k.first ds (min k.checks (length ds))
+  pub numbers_is : z.numbers ≡ k
+  pub columns_is : z.columns ≡ k.columns
+  pub costs_is : z.costs ≡ k.columns * size_of k.first
+  pub store_is : z.store ≡ bytes_before k.first ds (min k.checks (length ds))
 
 -- 12, 2, 3, 4, 19 by the lengths; 0 for none
-unfoldable pub faultFor : ℕ → Layout → ℕ → ℕ → ℕ → ℕ → ℕ → ℕ
-faultFor n z f y c s v = faultBy (wholeTests n z.columns z.costs z.store f y c s v)
+unfoldable pub fault_for : ℕ → Layout → ℕ → ℕ → ℕ → ℕ → ℕ → ℕ
+fault_for n z f y c s v = fault_by (whole_tests n z.columns z.costs z.store f y c s v)
 
 -- lengths whose multiples fit
 pub record FaultRoom (n : ℕ) (z : Layout) : Type 0 where
-  pub few : n ≤ mostChannels
-  pub columns : z.columns ≤ mostSymbols
-  pub costs : z.costs ≤ mostCosts
+  pub few : n ≤ most_channels
+  pub columns : z.columns ≤ most_symbols
+  pub costs : z.costs ≤ most_costs
   pub store : z.store ≤ 65535
 
 -- the code that the numbers of a layout and the tables say
-abbrev pub codeFor : Layout → List ℕ → List ℕ → List ℕ → Code
-codeFor z ds cs ws = code_of z.numbers ds cs ws
+abbrev pub code_for : Layout → List ℕ → List ℕ → List ℕ → Code
+code_for z ds cs ws = code_of z.numbers ds cs ws
 
 -- it is accepted, and the lengths are those of its channels' parts
 pub record Fitted (z : Layout) (ds cs ws : List ℕ) : Type 0 where
   pub coded : Coded z.numbers ds cs ws
-  pub columns-is : z.columns ≡ z.numbers.columns
-  pub costs-is : z.costs ≡ z.numbers.columns * size_of z.numbers.first
-  pub store_is : z.store ≡ used (codeFor z ds cs ws)
+  pub columns_is : z.columns ≡ z.numbers.columns
+  pub costs_is : z.costs ≡ z.numbers.columns * size_of z.numbers.first
+  pub store_is : z.store ≡ used (code_for z ds cs ws)
 
 -- what one channel's load or iteration leaves: its status, and its parts of the buffers
 pub record Puts (C : Code) (c : ℕ) (b : Buffers) (m : Moment) (status : ℕ) (b' : Buffers) : Type 0 where
-  pub status-is : status ≡ statusOf m.stage
-  pub buffers-are : b' ≡ patchAt C c b m.buffers
+  pub status_is : status ≡ status_of m.stage
+  pub buffers_are : b' ≡ patch_at C c b m.buffers
 
 -- the loads of n channels, and that of channel c
 pub record LoadsRoom (n : ℕ) (z : Layout) (ds cs ws fs y p v st : List ℕ) : Type 0 where
@@ -60,7 +60,7 @@ pub record LoadsRoom (n : ℕ) (z : Layout) (ds cs ws fs y p v st : List ℕ) : 
   pub symbols : n * z.columns ≤ length y
   pub costs : n * z.costs ≤ length p
   pub margins : n * z.columns ≤ length v
-  pub for-status : n ≤ length st
+  pub for_status : n ≤ length st
 
 pub record LoadRoom (c : ℕ) (z : Layout) (ds cs ws fs y p v : List ℕ) : Type 0 where
   pub fitted : Fitted z ds cs ws
@@ -71,28 +71,28 @@ pub record LoadRoom (c : ℕ) (z : Layout) (ds cs ws fs y p v : List ℕ) : Type
 
 -- channel c's parts are inside the buffers
 pub record PartRoom (z : Layout) (c : ℕ) (b : Buffers) : Type 0 where
-  pub for-symbols : c * z.columns + z.columns ≤ length b.symbols
-  pub for-costs : c * z.costs + z.costs ≤ length b.costs
-  pub for-store : c * z.store + z.store ≤ length b.store
-  pub for-margins : c * z.columns + z.columns ≤ length b.margins
+  pub for_symbols : c * z.columns + z.columns ≤ length b.symbols
+  pub for_costs : c * z.costs + z.costs ≤ length b.costs
+  pub for_store : c * z.store + z.store ≤ length b.store
+  pub for_margins : c * z.columns + z.columns ≤ length b.margins
 
 -- its next iteration, after t: its costs are in range and its records of accepted form
 pub record NextRoom (c t : ℕ) (z : Layout) (ds cs ws : List ℕ) (b : Buffers) (A S : List ℕ) : Type 0 where
   pub fitted : Fitted z ds cs ws
   pub room : PartRoom z c b
-  pub passable : Passable (codeFor z ds cs ws) fitted.coded.good (eqb t 0) (lentIn (own_of (codeFor z ds cs ws) b c))
-  pub arrived : mostExpansion ≤ length A
-  pub sent : mostExpansion ≤ length S
+  pub passable : Passable (code_for z ds cs ws) fitted.coded.good (eqb t 0) (lent_in (own_of (code_for z ds cs ws) b c))
+  pub arrived : most_expansion ≤ length A
+  pub sent : most_expansion ≤ length S
 
 -- the service of n channels, a round with two lists to work in, and one of its servings
 pub record ServeRoom (n : ℕ) (z : Layout) (ds cs ws : List ℕ) (l : Standing) : Type 0 where
   pub fitted : Fitted z ds cs ws
-  pub serves : Serves (codeFor z ds cs ws) fitted.coded.good n l
+  pub serves : Serves (code_for z ds cs ws) fitted.coded.good n l
 
 pub record RoundRoom (n : ℕ) (z : Layout) (ds cs ws : List ℕ) (l : Standing) (A S : List ℕ) : Type 0 where
   pub serve : ServeRoom n z ds cs ws l
-  pub arrived : mostExpansion ≤ length A
-  pub sent : mostExpansion ≤ length S
+  pub arrived : most_expansion ≤ length A
+  pub sent : most_expansion ≤ length S
 
 pub record OneRoom (c : ℕ) (z : Layout) (ds cs ws : List ℕ) (l : Standing) (A S : List ℕ) : Type 0 where
   pub count : ℕ
@@ -103,4 +103,4 @@ pub record OneRoom (c : ℕ) (z : Layout) (ds cs ws : List ℕ) (l : Standing) (
 pub record UnderRoom (n : ℕ) (z : Layout) (ds cs ws : List ℕ) : Type 0 where
   pub fitted : Fitted z ds cs ws
   pub low : 1 ≤ n
-  pub high : n ≤ mostChannels
+  pub high : n ≤ most_channels

@@ -8,7 +8,7 @@ use Rattle.field.proofs.Blocks.{mul_small}
 use Rattle.trellis.specs.Rules.{size_of}
 use Rattle.trellis.proofs.Recurrence.{size_64}
 use Rattle.checknode.proofs.CheckFault.{CheckPassed, passed}
-use Rattle.checknode.proofs.MessagesCall.{refused, refused-2, written}
+use Rattle.checknode.proofs.MessagesCall.{refused, refused_2, written}
 use Rattle.checknode.proofs.messages.Statement.{statement}
 use Rattle.checknode.proofs.messages.Tie as tie
 
@@ -41,7 +41,7 @@ returns-2 : tie.Need-returns-2
 returns-2 c =
     let l = c.before.before in
     let a = l.before.before.before.before.before.before.args in
-    refused-2 a.first a.weights.now a.costs.now a.out.now a.sent.now l.before.check-fault.ensures l.if1.false (sized c.before) c.if2.true
+    refused_2 a.first a.weights.now a.costs.now a.out.now a.sent.now l.before.check-fault.ensures l.if1.false (sized c.before) c.if2.true
 
 record-bytes-requires : tie.Need-record-bytes-requires
 record-bytes-requires c κs = (accepts c.before.before).weighed.few

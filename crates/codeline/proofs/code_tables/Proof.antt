@@ -1,8 +1,8 @@
 -- The tables that were read are handed over where the line is accepted, and then they hold its code's entries.
 use native.Mathlib.Omega.{arith}
 use borrow.Author.Rules.{rules}
-use Rattle.codeline.specs.Answers.{degreeTable, columnTable, weightTable}
-use Rattle.codeline.specs.inner.Reading.{checksIn}
+use Rattle.codeline.specs.Answers.{degree_table, column_table, weight_table}
+use Rattle.codeline.specs.inner.Reading.{checks_in}
 use Rattle.codeline.proofs.Answered.{left_is, checks-small, edges-small, taken-degrees}
 use Rattle.codeline.proofs.code_tables.Statement.{statement}
 use Rattle.codeline.proofs.code_tables.Tie as tie
@@ -47,10 +47,10 @@ returns c =
     let o = c.hand-over.ensures in (
       n,
       (
-        left_is s r.result.header n degreeTable (checksIn r.result.header) l.1.0 a.degrees.now (λ C e. (omega (arith, checks-small r.result.header _ r.ensures.1.0, k.1.0), taken-degrees s r.result.header n C e l.1.0 (f C e).degrees)) o.0,
+        left_is s r.result.header n degree_table (checks_in r.result.header) l.1.0 a.degrees.now (λ C e. (omega (arith, checks-small r.result.header _ r.ensures.1.0, k.1.0), taken-degrees s r.result.header n C e l.1.0 (f C e).degrees)) o.0,
         (
-          left_is s r.result.header n columnTable r.result.edges l.1.1.0 a.columns.now (λ C e. (edges-small s r.result.header n C e _ l.1.1.0 r.ensures.1.0 (omega (arith, k.1.1.0)), (f C e).columns)) o.1.0,
-          left_is s r.result.header n weightTable r.result.edges l.1.1.1.0 a.weights.now (λ C e. (edges-small s r.result.header n C e _ l.1.1.1.0 r.ensures.1.0 (omega (arith, k.1.1.1.0)), (f C e).weights)) o.1.1,
+          left_is s r.result.header n column_table r.result.edges l.1.1.0 a.columns.now (λ C e. (edges-small s r.result.header n C e _ l.1.1.0 r.ensures.1.0 (omega (arith, k.1.1.0)), (f C e).columns)) o.1.0,
+          left_is s r.result.header n weight_table r.result.edges l.1.1.1.0 a.weights.now (λ C e. (edges-small s r.result.header n C e _ l.1.1.1.0 r.ensures.1.0 (omega (arith, k.1.1.1.0)), (f C e).weights)) o.1.1,
         ),
       ),
     )

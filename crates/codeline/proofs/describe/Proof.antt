@@ -27,7 +27,7 @@ read c =
 store-length-requires : tie.Need-store-length-requires
 store-length-requires c κs =
     let R = read c.before in
-    line-room c.before.before.before.before.before.args.code.now R.code R.parsed _ _ R.first-is R.checks-is
+    line-room c.before.before.before.before.before.args.code.now R.code R.parsed _ _ R.first_is R.checks_is
 
 returns : tie.Need-returns
 returns c =
@@ -42,12 +42,12 @@ returns-2 c =
     rw R.parsed
     record {
       number_is = refl;
-      first-is = R.first-is;
-      columns-is = R.columns-is;
-      checks-is = R.checks-is;
-      scale-is = R.scale-is;
+      first_is = R.first_is;
+      columns_is = R.columns_is;
+      checks_is = R.checks_is;
+      scale_is = R.scale_is;
       limit_is = R.limit_is;
-      store_is = line_store c.before.before.before.before.before.before.args.code.now R.code R.parsed _ _ R.first-is R.checks-is c.store_length.result c.store_length.ensures;
+      store_is = line_store c.before.before.before.before.before.before.args.code.now R.code R.parsed _ _ R.first_is R.checks_is c.store_length.result c.store_length.ensures;
     }
 
 pub describe-spec : {M : Type 1} → statement M

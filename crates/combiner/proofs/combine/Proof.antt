@@ -2,7 +2,7 @@
 use mathlib.Core.Path.{ap, ◌∙◌}
 use borrow.Author.Rules.{rules}
 use Rattle.machine.specs.Encoding.{Wrote}
-use Rattle.combiner.proofs.Combined.{line_refused, line-is}
+use Rattle.combiner.proofs.Combined.{line_refused, line_is}
 use Rattle.combiner.proofs.combine.Statement.{statement}
 use Rattle.combiner.proofs.combine.Tie as tie
 
@@ -34,7 +34,7 @@ returns-2 c =
     let at-numbers = at-under-code.before.before.before in
     let at-code-line = at-numbers.before.before in
     let start = at-code-line.before.before.before.before.before in
-    let e = line-is start.args.code.now at-code-line.code-line.result at-code-line.code-line.ensures start.args.first.now start.args.second.now start.args.out.now at-numbers.numbers.given.0.0 at-numbers.numbers.given.1 in (at-under-code.under-code.ensures.0 ∙ ap (λ (w : Wrote). w.reply) e, at-under-code.under-code.ensures.1 ∙ ap (λ (w : Wrote). w.out) e)
+    let e = line_is start.args.code.now at-code-line.code-line.result at-code-line.code-line.ensures start.args.first.now start.args.second.now start.args.out.now at-numbers.numbers.given.0.0 at-numbers.numbers.given.1 in (at-under-code.under-code.ensures.0 ∙ ap (λ (w : Wrote). w.reply) e, at-under-code.under-code.ensures.1 ∙ ap (λ (w : Wrote). w.out) e)
 
 pub combine-spec : {M : Type 1} → statement M
 combine-spec =

@@ -3,7 +3,7 @@ use Prim.Native.Nat.{◌-◌}
 use native.Mathlib.Omega.{arith}
 use borrow.Author.Rules.{rules}
 use lib.ListN.{length}
-use Rattle.decision.proofs.Searching.{Searched, search-none, search-more, search-found}
+use Rattle.decision.proofs.Searching.{Searched, search_none, search_more, search_found}
 use Rattle.decision.proofs.decide_u16.Statement.{statement}
 use Rattle.decision.proofs.decide_u16.Tie as tie
 
@@ -34,15 +34,15 @@ loop-less c = search rules
 loop-again : tie.Need-loop-preserved invariant-loop decreases-loop
 loop-again c =
     let l = c.before.before.before in
-    search-more l.before.before.args.costs.now l.loop.x l.loop.invariant c.before.before.if1.false c.if2.false
+    search_more l.before.before.args.costs.now l.loop.x l.loop.invariant c.before.before.if1.false c.if2.false
 
 returns : tie.Need-returns invariant-loop decreases-loop
-returns c = search-none c.before.before.before.args.costs.now c.before.loop.x c.before.loop.invariant c.if1.true
+returns c = search_none c.before.before.before.args.costs.now c.before.loop.x c.before.loop.invariant c.if1.true
 
 returns-2 : tie.Need-returns-2 invariant-loop decreases-loop
 returns-2 c =
     let l = c.before.before.before.before in
-    search-found l.before.before.args.costs.now l.loop.x l.loop.invariant 65535 (λ i. omega (arith, l.before.shared-slice-known.given i)) c.before.before.before.if1.false c.before.if2.true c.margin-at.ensures
+    search_found l.before.before.args.costs.now l.loop.x l.loop.invariant 65535 (λ i. omega (arith, l.before.shared-slice-known.given i)) c.before.before.before.if1.false c.before.if2.true c.margin-at.ensures
 
 pub decide-u16-spec : {M : Type 1} → statement M
 decide-u16-spec =

@@ -2,7 +2,7 @@
 use native.Mathlib.Omega.{arith}
 use borrow.Author.Rules.{rules}
 use lib.ListN.{length-take}
-use Rattle.display.proofs.Refusals.{refused, room, show-room, written}
+use Rattle.display.proofs.Refusals.{refused, room, show_room, written}
 use Rattle.display.proofs.display.Statement.{statement}
 use Rattle.display.proofs.display.Tie as tie
 
@@ -35,7 +35,7 @@ show-requires c κs =
     let a = c.before.before.before.before.before.before.before.args in
     let k = c.before.before.before.fault in
     let p = c.before.power in
-    show-room a.first a.weights.now a.bytes.now a.out.now k.result k.ensures c.before.before.if1.false p.result p.ensures
+    show_room a.first a.weights.now a.bytes.now a.out.now k.result k.ensures c.before.before.if1.false p.result p.ensures
 
 same_length : tie.Need-same-length
 same_length c = search rules

@@ -2,7 +2,7 @@
 use mathlib.Core.Path.{ap₂}
 use Prim.Native.Nat.{◌+◌}
 use borrow.Author.Rules.{rules}
-use Rattle.division.proofs.Quotients.{inverse-at}
+use Rattle.division.proofs.Quotients.{inverse_at}
 use Rattle.division.proofs.inverse.Statement.{statement}
 use Rattle.division.proofs.inverse.Tie as tie
 
@@ -26,7 +26,7 @@ returns c =
     let x = c.before in
     let q = x.before in
     let s = q.before in
-    inverse-at c.inverses.result c.inverses.ensures s.args.p s.args.h (q.size.result + x.index.result) s.requires (ap₂ ◌+◌ q.size.ensures.0 x.index.ensures.0)
+    inverse_at c.inverses.result c.inverses.ensures s.args.p s.args.h (q.size.result + x.index.result) s.requires (ap₂ ◌+◌ q.size.ensures.0 x.index.ensures.0)
 
 pub inverse-spec : {M : Type 1} → statement M
 inverse-spec = tie.close (tie.spec size-requires index-requires inverses-requires add-result array-read-result returns)

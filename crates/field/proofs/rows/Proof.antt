@@ -2,7 +2,7 @@
 use mathlib.Core.Path.{◌∙◌, sym}
 use borrow.Author.Rules.{rules}
 use lib.ListN.{length}
-use Rattle.field.proofs.RowsCall.{fitting, rows_none, rows-done}
+use Rattle.field.proofs.RowsCall.{fitting, rows_none, rows_done}
 use Rattle.field.proofs.rows.Statement.{statement}
 use Rattle.field.proofs.rows.Tie as tie
 
@@ -25,7 +25,7 @@ returns c =
     let at-if1 = at_fill_lem.before.before in
     let at-rows-fit = at-if1.before in
     let start = at-rows-fit.before.before.before in
-    at_fill_lem.fill.ensures ∙ rows-done start.args.p start.args.weights.now start.args.out.now (sym at-rows-fit.rows_fit.ensures ∙ at-if1.if1.true)
+    at_fill_lem.fill.ensures ∙ rows_done start.args.p start.args.weights.now start.args.out.now (sym at-rows-fit.rows_fit.ensures ∙ at-if1.if1.true)
 
 returns-2 : tie.Need-returns-2
 returns-2 c =

@@ -7,5 +7,5 @@ abbrev pub build : (ℕ → ℕ) → ℕ → ℕ → List ℕ
 build f i zero = []
 build f i (suc n) = f i ∷ build f (suc i) n
 
-unfoldable pub productTable : List ℕ
-productTable = build (λ k. product 6 (k / 64) (k % 64)) 0 4096
+unfoldable pub product_table : List ℕ
+product_table = build (λ k. product 6 (k / 64) (k % 64)) 0 4096

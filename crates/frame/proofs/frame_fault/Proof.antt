@@ -5,8 +5,8 @@ use Prim.Native.Nat.{◌*◌, ◌≤◌}
 use native.Mathlib.Omega.{arith}
 use borrow.Author.Rules.{rules}
 use native.Mathlib.Nat.{mul-le-mul}
-use Rattle.frame.specs.Answers.{frameFaultOf}
-use Rattle.frame.proofs.Frames.{fault-count, fault-zeros}
+use Rattle.frame.specs.Answers.{frame_fault_of}
+use Rattle.frame.proofs.Frames.{fault_count, fault_zeros}
 use Rattle.frame.proofs.frame_fault.Statement.{statement}
 use Rattle.frame.proofs.frame_fault.Tie as tie
 
@@ -26,7 +26,7 @@ returns c =
     let at_size = c.before in
     let at-u16-to-usize = at_size.before in
     let start = at-u16-to-usize.before.before in
-    fault-count start.args.numbers.first at-u16-to-usize.u16-to-usize.result at_size.size.result start.args.frame.now at_size.size.ensures.0 c.if1.true ∙ ap (λ n. frameFaultOf start.args.numbers.first n start.args.frame.now) at-u16-to-usize.u16-to-usize.ensures.0
+    fault_count start.args.numbers.first at-u16-to-usize.u16-to-usize.result at_size.size.result start.args.frame.now at_size.size.ensures.0 c.if1.true ∙ ap (λ n. frame_fault_of start.args.numbers.first n start.args.frame.now) at-u16-to-usize.u16-to-usize.ensures.0
 
 zeros-u8-requires : tie.Need-zeros-u8-requires
 zeros-u8-requires c κs = search rules
@@ -38,7 +38,7 @@ returns-2 c =
     let at_size = at-if1.before in
     let at-u16-to-usize = at_size.before in
     let start = at-u16-to-usize.before.before in
-    fault-zeros start.args.numbers.first at-u16-to-usize.u16-to-usize.result at_size.size.result start.args.frame.now at_size.size.ensures.0 true at-if1.if1.false (sym c.if2.true ∙ at-zeros-u8.zeros-u8.ensures) ∙ ap (λ n. frameFaultOf start.args.numbers.first n start.args.frame.now) at-u16-to-usize.u16-to-usize.ensures.0
+    fault_zeros start.args.numbers.first at-u16-to-usize.u16-to-usize.result at_size.size.result start.args.frame.now at_size.size.ensures.0 true at-if1.if1.false (sym c.if2.true ∙ at-zeros-u8.zeros-u8.ensures) ∙ ap (λ n. frame_fault_of start.args.numbers.first n start.args.frame.now) at-u16-to-usize.u16-to-usize.ensures.0
 
 returns-3 : tie.Need-returns-3
 returns-3 c =
@@ -47,7 +47,7 @@ returns-3 c =
     let at_size = at-if1.before in
     let at-u16-to-usize = at_size.before in
     let start = at-u16-to-usize.before.before in
-    fault-zeros start.args.numbers.first at-u16-to-usize.u16-to-usize.result at_size.size.result start.args.frame.now at_size.size.ensures.0 false at-if1.if1.false (sym c.if2.false ∙ at-zeros-u8.zeros-u8.ensures) ∙ ap (λ n. frameFaultOf start.args.numbers.first n start.args.frame.now) at-u16-to-usize.u16-to-usize.ensures.0
+    fault_zeros start.args.numbers.first at-u16-to-usize.u16-to-usize.result at_size.size.result start.args.frame.now at_size.size.ensures.0 false at-if1.if1.false (sym c.if2.false ∙ at-zeros-u8.zeros-u8.ensures) ∙ ap (λ n. frame_fault_of start.args.numbers.first n start.args.frame.now) at-u16-to-usize.u16-to-usize.ensures.0
 
 pub frame-fault-spec : {M : Type 1} → statement M
 frame-fault-spec =

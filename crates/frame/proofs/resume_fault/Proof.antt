@@ -6,7 +6,7 @@ use native.Mathlib.Omega.{arith}
 use borrow.Author.Rules.{rules}
 use borrow.Author.Tests.{not-true, not-false}
 use lib.ListN.{length}
-use Rattle.frame.proofs.Resuming.{fault-costs, fault-records}
+use Rattle.frame.proofs.Resuming.{fault_costs, fault_records}
 use Rattle.frame.proofs.resume_fault.Statement.{statement}
 use Rattle.frame.proofs.resume_fault.Tie as tie
 
@@ -25,7 +25,7 @@ returns c =
     let q = k.before in
     let w = q.before in
     let a = w.before.before.before.before.args in
-    fault-costs a.numbers a.degrees.now a.costs.now a.store.now w.u16-to-usize.result q.size.result a.t w.u16-to-usize.ensures.0 q.size.ensures.0 k.costs-ok.result k.costs-ok.ensures (not-true _ c.if1.true)
+    fault_costs a.numbers a.degrees.now a.costs.now a.store.now w.u16-to-usize.result q.size.result a.t w.u16-to-usize.ensures.0 q.size.ensures.0 k.costs-ok.result k.costs-ok.ensures (not-true _ c.if1.true)
 
 u8-to-usize-requires : tie.Need-u8-to-usize-requires
 u8-to-usize-requires c κs = search rules
@@ -46,7 +46,7 @@ returns-2 c =
     let w = q.before in
     let a = w.before.before.before.before.args in
     let e : m.min-usize.result ≡ min a.numbers.checks (length a.degrees.now) = omega (arith, m.min-usize.ensures, v.u8-to-usize.ensures.0) in
-    fault-records a.numbers a.degrees.now a.costs.now a.store.now w.u16-to-usize.result q.size.result a.t w.u16-to-usize.ensures.0 q.size.ensures.0 k.costs-ok.result k.costs-ok.ensures (not-false _ v.before.if1.false) m.min-usize.result e false (sym (not-true _ c.if2.true) ∙ r.records-ok.ensures)
+    fault_records a.numbers a.degrees.now a.costs.now a.store.now w.u16-to-usize.result q.size.result a.t w.u16-to-usize.ensures.0 q.size.ensures.0 k.costs-ok.result k.costs-ok.ensures (not-false _ v.before.if1.false) m.min-usize.result e false (sym (not-true _ c.if2.true) ∙ r.records-ok.ensures)
 
 returns-3 : tie.Need-returns-3
 returns-3 c =
@@ -58,7 +58,7 @@ returns-3 c =
     let w = q.before in
     let a = w.before.before.before.before.args in
     let e : m.min-usize.result ≡ min a.numbers.checks (length a.degrees.now) = omega (arith, m.min-usize.ensures, v.u8-to-usize.ensures.0) in
-    fault-records a.numbers a.degrees.now a.costs.now a.store.now w.u16-to-usize.result q.size.result a.t w.u16-to-usize.ensures.0 q.size.ensures.0 k.costs-ok.result k.costs-ok.ensures (not-false _ v.before.if1.false) m.min-usize.result e true (sym (not-false _ c.if2.false) ∙ r.records-ok.ensures)
+    fault_records a.numbers a.degrees.now a.costs.now a.store.now w.u16-to-usize.result q.size.result a.t w.u16-to-usize.ensures.0 q.size.ensures.0 k.costs-ok.result k.costs-ok.ensures (not-false _ v.before.if1.false) m.min-usize.result e true (sym (not-false _ c.if2.false) ∙ r.records-ok.ensures)
 
 pub resume-fault-spec : {M : Type 1} → statement M
 resume-fault-spec =

@@ -5,9 +5,9 @@ use native.Mathlib.Numerals.{add-one}
 use native.Mathlib.Omega.{arith}
 use borrow.Author.Rules.{rules}
 use lib.ListN.{length, get_or}
-use Rattle.machine.specs.inner.Tables.{bytesBefore}
+use Rattle.machine.specs.inner.Tables.{bytes_before}
 use Rattle.trellis.specs.Lists.{upto}
-use Rattle.frame.proofs.Resuming.{groups-small, sum-bytes}
+use Rattle.frame.proofs.Resuming.{groups_small, sum-bytes}
 use Rattle.frame.proofs.used.Statement.{statement}
 use Rattle.frame.proofs.used.Tie as tie
 
@@ -31,7 +31,7 @@ loop-holds c =
     let at-u8-to-usize = c.before in
     let at-groups = at-u8-to-usize.before in
     let start = at-groups.before.before in
-    (omega arith, (omega (arith, c.min-usize.ensures), (omega (arith, c.min-usize.ensures, at-u8-to-usize.u8-to-usize.ensures), (omega (arith, at-groups.groups.ensures, (groups-small start.args.numbers.first)), (refl, omega arith)))))
+    (omega arith, (omega (arith, c.min-usize.ensures), (omega (arith, c.min-usize.ensures, at-u8-to-usize.u8-to-usize.ensures), (omega (arith, at-groups.groups.ensures, (groups_small start.args.numbers.first)), (refl, omega arith)))))
 
 shared-slice-read-u8-to-usize : tie.Need-shared-slice-read-u8-to-usize invariant-loop decreases-loop
 shared-slice-read-u8-to-usize c = search rules
@@ -63,7 +63,7 @@ returns c =
     let at-u8-to-usize = at-min-usize.before in
     let at-groups = at-u8-to-usize.before in
     let start = at-groups.before.before in
-    let e : at-loop.loop.m ≡ min start.args.numbers.checks (length start.args.degrees.now) = omega (arith, at-min-usize.min-usize.ensures, at-u8-to-usize.u8-to-usize.ensures.0) in at-loop.loop.invariant.1.1.1.1.0 ∙ sum-bytes start.args.numbers.first start.args.degrees.now at-groups.groups.result at-loop.loop.m at-groups.groups.ensures ∙ ap (bytesBefore start.args.numbers.first start.args.degrees.now) e
+    let e : at-loop.loop.m ≡ min start.args.numbers.checks (length start.args.degrees.now) = omega (arith, at-min-usize.min-usize.ensures, at-u8-to-usize.u8-to-usize.ensures.0) in at-loop.loop.invariant.1.1.1.1.0 ∙ sum-bytes start.args.numbers.first start.args.degrees.now at-groups.groups.result at-loop.loop.m at-groups.groups.ensures ∙ ap (bytes_before start.args.numbers.first start.args.degrees.now) e
 
 pub used-spec : {M : Type 1} → statement M
 used-spec =

@@ -4,8 +4,8 @@ use borrow.Author.Rules.{rules}
 use borrow.Author.Tests.{not-true, not-false}
 use lib.ListN.{length-take}
 use lib.Seq.{length-take-le}
-use Rattle.tables.proofs.Ranges.{in-range, size_room, groups-room}
-use Rattle.groups.proofs.Calling.{groups_none, groups-short, groups-tight, groups-done}
+use Rattle.tables.proofs.Ranges.{in_range_lem, size_room, groups_room}
+use Rattle.groups.proofs.Calling.{groups_none, groups_short, groups_tight, groups_done}
 use Rattle.groups.proofs.groups.Statement.{statement}
 use Rattle.groups.proofs.groups.Tie as tie
 
@@ -22,7 +22,7 @@ shape-of-requires : tie.Need-shape-of-requires
 shape-of-requires c κs =
     let at-fits2 = c.before in
     let start = at-fits2.before.before.before in
-    let r = (in-range start.args.rule.p start.args.rule.k start.args.d (sym at-fits2.fits2.ensures ∙ not-false _ c.if1.false)) in (r.0, r.1.0)
+    let r = (in_range_lem start.args.rule.p start.args.rule.k start.args.d (sym at-fits2.fits2.ensures ∙ not-false _ c.if1.false)) in (r.0, r.1.0)
 
 mul-n : tie.Need-overflow-mul-n
 mul-n c =
@@ -30,7 +30,7 @@ mul-n c =
     let at-if1 = at-shape-of.before in
     let at-fits2 = at-if1.before in
     let start = at-fits2.before.before.before in
-    omega (arith, size_room start.args.d at-shape-of.shape_of.result.l (in-range start.args.rule.p start.args.rule.k start.args.d (sym at-fits2.fits2.ensures ∙ not-false _ at-if1.if1.false)).1.1.1 at-shape-of.shape_of.ensures.1.0.table.limit)
+    omega (arith, size_room start.args.d at-shape-of.shape_of.result.l (in_range_lem start.args.rule.p start.args.rule.k start.args.d (sym at-fits2.fits2.ensures ∙ not-false _ at-if1.if1.false)).1.1.1 at-shape-of.shape_of.ensures.1.0.table.limit)
 
 returns-2 : tie.Need-returns-2
 returns-2 c =
@@ -38,7 +38,7 @@ returns-2 c =
     let at-if1 = at-shape-of.before in
     let at-fits2 = at-if1.before in
     let start = at-fits2.before.before.before in
-    groups-short start.args.rule.p start.args.rule.k start.args.d start.args.sent.now start.args.out.now at-shape-of.shape_of.result at-shape-of.shape_of.ensures.0 (sym at-fits2.fits2.ensures ∙ not-false _ at-if1.if1.false) c.if2.true
+    groups_short start.args.rule.p start.args.rule.k start.args.d start.args.sent.now start.args.out.now at-shape-of.shape_of.result at-shape-of.shape_of.ensures.0 (sym at-fits2.fits2.ensures ∙ not-false _ at-if1.if1.false) c.if2.true
 
 sub-m : tie.Need-overflow-sub-m
 sub-m c = search rules
@@ -52,7 +52,7 @@ add-m c = search rules
 mul-m-2 : tie.Need-overflow-mul-m-2
 mul-m-2 c =
     let at-shape-of = c.before.before.before.before in
-    omega (arith, groups-room at-shape-of.shape_of.result.q at-shape-of.shape_of.result.l at-shape-of.shape_of.result.k at-shape-of.shape_of.ensures.1.0)
+    omega (arith, groups_room at-shape-of.shape_of.result.q at-shape-of.shape_of.result.l at-shape-of.shape_of.result.k at-shape-of.shape_of.ensures.1.0)
 
 returns-3 : tie.Need-returns-3
 returns-3 c =
@@ -61,7 +61,7 @@ returns-3 c =
     let at-if1 = at-shape-of.before in
     let at-fits2 = at-if1.before in
     let start = at-fits2.before.before.before in
-    groups-tight start.args.rule.p start.args.rule.k start.args.d start.args.sent.now start.args.out.now at-shape-of.shape_of.result at-shape-of.shape_of.ensures.0 (sym at-fits2.fits2.ensures ∙ not-false _ at-if1.if1.false) at-if2.if2.false c.if3.true
+    groups_tight start.args.rule.p start.args.rule.k start.args.d start.args.sent.now start.args.out.now at-shape-of.shape_of.result at-shape-of.shape_of.ensures.0 (sym at-fits2.fits2.ensures ∙ not-false _ at-if1.if1.false) at-if2.if2.false c.if3.true
 
 slice-aggregate-groups-in : tie.Need-slice-aggregate-groups-in
 slice-aggregate-groups-in c = simp length-take (omega arith)
@@ -79,7 +79,7 @@ groups-in-requires c κs =
     let at-if1 = at-shape-of.before in
     let at-fits2 = at-if1.before in
     let start = at-fits2.before.before.before in
-    let r = (in-range start.args.rule.p start.args.rule.k start.args.d (sym at-fits2.fits2.ensures ∙ not-false _ at-if1.if1.false)) in (at-shape-of.shape_of.ensures.1.0, ((r.1.1, (at-shape-of.shape_of.ensures.1.1, simp length-take (omega arith))), length-take-le _ _ at-if3.if3.false))
+    let r = (in_range_lem start.args.rule.p start.args.rule.k start.args.d (sym at-fits2.fits2.ensures ∙ not-false _ at-if1.if1.false)) in (at-shape-of.shape_of.ensures.1.0, ((r.1.1, (at-shape-of.shape_of.ensures.1.1, simp length-take (omega arith))), length-take-le _ _ at-if3.if3.false))
 
 same_length : tie.Need-same-length
 same_length c = search rules
@@ -93,7 +93,7 @@ returns-4 c =
     let at-if1 = at-shape-of.before in
     let at-fits2 = at-if1.before in
     let start = at-fits2.before.before.before in
-    groups-done start.args.rule.p start.args.rule.k start.args.d start.args.sent.now start.args.out.now at-shape-of.shape_of.result at-shape-of.shape_of.ensures.0 (sym at-fits2.fits2.ensures ∙ not-false _ at-if1.if1.false) at-if2.if2.false at-if3.if3.false at-groups-in.groups-in.ensures
+    groups_done start.args.rule.p start.args.rule.k start.args.d start.args.sent.now start.args.out.now at-shape-of.shape_of.result at-shape-of.shape_of.ensures.0 (sym at-fits2.fits2.ensures ∙ not-false _ at-if1.if1.false) at-if2.if2.false at-if3.if3.false at-groups-in.groups-in.ensures
 
 pub groups-spec : {M : Type 1} → statement M
 groups-spec =

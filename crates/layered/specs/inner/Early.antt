@@ -1,15 +1,15 @@
--- What the functions ask that stop inside an iteration, and the loop's invariant over stopLent of the machine. proofs/Advances.antt keeps
+-- What the functions ask that stop inside an iteration, and the loop's invariant over stop_lent of the machine. proofs/Advances.antt keeps
 -- it.
 use Rattle.std.specs.Prelude.{◌≡◌, false, List, ℕ, ◌+◌, ◌-◌, ◌*◌, ◌%◌, ◌≤◌, ◌<◌, eqb, length, get_or, set}
 use Rattle.trellis.specs.Lists.{upto}
 use Rattle.trellis.specs.Check.{decide}
 use Rattle.trellis.specs.Rules.{size_of}
-use Rattle.trellis.specs.Sizes.{mostExpansion, mostSize}
-use Rattle.machine.specs.CodeLine.{Code, columnOf}
+use Rattle.trellis.specs.Sizes.{most_expansion, most_size}
+use Rattle.machine.specs.CodeLine.{Code, column_of}
 use Rattle.machine.specs.Machine.{symbols, settled}
 use Rattle.machine.specs.Lent.{Lent, lent}
-use Rattle.machine.specs.inner.LentEarly.{stopLent}
-use Rattle.machine.specs.inner.Tables.{edgesBefore, table_at}
+use Rattle.machine.specs.inner.LentEarly.{stop_lent}
+use Rattle.machine.specs.inner.Tables.{edges_before, table_at}
 use Rattle.machine.specs.inner.InRange.{Advancing}
 use Rattle.codeline.specs.declared.answers.Numbers.{Numbers}
 use Rattle.codeline.specs.inner.Coding.{code_of, Coded}
@@ -19,34 +19,34 @@ use Rattle.layered.specs.inner.Parity.{EdgeOf, SettledRoom}
 use Rattle.layered.specs.inner.Places.{Stands}
 
 -- the symbols z where the first k of the columns cs are decided again, from costs P
-unfoldable pub decidedAgain : ℕ → List ℕ → List ℕ → ℕ → List ℕ → List ℕ
-decidedAgain q P cs k z = upto (λ j (z : List ℕ). set z (get_or cs j 0) (decide (columnOf q P (get_or cs j 0))).symbol) k z
+unfoldable pub decided_again : ℕ → List ℕ → List ℕ → ℕ → List ℕ → List ℕ
+decided_again q P cs k z = upto (λ j (z : List ℕ). set z (get_or cs j 0) (decide (column_of q P (get_or cs j 0))).symbol) k z
 
 pub record AgainRoom (q : ℕ) (P cs z : List ℕ) : Type 0 where
-  pub small : q ≤ mostSize
-  pub in-costs : (k : ℕ) → k < length cs → get_or cs k 0 * q + q ≤ length P
-  pub in-symbols : (k : ℕ) → k < length cs → get_or cs k 0 < length z
+  pub small : q ≤ most_size
+  pub in_costs : (k : ℕ) → k < length cs → get_or cs k 0 * q + q ≤ length P
+  pub in_symbols : (k : ℕ) → k < length cs → get_or cs k 0 < length z
 
 -- the symbols z are the decisions of other costs, and check `from` was not satisfied; deciding the columns of the check at p again gives
 -- those of P
 pub record RetestRoom (k : Numbers) (ds cs ws : List ℕ) (p : Place) (from : CheckAt) (P z : List ℕ) : Type 0 where
   pub settled-room : SettledRoom k ds cs ws P z
   pub inside : p.check < k.checks
-  pub edge-is : p.edge ≡ edgesBefore ds p.check
-  pub from-edge : EdgeOf ds from
-  pub from-inside : from.check < k.checks
+  pub edge_is : p.edge ≡ edges_before ds p.check
+  pub from_edge : EdgeOf ds from
+  pub from_inside : from.check < k.checks
   pub old : List ℕ
   pub decided : z ≡ symbols (code_of k ds cs ws) old
   pub unsettled : settled (code_of k ds cs ws) old ≡ false
-  pub again : decidedAgain (size_of k.first) P (table_at ds cs p.check) (length (table_at ds cs p.check))
+  pub again : decided_again (size_of k.first) P (table_at ds cs p.check) (length (table_at ds cs p.check))
       (symbols (code_of k ds cs ws) old)
       ≡ symbols (code_of k ds cs ws) P
 
 -- r is the number of checks exactly where the decisions of P satisfy every one
 pub record Retested (C : Code) (ds P : List ℕ) (r : CheckAt) : Type 0 where
-  pub edge-is : EdgeOf ds r
+  pub edge_is : EdgeOf ds r
   pub high : r.check ≤ length C.checks
-  pub test-is : eqb r.check (length C.checks) ≡ settled C P
+  pub test_is : eqb r.check (length C.checks) ≡ settled C P
 
 -- after u updates, which have not satisfied every check: the symbols are the decisions
 pub record Unsettled (k : Numbers) (ds cs ws : List ℕ) (u : ℕ) (P store z : List ℕ) : Type 0 where
@@ -58,17 +58,17 @@ pub record Unsettled (k : Numbers) (ds cs ws : List ℕ) (u : ℕ) (P store z : 
 -- room to go on from there: two lists to work in
 pub record GoRoom (k : Numbers) (ds cs ws P store z A S : List ℕ) : Type 0 where
   pub unsettled : Unsettled k ds cs ws 0 P store z
-  pub arrived : mostExpansion ≤ length A
-  pub sent : mostExpansion ≤ length S
+  pub arrived : most_expansion ≤ length A
+  pub sent : most_expansion ≤ length S
 
 -- in the loop over the updates, of which there are at most `most`: the next check stands here, check `from` is not satisfied, and what is
 -- left gives the same as the whole
 pub record Going (k : Numbers) (ds cs ws : List ℕ) (most : ℕ) (l₀ : Lent) (u : ℕ) (here : Place) (from : CheckAt)
     (P store z : List ℕ) : Type 0 where
   pub at_most : u ≤ most
-  pub check-is : here.check ≡ u % k.checks
+  pub check_is : here.check ≡ u % k.checks
   pub stands : Stands k.first ds here.check here
-  pub from-edge : EdgeOf ds from
-  pub from-inside : from.check < k.checks
+  pub from_edge : EdgeOf ds from
+  pub from_inside : from.check < k.checks
   pub unsettled : Unsettled k ds cs ws u P store z
-  pub left : stopLent (code_of k ds cs ws) (most - u) u (lent P store) ≡ stopLent (code_of k ds cs ws) most 0 l₀
+  pub left : stop_lent (code_of k ds cs ws) (most - u) u (lent P store) ≡ stop_lent (code_of k ds cs ws) most 0 l₀

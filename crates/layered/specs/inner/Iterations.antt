@@ -1,7 +1,7 @@
 -- What an iteration and the run ask of the tables of a code and of the buffers, and what an outcome says of these.
 use Rattle.std.specs.Prelude.{◌≡◌, Bool, List, ℕ, ◌≤◌, length}
-use Rattle.trellis.specs.Sizes.{mostExpansion}
-use Rattle.machine.specs.Machine.{found, notFound}
+use Rattle.trellis.specs.Sizes.{most_expansion}
+use Rattle.machine.specs.Machine.{found, not_found}
 use Rattle.machine.specs.Lent.{Lent, lent, Ended, ended}
 use Rattle.machine.specs.inner.InRange.{Passable}
 use Rattle.codeline.specs.declared.answers.Numbers.{Numbers}
@@ -10,9 +10,9 @@ use Rattle.layered.specs.declared.answers.Outcome.{Outcome}
 use Rattle.layered.specs.declared.answers.Outcome.TheVariants.{Found, NotFound}
 
 -- an outcome with what the buffers then hold
-abbrev pub endedIn : Outcome → Lent → Ended
-endedIn (Found t) l = ended found t l
-endedIn (NotFound t) l = ended notFound t l
+abbrev pub ended_in : Outcome → Lent → Ended
+ended_in (Found t) l = ended found t l
+ended_in (NotFound t) l = ended not_found t l
 
 -- costs in range, and room for the records; but in the first iteration each stored record is of accepted form
 pub record Running (k : Numbers) (ds cs ws : List ℕ) (start : Bool) (P store : List ℕ) : Type 0 where
@@ -22,8 +22,8 @@ pub record Running (k : Numbers) (ds cs ws : List ℕ) (start : Bool) (P store :
 -- room to work in: two lists for the largest check's columns
 pub record IterateRoom (k : Numbers) (ds cs ws : List ℕ) (start : Bool) (P store A S : List ℕ) : Type 0 where
   pub running : Running k ds cs ws start P store
-  pub arrived : mostExpansion ≤ length A
-  pub sent : mostExpansion ≤ length S
+  pub arrived : most_expansion ≤ length A
+  pub sent : most_expansion ≤ length S
 
 -- and a symbol for each column
 pub record RunRoom (k : Numbers) (ds cs ws : List ℕ) (start : Bool) (P store z A S : List ℕ) : Type 0 where

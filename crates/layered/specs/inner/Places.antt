@@ -1,10 +1,10 @@
 -- Where a check stands in the tables and the store, and what one update of it asks.
 use Rattle.std.specs.Prelude.{◌≡◌, Bool, false, List, ℕ, ◌≤◌, ◌<◌, eqb, length}
 use Rattle.trellis.specs.Lists.{pick}
-use Rattle.trellis.specs.Sizes.{mostExpansion}
+use Rattle.trellis.specs.Sizes.{most_expansion}
 use Rattle.machine.specs.Machine.{used}
 use Rattle.machine.specs.Lent.{lent}
-use Rattle.machine.specs.inner.Tables.{edgesBefore, bytesBefore}
+use Rattle.machine.specs.inner.Tables.{edges_before, bytes_before}
 use Rattle.machine.specs.inner.InRange.{Ranged, Formed}
 use Rattle.codeline.specs.declared.answers.Numbers.{Numbers}
 use Rattle.codeline.specs.inner.Coding.{code_of, Coded}
@@ -12,15 +12,15 @@ use Rattle.layered.specs.declared.place.Place.{Place}
 
 -- where check m stands
 pub record Stands (first : ℕ) (ds : List ℕ) (m : ℕ) (p : Place) : Type 0 where
-  pub check-is : p.check ≡ m
-  pub edge-is : p.edge ≡ edgesBefore ds m
-  pub byte-is : p.byte ≡ bytesBefore first ds m
+  pub check_is : p.check ≡ m
+  pub edge_is : p.edge ≡ edges_before ds m
+  pub byte_is : p.byte ≡ bytes_before first ds m
 
 -- of n checks the first comes behind the last
 pub record Around (n : ℕ) (p r : Place) : Type 0 where
-  pub check-is : r.check ≡ pick (eqb p.check n) 0 p.check
-  pub edge-is : r.edge ≡ pick (eqb p.check n) 0 p.edge
-  pub byte-is : r.byte ≡ pick (eqb p.check n) 0 p.byte
+  pub check_is : r.check ≡ pick (eqb p.check n) 0 p.check
+  pub edge_is : r.edge ≡ pick (eqb p.check n) 0 p.edge
+  pub byte_is : r.byte ≡ pick (eqb p.check n) 0 p.byte
 
 -- check m may be updated: the costs are in range, there is room for the records, and, but for a first update, its own is of accepted form
 pub record Updatable (k : Numbers) (ds cs ws : List ℕ) (start : Bool) (m : ℕ) (P store : List ℕ) : Type 0 where
@@ -34,5 +34,5 @@ pub record Updatable (k : Numbers) (ds cs ws : List ℕ) (start : Bool) (m : ℕ
 pub record PlaceRoom (k : Numbers) (ds cs ws : List ℕ) (start : Bool) (p : Place) (P store A S : List ℕ) : Type 0 where
   pub updatable : Updatable k ds cs ws start p.check P store
   pub stands : Stands k.first ds p.check p
-  pub arrived : mostExpansion ≤ length A
-  pub sent : mostExpansion ≤ length S
+  pub arrived : most_expansion ≤ length A
+  pub sent : most_expansion ≤ length S

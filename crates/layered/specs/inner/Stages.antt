@@ -3,23 +3,23 @@
 use Rattle.std.specs.Prelude.{◌≡◌, Bool, List, ℕ, leb, length}
 use Rattle.trellis.specs.Lists.{pick}
 use Rattle.machine.specs.CodeLine.{good, Code}
-use Rattle.machine.specs.Decoding.{Buffers, admittedUnder}
-use Rattle.machine.specs.Moments.{Stage as Ends, Moment, loadingUnder, resumableUnder, iteratingUnder}
+use Rattle.machine.specs.Decoding.{Buffers, admitted_under}
+use Rattle.machine.specs.Moments.{Stage as Ends, Moment, loading_under, resumable_under, iterating_under}
 use Rattle.codeline.specs.declared.answers.Numbers.{Numbers}
 use Rattle.layered.specs.Answers.{ends}
 use Rattle.layered.specs.inner.Parity.{SettledRoom}
 use Rattle.layered.specs.inner.Iterations.{IterateRoom}
 
 -- "2 if the test holds, else 3 if t is I or more, else 1"
-unfoldable pub stageAfter : Bool → ℕ → ℕ → Ends
-stageAfter found t limit = ends (pick found 2 (pick (leb limit t) 3 1)) 0
+unfoldable pub stage_after : Bool → ℕ → ℕ → Ends
+stage_after found t limit = ends (pick found 2 (pick (leb limit t) 3 1)) 0
 
 -- a load and an iteration under a code that is read
-abbrev pub loadingOf : Code → List ℕ → Buffers → Moment
-loadingOf C f b = loadingUnder (admittedUnder (good C) f b) f b
+abbrev pub loading_of : Code → List ℕ → Buffers → Moment
+loading_of C f b = loading_under (admitted_under (good C) f b) f b
 
-abbrev pub iteratingOf : Code → List ℕ → ℕ → Buffers → Moment
-iteratingOf C f t b = iteratingUnder (resumableUnder (admittedUnder (good C) f b) t b) t b
+abbrev pub iterating_of : Code → List ℕ → ℕ → Buffers → Moment
+iterating_of C f t b = iterating_under (resumable_under (admitted_under (good C) f b) t b) t b
 
 -- room for the test: a symbol and a margin for each column
 pub record TestRoom (k : Numbers) (ds cs ws P z v : List ℕ) : Type 0 where

@@ -2,8 +2,8 @@
 use Rattle.std.specs.Prelude.{◌≡◌, Bool, true, false, ℕ, ◌*◌, ◌≤◌, ◌<◌, length, get_or}
 use mathlib.Core.List.{List, Memᴰ}
 use Rattle.trellis.specs.Lists.{part}
-use Rattle.trellis.specs.Record.{recordLength, recordOk}
-use Rattle.machine.specs.CodeLine.{Code, size, rule, check, columnOf}
+use Rattle.trellis.specs.Record.{record_length, record_ok}
+use Rattle.machine.specs.CodeLine.{Code, size, rule, check, column_of}
 use Rattle.machine.specs.Machine.{place, used}
 use Rattle.machine.specs.Lent.{Lent}
 use Rattle.machine.specs.inner.Accepted.{GoodCode}
@@ -15,14 +15,14 @@ Below b l = (x : ℕ) → get_or l x 0 ≤ b
 pub record Ranged (C : Code) (P : List ℕ) : Type 0 where
   pub full : length P ≡ C.columns * size C
   pub small : Below 510 P
-  pub zero_in : (c : ℕ) → c < C.columns → Memᴰ 0 (columnOf (size C) P c)
+  pub has_zero : (c : ℕ) → c < C.columns → Memᴰ 0 (column_of (size C) P c)
 
 module _ (C : Code) (G : GoodCode C) where
-  abbrev pub pieceIn : Lent → ℕ → List ℕ
-  pieceIn l m = part l.store (place C m) (recordLength (rule C) (length (check C m)))
+  abbrev pub piece_in : Lent → ℕ → List ℕ
+  piece_in l m = part l.store (place C m) (record_length (rule C) (length (check C m)))
 
   abbrev pub Formed : Lent → ℕ → Type 0
-  Formed l m = recordOk (rule C) (length (check C m)) (pieceIn l m) ≡ true
+  Formed l m = record_ok (rule C) (length (check C m)) (piece_in l m) ≡ true
 
   -- costs in range, room in the store, and records of accepted form but in the first iteration
   pub record Passable (start : Bool) (l : Lent) : Type 0 where

@@ -1,17 +1,17 @@
 -- In each arm the answer is the constructor that was matched.
 use mathlib.Core.Path.{◌≡◌, refl, subst}
 use native.Mathlib.Omega.{arith}
-use Rattle.layered.specs.Answers.{answerReply}
+use Rattle.layered.specs.Answers.{answer_reply}
 use Rattle.layered.specs.declared.answers.Outcome.{Outcome}
 use Rattle.layered.specs.declared.answers.Outcome.TheVariants.{Found, NotFound}
 use Rattle.layered.specs.declared.answers.Answer.TheVariants.{Decoded}
-use Rattle.petsivola.specs.Packed.{Packs, outcomeReply}
+use Rattle.petsivola.specs.Packed.{Packs, outcome_reply}
 use borrow.Author.Rules.{rules}
 use Rattle.petsivola.proofs.of_answer.Statement.{statement}
 use Rattle.petsivola.proofs.of_answer.Tie as tie
 
 -- a decoding's reply is its outcome's
-same : (o : Outcome) → outcomeReply o ≡ answerReply (Decoded o)
+same : (o : Outcome) → outcome_reply o ≡ answer_reply (Decoded o)
 same (Found t) = refl
 same (NotFound t) = refl
 

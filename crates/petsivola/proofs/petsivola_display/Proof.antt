@@ -2,7 +2,7 @@
 use mathlib.Core.Path.{subst}
 use native.Mathlib.Omega.{arith}
 use native.Mathlib.Nat.{le_trans}
-use Rattle.display.proofs.Refusals.{display-short}
+use Rattle.display.proofs.Refusals.{display_short}
 use Rattle.petsivola.specs.Packed.{Packs}
 use borrow.Author.Rules.{rules}
 use Rattle.petsivola.proofs.petsivola_display.Statement.{statement}
@@ -12,7 +12,7 @@ display-requires : tie.Need-display-requires
 display-requires c κs = search rules
 
 of-written-requires : tie.Need-of-written-requires
-of-written-requires c κs = rw c.before.before.display.ensures.0 (le_trans (display-short _ _ _ _) (omega arith))
+of-written-requires c κs = rw c.before.before.display.ensures.0 (le_trans (display_short _ _ _ _) (omega arith))
 
 same_length : tie.Need-same-length
 same_length c = search rules

@@ -2,7 +2,7 @@
 use mathlib.Core.Path.{subst}
 use native.Mathlib.Omega.{arith}
 use native.Mathlib.Nat.{le_trans}
-use Rattle.expansion.proofs.Values.{expand-short}
+use Rattle.expansion.proofs.Values.{expand_short}
 use Rattle.petsivola.specs.Packed.{Packs}
 use borrow.Author.Rules.{rules}
 use Rattle.petsivola.proofs.petsivola_expand.Statement.{statement}
@@ -12,7 +12,7 @@ expand-requires : tie.Need-expand-requires
 expand-requires c κs = search rules
 
 of-written-requires : tie.Need-of-written-requires
-of-written-requires c κs = rw c.before.before.expand.ensures.0 (le_trans (expand-short _ _ _ _) (omega arith))
+of-written-requires c κs = rw c.before.before.expand.ensures.0 (le_trans (expand_short _ _ _ _) (omega arith))
 
 same_length : tie.Need-same-length
 same_length c = search rules

@@ -1,7 +1,7 @@
 -- Small factors, so nothing overflows.
 use native.Mathlib.Omega.{arith}
 use borrow.Author.Rules.{rules}
-use Rattle.rules.proofs.Powers.{groups-small}
+use Rattle.rules.proofs.Powers.{groups_small}
 use Rattle.rules.proofs.groups.Statement.{statement}
 use Rattle.rules.proofs.groups.Tie as tie
 
@@ -24,7 +24,7 @@ sub-result : tie.Need-overflow-sub-result
 sub-result c = search rules
 
 mul-result-2 : tie.Need-overflow-mul-result-2
-mul-result-2 c = omega (arith, groups-small c.before.most.result c.size.result c.before.most.ensures.1.1 c.size.ensures.1.1)
+mul-result-2 c = omega (arith, groups_small c.before.most.result c.size.result c.before.most.ensures.1.1 c.size.ensures.1.1)
 
 returns : tie.Need-returns
 returns c = rw (c.before.most.ensures.0, c.size.ensures.0)

@@ -5,7 +5,7 @@ use Prim.Native.Nat.{◌-◌, ◌≤◌}
 use native.Mathlib.Omega.{arith}
 use borrow.Author.Rules.{rules}
 use lib.ListN.{length, take, drop}
-use Rattle.slices.proofs.Copies.{copied_none, copy_more, copy-end}
+use Rattle.slices.proofs.Copies.{copied_none, copy_more, copy_end}
 use Rattle.slices.proofs.copy_u8.Statement.{statement}
 use Rattle.slices.proofs.copy_u8.Tie as tie
 
@@ -49,7 +49,7 @@ returns-2 c =
     let at-loop = c.before in
     let at-if1 = at-loop.before in
     let start = at-if1.before in
-    copy-end start.args.bytes.now start.args.to.now at-loop.loop.to at-loop.loop.i at-if1.if1.false (omega arith) at-loop.loop.invariant.1.1
+    copy_end start.args.bytes.now start.args.to.now at-loop.loop.to at-loop.loop.i at-if1.if1.false (omega arith) at-loop.loop.invariant.1.1
 
 pub copy-u8-spec : {M : Type 1} → statement M
 copy-u8-spec =

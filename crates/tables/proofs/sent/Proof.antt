@@ -3,8 +3,8 @@ use native.Mathlib.Omega.{arith}
 use borrow.Author.Rules.{rules}
 use borrow.Author.Tests.{not-true, not-false}
 use lib.ListN.{length-take}
-use Rattle.tables.proofs.Ranges.{in-range, size_room}
-use Rattle.tables.proofs.Calling.{sent-none, sent-short, sent-tight, sent-done}
+use Rattle.tables.proofs.Ranges.{in_range_lem, size_room}
+use Rattle.tables.proofs.Calling.{sent-none, sent-short, sent_tight, sent-done}
 use Rattle.tables.proofs.sent.Statement.{statement}
 use Rattle.tables.proofs.sent.Tie as tie
 
@@ -21,7 +21,7 @@ shape-of-requires : tie.Need-shape-of-requires
 shape-of-requires c κs =
     let at-fits2 = c.before in
     let start = at-fits2.before.before.before in
-    let r = (in-range start.args.rule.p start.args.rule.k start.args.d (sym at-fits2.fits2.ensures ∙ not-false _ c.if1.false)) in (r.0, r.1.0)
+    let r = (in_range_lem start.args.rule.p start.args.rule.k start.args.d (sym at-fits2.fits2.ensures ∙ not-false _ c.if1.false)) in (r.0, r.1.0)
 
 mul-n : tie.Need-overflow-mul-n
 mul-n c =
@@ -29,7 +29,7 @@ mul-n c =
     let at-if1 = at-shape-of.before in
     let at-fits2 = at-if1.before in
     let start = at-fits2.before.before.before in
-    omega (arith, size_room start.args.d at-shape-of.shape_of.result.l (in-range start.args.rule.p start.args.rule.k start.args.d (sym at-fits2.fits2.ensures ∙ not-false _ at-if1.if1.false)).1.1.1 at-shape-of.shape_of.ensures.1.0.table.limit)
+    omega (arith, size_room start.args.d at-shape-of.shape_of.result.l (in_range_lem start.args.rule.p start.args.rule.k start.args.d (sym at-fits2.fits2.ensures ∙ not-false _ at-if1.if1.false)).1.1.1 at-shape-of.shape_of.ensures.1.0.table.limit)
 
 returns-2 : tie.Need-returns-2
 returns-2 c =
@@ -46,7 +46,7 @@ returns-3 c =
     let at-if1 = at-shape-of.before in
     let at-fits2 = at-if1.before in
     let start = at-fits2.before.before.before in
-    sent-tight start.args.rule.p start.args.rule.k start.args.d start.args.lines.now start.args.out.now start.args.rule.greatest at-shape-of.shape_of.result at-shape-of.shape_of.ensures.0 (sym at-fits2.fits2.ensures ∙ not-false _ at-if1.if1.false) at-if2.if2.false c.if3.true
+    sent_tight start.args.rule.p start.args.rule.k start.args.d start.args.lines.now start.args.out.now start.args.rule.greatest at-shape-of.shape_of.result at-shape-of.shape_of.ensures.0 (sym at-fits2.fits2.ensures ∙ not-false _ at-if1.if1.false) at-if2.if2.false c.if3.true
 
 slice-aggregate-rows : tie.Need-slice-aggregate-rows
 slice-aggregate-rows c = simp length-take (omega arith)
@@ -63,7 +63,7 @@ rows-requires c κs =
     let at-if1 = at-shape-of.before in
     let at-fits2 = at-if1.before in
     let start = at-fits2.before.before.before in
-    let r = (in-range start.args.rule.p start.args.rule.k start.args.d (sym at-fits2.fits2.ensures ∙ not-false _ at-if1.if1.false)) in (at-shape-of.shape_of.ensures.1.0, (r.1.1, (simp length-take (omega arith), simp length-take (omega arith))))
+    let r = (in_range_lem start.args.rule.p start.args.rule.k start.args.d (sym at-fits2.fits2.ensures ∙ not-false _ at-if1.if1.false)) in (at-shape-of.shape_of.ensures.1.0, (r.1.1, (simp length-take (omega arith), simp length-take (omega arith))))
 
 same_length : tie.Need-same-length
 same_length c = search rules

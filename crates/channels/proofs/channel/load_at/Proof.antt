@@ -7,7 +7,7 @@ use lib.ListN.{length}
 use Rattle.trellis.specs.Lists.{part}
 use Rattle.machine.proofs.Places.{length_part}
 use Rattle.channels.specs.inner.Rounds.{unstored}
-use Rattle.channels.proofs.Layouts.{load-refused, load_asks, load-puts}
+use Rattle.channels.proofs.Layouts.{load-refused, load_asks, load_puts}
 use Rattle.slices.proofs.Copies.{copied_is}
 use Rattle.channels.proofs.channel.load_at.Statement.{statement}
 use Rattle.channels.proofs.channel.load_at.Tie as tie
@@ -138,7 +138,7 @@ returns-2 c =
     let k = c.before.before.before.before.before.before.before.before.before.before.before.before.before.before.before.before.before.frame-fault in
     let f = c.before.before.before.before.before.before.before.before.before.before.before.before.before.copy in
     let u = c.before.before.before.before.before.before.tested in
-    load-puts a.layout a.degrees.now a.columns.now a.weights.now s.requires.fitted a.c (unstored a.symbols.now a.costs.now a.margins.now) s.requires.symbols s.requires.costs s.requires.margins a.frames.now s.requires.frames k.result k.ensures c.before.before.before.before.before.before.before.before.before.before.before.before.before.before.before.before.if1.false f.new.1.0 (copied_is (part a.frames.now (a.c * a.layout.costs) (a.c * a.layout.costs + a.layout.costs - a.c * a.layout.costs)) (part a.costs.now (a.c * a.layout.costs) (a.c * a.layout.costs + a.layout.costs - a.c * a.layout.costs)) f.new.1.0 (same s) f.ensures) u.result _ _ u.ensures.0 u.ensures.1.0 u.ensures.1.1 _ c.before.stage-after.ensures _ c.status-of.ensures
+    load_puts a.layout a.degrees.now a.columns.now a.weights.now s.requires.fitted a.c (unstored a.symbols.now a.costs.now a.margins.now) s.requires.symbols s.requires.costs s.requires.margins a.frames.now s.requires.frames k.result k.ensures c.before.before.before.before.before.before.before.before.before.before.before.before.before.before.before.before.if1.false f.new.1.0 (copied_is (part a.frames.now (a.c * a.layout.costs) (a.c * a.layout.costs + a.layout.costs - a.c * a.layout.costs)) (part a.costs.now (a.c * a.layout.costs) (a.c * a.layout.costs + a.layout.costs - a.c * a.layout.costs)) f.new.1.0 (same s) f.ensures) u.result _ _ u.ensures.0 u.ensures.1.0 u.ensures.1.1 _ c.before.stage-after.ensures _ c.status-of.ensures
 
 pub load-at-spec : {M : Type 1} → statement M
 load-at-spec =

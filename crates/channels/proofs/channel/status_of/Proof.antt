@@ -1,7 +1,7 @@
 -- Each stage has its status.
 use mathlib.Core.Path.{refl}
 use borrow.Author.Rules.{rules}
-use Rattle.channels.specs.inner.Rounds.{statusOf}
+use Rattle.channels.specs.inner.Rounds.{status_of}
 use Rattle.channels.proofs.channel.status_of.Statement.{statement}
 use Rattle.channels.proofs.channel.status_of.Tie as tie
 
@@ -18,19 +18,19 @@ enum-known-s : tie.Need-enum-known-s
 enum-known-s c = search rules
 
 returns : tie.Need-returns
-unfolding statusOf
+unfolding status_of
 returns c = rw c.enum_told.given.1 refl
 
 returns-2 : tie.Need-returns-2
-unfolding statusOf
+unfolding status_of
 returns-2 c = rw c.enum-told2.given.1 refl
 
 returns-3 : tie.Need-returns-3
-unfolding statusOf
+unfolding status_of
 returns-3 c = rw c.enum-told3.given.1 refl
 
 returns-4 : tie.Need-returns-4
-unfolding statusOf
+unfolding status_of
 returns-4 c = rw c.before.s.given.1 refl
 
 pub status-of-spec : {M : Type 1} → statement M

@@ -2,7 +2,7 @@
 use native.Mathlib.Omega.{arith}
 use borrow.Author.Rules.{rules}
 use Rattle.machine.specs.Decoding.{lending}
-use Rattle.channels.proofs.Layouts.{step-asks, step-puts}
+use Rattle.channels.proofs.Layouts.{step_asks, step_puts}
 use Rattle.channels.proofs.channel.step_at.Statement.{statement}
 use Rattle.channels.proofs.channel.step_at.Tie as tie
 
@@ -71,7 +71,7 @@ iterated-requires c κs =
     let s = c.before.before.before.before.before.before.before.before.before.before.before.before.before.before.before.before.before.before.before.before.before in
     let a = s.args in
     let b = lending a.symbols.now a.costs.now a.store.now a.margins.now in
-    step-asks a.layout a.degrees.now a.columns.now a.weights.now s.requires.fitted a.c b s.requires.room.for-symbols s.requires.room.for-costs s.requires.room.for-margins s.requires.room.for-store a.t s.requires.passable a.arrived.now a.sent.now s.requires.arrived s.requires.sent
+    step_asks a.layout a.degrees.now a.columns.now a.weights.now s.requires.fitted a.c b s.requires.room.for_symbols s.requires.room.for_costs s.requires.room.for_margins s.requires.room.for_store a.t s.requires.passable a.arrived.now a.sent.now s.requires.arrived s.requires.sent
 
 u8-to-u16-requires : tie.Need-u8-to-u16-requires
 u8-to-u16-requires c κs = search rules
@@ -110,7 +110,7 @@ returns c =
     let b = lending a.symbols.now a.costs.now a.store.now a.margins.now in
     let u = c.before.before.before.before.before.before.before.before.before.before.before.before.before.before.before.iterated in
     let e = rw c.before.before.u8-to-u16.ensures.0 at c.before.stage-after.ensures in
-    step-puts a.layout a.degrees.now a.columns.now a.weights.now s.requires.fitted a.c b s.requires.room.for-symbols s.requires.room.for-costs s.requires.room.for-margins s.requires.room.for-store a.t u.result _ _ _ _ u.ensures.0 u.ensures.1.0 u.ensures.1.1.0 u.ensures.1.1.1 _ e _ c.status-of.ensures
+    step_puts a.layout a.degrees.now a.columns.now a.weights.now s.requires.fitted a.c b s.requires.room.for_symbols s.requires.room.for_costs s.requires.room.for_margins s.requires.room.for_store a.t u.result _ _ _ _ u.ensures.0 u.ensures.1.0 u.ensures.1.1.0 u.ensures.1.1.1 _ e _ c.status-of.ensures
 
 pub step-at-spec : {M : Type 1} → statement M
 step-at-spec =

@@ -26,7 +26,7 @@ returns : tie.Need-returns
 returns c =
     let at_size = c.before in
     let at-u16-to-usize = at_size.before in
-    record { numbers-is = refl; columns-is = at-u16-to-usize.u16-to-usize.ensures.0; costs-is = ap₂ (λ a b. a * b) at-u16-to-usize.u16-to-usize.ensures.0 at_size.size.ensures.0; store_is = c.used.ensures }
+    record { numbers_is = refl; columns_is = at-u16-to-usize.u16-to-usize.ensures.0; costs_is = ap₂ (λ a b. a * b) at-u16-to-usize.u16-to-usize.ensures.0 at_size.size.ensures.0; store_is = c.used.ensures }
 
 pub layout-of-spec : {M : Type 1} → statement M
 layout-of-spec =

@@ -6,9 +6,9 @@ use borrow.Author.Rules.{rules}
 use lib.ListN.{length}
 use Rattle.trellis.specs.Lists.{upto}
 use Rattle.machine.specs.Decoding.{lending}
-use Rattle.channels.specs.inner.Rounds.{standing, servingAt}
-use Rattle.channels.specs.inner.Layouts.{codeFor, RoundRoom}
-use Rattle.channels.proofs.Moves.{serve-next, round-more, round-done}
+use Rattle.channels.specs.inner.Rounds.{standing, serving_at}
+use Rattle.channels.specs.inner.Layouts.{code_for, RoundRoom}
+use Rattle.channels.proofs.Moves.{serve-next, round_more, round_done}
 use Rattle.channels.proofs.service.round.Statement.{statement}
 use Rattle.channels.proofs.service.round.Tie as tie
 
@@ -17,7 +17,7 @@ invariant-loop count left layout degrees columns weights symbols₀ costs₀ sto
     (c ≤ count)
     × RoundRoom count layout degrees columns weights (standing status counts a (lending symbols costs store margins)) arrived sent
     × (standing status counts a (lending symbols costs store margins)
-    ≡ upto (servingAt (codeFor layout degrees columns weights)) c (standing status₀ counts₀ left (lending symbols₀ costs₀ store₀ margins₀)))
+    ≡ upto (serving_at (code_for layout degrees columns weights)) c (standing status₀ counts₀ left (lending symbols₀ costs₀ store₀ margins₀)))
     × ((length symbols ≡ length symbols₀) × (length costs ≡ length costs₀) × (length store ≡ length store₀) × (length margins ≡ length margins₀) × (length status ≡ length status₀) × (length counts ≡ length counts₀) × (length arrived ≡ length arrived₀) × (length sent ≡ length sent₀))
 
 abbrev decreases-loop : tie.decreases-loop
@@ -45,7 +45,7 @@ loop-again c =
     let u = c.before.before.before.before.before.before.before.before.before.before.before.before.before.before.before.before.serve-at in (
       omega (arith, t),
       serve-next a.count a.layout a.degrees.now a.columns.now a.weights.now _ _ _ l.invariant.1 l.c (omega (arith, t)) _ _ _ u.ensures (omega (arith, u.auto)) (omega (arith, u.auto)),
-      round-more (codeFor a.layout a.degrees.now a.columns.now a.weights.now) l.c _ _ _ u.ensures l.invariant.2,
+      round_more (code_for a.layout a.degrees.now a.columns.now a.weights.now) l.c _ _ _ u.ensures l.invariant.2,
       (omega (arith, u.auto, l.invariant.3), omega (arith, u.auto, l.invariant.3), omega (arith, u.auto, l.invariant.3), omega (arith, u.auto, l.invariant.3), omega (arith, u.auto, l.invariant.3), omega (arith, u.auto, l.invariant.3), omega (arith, u.auto, l.invariant.3), omega (arith, u.auto, l.invariant.3)),
     )
 
@@ -77,7 +77,7 @@ returns : tie.Need-returns invariant-loop decreases-loop
 returns c =
     let a = c.before.before.before.before.before.before.before.before.before.before.before.before.before.args in
     let l = c.before.loop in
-    round-done (codeFor a.layout a.degrees.now a.columns.now a.weights.now) a.count l.c _ _ (omega arith) l.invariant.2
+    round_done (code_for a.layout a.degrees.now a.columns.now a.weights.now) a.count l.c _ _ (omega arith) l.invariant.2
 
 pub round-spec : {M : Type 1} → statement M
 round-spec =

@@ -3,18 +3,18 @@ use mathlib.Core.Path.{◌≡◌, refl}
 use native.Mathlib.Omega.{arith}
 use lib.ListN.{length}
 use Rattle.machine.specs.Decoding.{lending}
-use Rattle.channels.specs.inner.Rounds.{standing, roundsAt}
-use Rattle.channels.specs.inner.Layouts.{codeFor, RoundRoom}
-use Rattle.channels.proofs.Quiet.{end-law, more-law}
-use Rattle.channels.proofs.Moves.{round-next, round-less}
+use Rattle.channels.specs.inner.Rounds.{standing, rounds_at}
+use Rattle.channels.specs.inner.Layouts.{code_for, RoundRoom}
+use Rattle.channels.proofs.Quiet.{end_law, more_law}
+use Rattle.channels.proofs.Moves.{round_next, round_less}
 use Rattle.channels.proofs.service.rounds.Statement.{statement}
 use Rattle.channels.proofs.service.rounds.Tie as tie
 
 abbrev invariant-loop : tie.invariant-loop
 invariant-loop count allowance layout degrees columns weights symbols₀ costs₀ store₀ margins₀ status₀ counts₀ arrived₀ sent₀ a₀ symbols costs store margins status counts arrived sent a =
     RoundRoom count layout degrees columns weights (standing status counts a (lending symbols costs store margins)) arrived sent
-    × (roundsAt (codeFor layout degrees columns weights) count a (standing status counts a (lending symbols costs store margins))
-    ≡ roundsAt (codeFor layout degrees columns weights) count allowance (standing status₀ counts₀ allowance (lending symbols₀ costs₀ store₀ margins₀)))
+    × (rounds_at (code_for layout degrees columns weights) count a (standing status counts a (lending symbols costs store margins))
+    ≡ rounds_at (code_for layout degrees columns weights) count allowance (standing status₀ counts₀ allowance (lending symbols₀ costs₀ store₀ margins₀)))
     × ((length symbols ≡ length symbols₀) × (length costs ≡ length costs₀) × (length store ≡ length store₀) × (length margins ≡ length margins₀) × (length status ≡ length status₀) × (length counts ≡ length counts₀) × (length arrived ≡ length arrived₀) × (length sent ≡ length sent₀))
 
 abbrev decreases-loop : tie.decreases-loop
@@ -56,22 +56,22 @@ returns c =
     let a = c.before.before.before.before.before.before.before.before.before.before.before.before.before.before.before.before.before.before.before.before.before.before.before.before.before.before.before.before.before.before.before.before.before.before.before.before.before.before.args in
     let l = c.before.before.before.before.before.before.before.before.before.before.before.before.before.before.before.before.before.before.before.before.before.before.before.before.before.before.loop in
     let u = c.before.before.before.before.before.before.before.before.before.before.before.before.before.before.before.before.before.round in
-    end-law (codeFor a.layout a.degrees.now a.columns.now a.weights.now) a.count _ _ _ u.ensures c.if1.true l.invariant.1
+    end_law (code_for a.layout a.degrees.now a.columns.now a.weights.now) a.count _ _ _ u.ensures c.if1.true l.invariant.1
 
 loop-less : tie.Need-loop-smaller invariant-loop decreases-loop
 loop-less c =
     let a = c.before.before.before.before.before.before.before.before.before.before.before.before.before.before.before.before.before.before.before.before.before.before.before.before.before.before.before.before.before.before.before.before.before.before.before.before.before.before.args in
     let l = c.before.before.before.before.before.before.before.before.before.before.before.before.before.before.before.before.before.before.before.before.before.before.before.before.before.before.loop in
     let u = c.before.before.before.before.before.before.before.before.before.before.before.before.before.before.before.before.before.round in
-    round-less (codeFor a.layout a.degrees.now a.columns.now a.weights.now) a.count _ _ u.ensures c.if1.false
+    round_less (code_for a.layout a.degrees.now a.columns.now a.weights.now) a.count _ _ u.ensures c.if1.false
 
 loop-again : tie.Need-loop-preserved invariant-loop decreases-loop
 loop-again c =
     let a = c.before.before.before.before.before.before.before.before.before.before.before.before.before.before.before.before.before.before.before.before.before.before.before.before.before.before.before.before.before.before.before.before.before.before.before.before.before.before.args in
     let l = c.before.before.before.before.before.before.before.before.before.before.before.before.before.before.before.before.before.before.before.before.before.before.before.before.before.before.loop in
     let u = c.before.before.before.before.before.before.before.before.before.before.before.before.before.before.before.before.before.round in (
-      round-next a.count a.layout a.degrees.now a.columns.now a.weights.now _ _ _ l.invariant.0 _ _ _ u.ensures (omega (arith, u.auto)) (omega (arith, u.auto)),
-      more-law (codeFor a.layout a.degrees.now a.columns.now a.weights.now) a.count _ _ _ u.ensures c.if1.false l.invariant.1,
+      round_next a.count a.layout a.degrees.now a.columns.now a.weights.now _ _ _ l.invariant.0 _ _ _ u.ensures (omega (arith, u.auto)) (omega (arith, u.auto)),
+      more_law (code_for a.layout a.degrees.now a.columns.now a.weights.now) a.count _ _ _ u.ensures c.if1.false l.invariant.1,
       (omega (arith, u.auto, l.invariant.2), omega (arith, u.auto, l.invariant.2), omega (arith, u.auto, l.invariant.2), omega (arith, u.auto, l.invariant.2), omega (arith, u.auto, l.invariant.2), omega (arith, u.auto, l.invariant.2), omega (arith, u.auto, l.invariant.2), omega (arith, u.auto, l.invariant.2)),
     )
 

@@ -3,28 +3,28 @@ use native.Mathlib.Omega.{arith}
 use borrow.Author.Rules.{rules}
 use Rattle.machine.specs.Decoding.{lending}
 use Rattle.channels.specs.inner.Rounds.{standing}
-use Rattle.channels.specs.inner.Layouts.{codeFor}
-use Rattle.channels.proofs.Moves.{serve-skips, serve-spent, serve-moves, step_room, count_low}
+use Rattle.channels.specs.inner.Layouts.{code_for}
+use Rattle.channels.proofs.Moves.{serve_skips, serve-spent, serve_moves, step_room, count_low}
 use Rattle.channels.proofs.service.serve_at.Statement.{statement}
 use Rattle.channels.proofs.service.serve_at.Tie as tie
 
 slice-read-if1 : tie.Need-slice-read-if1
-slice-read-if1 c = omega (arith, c.before.before.before.before.before.before.before.before.before.before.before.before.requires.inside, c.before.before.before.before.before.before.before.before.before.before.before.before.requires.room.serve.serves.rooms.for-status)
+slice-read-if1 c = omega (arith, c.before.before.before.before.before.before.before.before.before.before.before.before.requires.inside, c.before.before.before.before.before.before.before.before.before.before.before.before.requires.room.serve.serves.rooms.for_status)
 
 returns : tie.Need-returns
 returns c =
     let s = c.before.before.before.before.before.before.before.before.before.before.before.before.before in
     let a = s.args in
-    serve-skips (codeFor a.layout a.degrees.now a.columns.now a.weights.now) a.c (standing a.status.now a.counts.now a.left (lending a.symbols.now a.costs.now a.store.now a.margins.now)) c.if1.true
+    serve_skips (code_for a.layout a.degrees.now a.columns.now a.weights.now) a.c (standing a.status.now a.counts.now a.left (lending a.symbols.now a.costs.now a.store.now a.margins.now)) c.if1.true
 
 returns-2 : tie.Need-returns-2
 returns-2 c =
     let s = c.before.before.before.before.before.before.before.before.before.before.before.before.before.before in
     let a = s.args in
-    serve-spent (codeFor a.layout a.degrees.now a.columns.now a.weights.now) a.c (standing a.status.now a.counts.now a.left (lending a.symbols.now a.costs.now a.store.now a.margins.now)) c.before.if1.false c.if2.true
+    serve-spent (code_for a.layout a.degrees.now a.columns.now a.weights.now) a.c (standing a.status.now a.counts.now a.left (lending a.symbols.now a.costs.now a.store.now a.margins.now)) c.before.if1.false c.if2.true
 
 slice-read-t : tie.Need-slice-read-t
-slice-read-t c = omega (arith, c.before.before.before.before.before.before.before.before.before.before.before.before.before.before.before.requires.inside, c.before.before.before.before.before.before.before.before.before.before.before.before.before.before.before.requires.room.serve.serves.rooms.for-counts)
+slice-read-t c = omega (arith, c.before.before.before.before.before.before.before.before.before.before.before.before.before.before.before.requires.inside, c.before.before.before.before.before.before.before.before.before.before.before.before.before.before.before.requires.room.serve.serves.rooms.for_counts)
 
 step-at-requires : tie.Need-step-at-requires
 step-at-requires c κs =
@@ -33,7 +33,7 @@ step-at-requires c κs =
     step_room s.requires.count a.layout a.degrees.now a.columns.now a.weights.now (standing a.status.now a.counts.now a.left (lending a.symbols.now a.costs.now a.store.now a.margins.now)) a.arrived.now a.sent.now s.requires.room a.c s.requires.inside c.before.before.before.before.before.before.before.before.if1.false
 
 slice-write-status : tie.Need-slice-write-status
-slice-write-status c = omega (arith, c.before.before.before.before.before.before.before.before.before.before.before.before.before.before.before.before.before.before.before.before.before.before.before.before.before.before.before.before.before.before.before.before.before.before.requires.inside, c.before.before.before.before.before.before.before.before.before.before.before.before.before.before.before.before.before.before.before.before.before.before.before.before.before.before.before.before.before.before.before.before.before.before.requires.room.serve.serves.rooms.for-status)
+slice-write-status c = omega (arith, c.before.before.before.before.before.before.before.before.before.before.before.before.before.before.before.before.before.before.before.before.before.before.before.before.before.before.before.before.before.before.before.before.before.before.requires.inside, c.before.before.before.before.before.before.before.before.before.before.before.before.before.before.before.before.before.before.before.before.before.before.before.before.before.before.before.before.before.before.before.before.before.before.requires.room.serve.serves.rooms.for_status)
 
 add-counts : tie.Need-overflow-add-counts
 add-counts c =
@@ -42,7 +42,7 @@ add-counts c =
     omega (arith, count_low s.requires.count a.layout a.degrees.now a.columns.now a.weights.now (standing a.status.now a.counts.now a.left (lending a.symbols.now a.costs.now a.store.now a.margins.now)) a.arrived.now a.sent.now s.requires.room a.c s.requires.inside c.before.before.before.before.before.before.before.before.before.before.before.before.before.before.before.before.before.before.before.before.before.if1.false, s.well-formed)
 
 slice-write-counts : tie.Need-slice-write-counts
-slice-write-counts c = omega (arith, c.before.before.before.before.before.before.before.before.before.before.before.before.before.before.before.before.before.before.before.before.before.before.before.before.before.before.before.before.before.before.before.before.before.before.requires.inside, c.before.before.before.before.before.before.before.before.before.before.before.before.before.before.before.before.before.before.before.before.before.before.before.before.before.before.before.before.before.before.before.before.before.before.requires.room.serve.serves.rooms.for-counts)
+slice-write-counts c = omega (arith, c.before.before.before.before.before.before.before.before.before.before.before.before.before.before.before.before.before.before.before.before.before.before.before.before.before.before.before.before.before.before.before.before.before.before.requires.inside, c.before.before.before.before.before.before.before.before.before.before.before.before.before.before.before.before.before.before.before.before.before.before.before.before.before.before.before.before.before.before.before.before.before.before.requires.room.serve.serves.rooms.for_counts)
 
 sub-result : tie.Need-overflow-sub-result
 sub-result c = search rules
@@ -76,7 +76,7 @@ returns-3 c =
     let s = c.before.before.before.before.before.before.before.before.before.before.before.before.before.before.before.before.before.before.before.before.before.before.before.before.before.before.before.before.before.before.before.before.before.before in
     let a = s.args in
     let u = c.before.before.before.before.before.before.before.before.before.before.before.before.step-at in
-    serve-moves (codeFor a.layout a.degrees.now a.columns.now a.weights.now) a.c (standing a.status.now a.counts.now a.left (lending a.symbols.now a.costs.now a.store.now a.margins.now)) c.before.before.before.before.before.before.before.before.before.before.before.before.before.before.before.before.before.before.before.before.before.if1.false c.before.before.before.before.before.before.before.before.before.before.before.before.before.before.before.before.before.before.before.before.if2.false u.result _ u.ensures
+    serve_moves (code_for a.layout a.degrees.now a.columns.now a.weights.now) a.c (standing a.status.now a.counts.now a.left (lending a.symbols.now a.costs.now a.store.now a.margins.now)) c.before.before.before.before.before.before.before.before.before.before.before.before.before.before.before.before.before.before.before.before.before.if1.false c.before.before.before.before.before.before.before.before.before.before.before.before.before.before.before.before.before.before.before.before.if2.false u.result _ u.ensures
 
 pub serve-at-spec : {M : Type 1} → statement M
 serve-at-spec =

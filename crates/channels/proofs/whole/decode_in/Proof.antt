@@ -1,7 +1,7 @@
 -- The count and the allowance, then the reader's answer: the line's refusal, or the numbers and tables of its code.
 use borrow.Author.Rules.{rules}
 use Rattle.machine.specs.Decoding.{lending}
-use Rattle.codeline.proofs.Says.{line-says, line-coded}
+use Rattle.codeline.proofs.Says.{line_says, line-coded}
 use Rattle.channels.proofs.Given.{count-refused, count-passes, line_refused, under-room, line_gives}
 use Rattle.channels.proofs.whole.decode_in.Statement.{statement}
 use Rattle.channels.proofs.whole.decode_in.Tie as tie
@@ -79,7 +79,7 @@ returns-3 c =
     let at-if1 = at-code-tables.before.before.before.before in
     let at-count-fault = at-if1.before in
     let start = at-count-fault.before.before.before.before.before.before.before in
-    let x = count-passes start.args.count start.args.allowance at-count-fault.count-fault.result at-count-fault.count-fault.ensures at-if1.if1.false in line_gives at-numbers.numbers.given.0.0 at-code-tables.code-tables.new.1.0 at-code-tables.code-tables.new.1.1.0 at-code-tables.code-tables.new.1.1.1.0 (line-coded start.args.code.now at-code-tables.code-tables.result at-code-tables.code-tables.ensures.0 at-numbers.numbers.given.0.0 at-numbers.numbers.given.1 _ _ _ at-code-tables.code-tables.new.1.0 at-code-tables.code-tables.new.1.1.0 at-code-tables.code-tables.new.1.1.1.0 at-code-tables.code-tables.ensures.1.0 at-code-tables.code-tables.ensures.1.1.0 at-code-tables.code-tables.ensures.1.1.1) at-layout-of.layout_of.result at-layout-of.layout_of.ensures start.args.code.now (line-says start.args.code.now at-code-tables.code-tables.result at-code-tables.code-tables.ensures.0 at-numbers.numbers.given.0.0 at-numbers.numbers.given.1 _ _ _ at-code-tables.code-tables.new.1.0 at-code-tables.code-tables.new.1.1.0 at-code-tables.code-tables.new.1.1.1.0 at-code-tables.code-tables.ensures.1.0 at-code-tables.code-tables.ensures.1.1.0 at-code-tables.code-tables.ensures.1.1.1) start.args.count start.args.allowance x.0 x.1 x.2 at-u8-to-usize.u8-to-usize.result at-u8-to-usize.u8-to-usize.ensures.0 start.args.frames.now (lending start.args.symbols.now start.args.costs.now start.args.store.now start.args.margins.now) _ _ _ _ _ at-under-code.under-code.ensures
+    let x = count-passes start.args.count start.args.allowance at-count-fault.count-fault.result at-count-fault.count-fault.ensures at-if1.if1.false in line_gives at-numbers.numbers.given.0.0 at-code-tables.code-tables.new.1.0 at-code-tables.code-tables.new.1.1.0 at-code-tables.code-tables.new.1.1.1.0 (line-coded start.args.code.now at-code-tables.code-tables.result at-code-tables.code-tables.ensures.0 at-numbers.numbers.given.0.0 at-numbers.numbers.given.1 _ _ _ at-code-tables.code-tables.new.1.0 at-code-tables.code-tables.new.1.1.0 at-code-tables.code-tables.new.1.1.1.0 at-code-tables.code-tables.ensures.1.0 at-code-tables.code-tables.ensures.1.1.0 at-code-tables.code-tables.ensures.1.1.1) at-layout-of.layout_of.result at-layout-of.layout_of.ensures start.args.code.now (line_says start.args.code.now at-code-tables.code-tables.result at-code-tables.code-tables.ensures.0 at-numbers.numbers.given.0.0 at-numbers.numbers.given.1 _ _ _ at-code-tables.code-tables.new.1.0 at-code-tables.code-tables.new.1.1.0 at-code-tables.code-tables.new.1.1.1.0 at-code-tables.code-tables.ensures.1.0 at-code-tables.code-tables.ensures.1.1.0 at-code-tables.code-tables.ensures.1.1.1) start.args.count start.args.allowance x.0 x.1 x.2 at-u8-to-usize.u8-to-usize.result at-u8-to-usize.u8-to-usize.ensures.0 start.args.frames.now (lending start.args.symbols.now start.args.costs.now start.args.store.now start.args.margins.now) _ _ _ _ _ at-under-code.under-code.ensures
 
 pub decode-in-spec : {M : Type 1} → statement M
 decode-in-spec =

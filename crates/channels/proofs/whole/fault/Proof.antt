@@ -4,8 +4,8 @@ use native.Mathlib.Omega.{arith}
 use Prim.Native.Nat.{◌*◌, ◌≤◌}
 use borrow.Author.Rules.{rules}
 use borrow.Author.Tests.{eq-eqb, ne_eqb}
-use Rattle.frame.specs.Answers.{roomFaultOf}
-use Rattle.channels.specs.inner.Layouts.{faultFor}
+use Rattle.frame.specs.Answers.{room_fault_of}
+use Rattle.channels.specs.inner.Layouts.{fault_for}
 use Rattle.channels.proofs.whole.fault.Statement.{statement}
 use Rattle.channels.proofs.whole.fault.Tie as tie
 
@@ -16,7 +16,7 @@ mul-w c =
     omega arith
 
 returns : tie.Need-returns
-unfolding faultFor roomFaultOf
+unfolding fault_for room_fault_of
 returns c = simp (ne_eqb _ _ c.if1.true)
 
 mul-room-fault : tie.Need-overflow-mul-room-fault
@@ -35,7 +35,7 @@ room-fault-requires : tie.Need-room-fault-requires
 room-fault-requires c κs = search rules
 
 returns-2 : tie.Need-returns-2
-unfolding faultFor roomFaultOf
+unfolding fault_for room_fault_of
 returns-2 c = rw (eq-eqb _ _ c.before.before.before.if1.false) c.room-fault.ensures
 
 pub fault-spec : {M : Type 1} → statement M

@@ -4,7 +4,7 @@ use Prim.Native.Nat.{zero}
 use native.Mathlib.Omega.{arith}
 use borrow.Author.Rules.{rules}
 use lib.ListN.{length, get_or}
-use Rattle.field.proofs.Filling.{four-divides}
+use Rattle.field.proofs.Filling.{four_divides}
 use Rattle.checknode.proofs.Lining.{place-room}
 use Rattle.engine.specs.inner.Lines.{placed}
 use Rattle.checknode.proofs.lines.column.Statement.{statement}
@@ -23,7 +23,7 @@ place-requires : tie.Need-place-requires
 place-requires c κs =
     let at-decide = c.before.before in
     let start = at-decide.before.before.before.before in
-    (place-room start.args.costs.now start.args.row.now start.args.line.now start.requires at-decide.decide-u8.ensures.0.0, rw start.requires.of-costs (four-divides start.requires.p start.requires.low))
+    (place-room start.args.costs.now start.args.row.now start.args.line.now start.requires at-decide.decide-u8.ensures.0.0, rw start.requires.of_costs (four_divides start.requires.p start.requires.low))
 
 same_length : tie.Need-same-length
 same_length c = search rules

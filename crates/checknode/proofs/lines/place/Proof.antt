@@ -6,7 +6,7 @@ use native.Mathlib.Omega.{arith}
 use borrow.Author.Rules.{rules}
 use lib.ListN.{length, length-take, length-drop}
 use Rattle.engine.specs.inner.Lines.{placed}
-use Rattle.checknode.proofs.Lining.{room-part, place-turn}
+use Rattle.checknode.proofs.Lining.{room-part, place_turn}
 use Rattle.checknode.proofs.lines.place.Statement.{statement}
 use Rattle.checknode.proofs.lines.place.Tie as tie
 
@@ -58,7 +58,7 @@ loop-again c =
     let at-loop = at_call.before.before.before.before.before in
     let start = at-loop.before.before.before.before in
     let x = at-loop.loop.x in
-    ((omega arith, omega arith), (omega (arith, at_call.put_four.auto, at-loop.loop.invariant.1.0), place-turn start.args.costs.now start.args.row.now start.args.line.now at-loop.loop.line start.args.s x at-loop.loop.invariant.1.1 at_call.put_four.ensures))
+    ((omega arith, omega arith), (omega (arith, at_call.put_four.auto, at-loop.loop.invariant.1.0), place_turn start.args.costs.now start.args.row.now start.args.line.now at-loop.loop.line start.args.s x at-loop.loop.invariant.1.1 at_call.put_four.ensures))
 
 same_length : tie.Need-same-length invariant-loop decreases-loop
 same_length c = search rules

@@ -1,7 +1,7 @@
 -- After i turns the first i shifts stand.
 use Rattle.trellis.specs.Lists.{tab}
 use Rattle.trellis.specs.Field.{xor}
-use Rattle.trellis.proofs.Loops.{tab-more, tab-seam, tab-whole}
+use Rattle.trellis.proofs.Loops.{tab-more, tab_seam, tab_whole}
 use mathlib.Core.Path.{◌≡◌}
 use mathlib.Core.List.{◌++◌}
 use Prim.Native.Nat.{◌≤◌, ◌-◌}
@@ -38,7 +38,7 @@ unfolding xor
 loop-again c =
     let at-loop = c.before.before in
     let start = at-loop.before in
-    (omega arith, (simp length-set (omega arith), cc (tab-more (λ j. bit_xor start.args.sum (get_or start.args.out.now j 0)) start.args.out.now at-loop.loop.i (omega arith), tab-seam (λ j. bit_xor start.args.sum (get_or start.args.out.now j 0)) start.args.out.now at-loop.loop.i (omega arith))))
+    (omega arith, (simp length-set (omega arith), cc (tab-more (λ j. bit_xor start.args.sum (get_or start.args.out.now j 0)) start.args.out.now at-loop.loop.i (omega arith), tab_seam (λ j. bit_xor start.args.sum (get_or start.args.out.now j 0)) start.args.out.now at-loop.loop.i (omega arith))))
 
 same_length : tie.Need-same-length invariant-loop decreases-loop
 same_length c = search rules
@@ -46,7 +46,7 @@ same_length c = search rules
 returns : tie.Need-returns invariant-loop decreases-loop
 returns c =
     let start = c.before.before in
-    let e : c.before.loop.i ≡ length start.args.out.now = omega arith in cc (tab-whole (λ j. xor start.args.sum (get_or start.args.out.now j 0)) start.args.out.now)
+    let e : c.before.loop.i ≡ length start.args.out.now = omega arith in cc (tab_whole (λ j. xor start.args.sum (get_or start.args.out.now j 0)) start.args.out.now)
 
 pub shift-all-spec : {M : Type 1} → statement M
 shift-all-spec =

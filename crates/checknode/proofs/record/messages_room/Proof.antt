@@ -3,7 +3,7 @@ use Prim.Native.Nat.{◌*◌, ◌≤◌}
 use native.Mathlib.Omega.{arith}
 use lib.ListN.{length, length-take}
 use borrow.Author.Rules.{rules}
-use Rattle.checknode.proofs.Resting.{rests-room, room-parts}
+use Rattle.checknode.proofs.Resting.{rests_room, room_parts}
 use Rattle.checknode.proofs.record.messages_room.Statement.{statement}
 use Rattle.checknode.proofs.record.messages_room.Tie as tie
 
@@ -17,7 +17,7 @@ side-requires c κs = search rules
 room : (c : tie.After-side) → let start = c.before.before.before.before.before.before.before in length start.args.weights.now * c.side.result ≤ length start.args.rests.now
 room c =
     let start = c.before.before.before.before.before.before.before in
-    rests-room start.args.first start.args.q c.side.result (length start.args.weights.now) start.args.rows.now start.args.rests.now start.requires.1.0 c.side.ensures start.requires.1.1.0 start.requires.1.1.1.0
+    rests_room start.args.first start.args.q c.side.result (length start.args.weights.now) start.args.rows.now start.args.rests.now start.requires.1.0 c.side.ensures start.requires.1.1.0 start.requires.1.1.1.0
 
 mul-b : tie.Need-overflow-mul-b
 mul-b c = omega (arith, room c)
@@ -38,7 +38,7 @@ messages-with-requires : tie.Need-messages-with-requires
 messages-with-requires c κs =
     let at_Side = c.before.before.before.before in
     let start = at_Side.before.before.before.before.before.before.before in
-    let parts = room-parts start.args.first start.args.q at_Side.side.result (length start.args.weights.now) start.args.rows.now start.args.rests.now start.requires.1.0 at_Side.side.ensures start.requires.1.1.0 start.requires.1.1.1.0 in
+    let parts = room_parts start.args.first start.args.q at_Side.side.result (length start.args.weights.now) start.args.rows.now start.args.rests.now start.requires.1.0 at_Side.side.ensures start.requires.1.1.0 start.requires.1.1.1.0 in
     (start.requires.0, (parts.0, (parts.1, (start.requires.1.1.1.1.0, start.requires.1.1.1.1.1))))
 
 same_length : tie.Need-same-length

@@ -4,7 +4,7 @@ use Prim.Native.Nat.{max}
 use native.Mathlib.Omega.{arith}
 use lib.ListN.{length-take}
 use Rattle.trellis.specs.Rules.{size_of}
-use Rattle.checknode.proofs.Resting.{send-law, sends-room}
+use Rattle.checknode.proofs.Resting.{send_law, sends_room}
 use borrow.Author.Rules.{rules}
 use Rattle.checknode.proofs.record.messages_with.Statement.{statement}
 use Rattle.checknode.proofs.record.messages_with.Tie as tie
@@ -33,7 +33,7 @@ columns-requires c κs =
     let start = at-record.before.before.before.before.before.before.before.before.before.before in
     let at_Side = c.before.before.before.before in
     let e : at_Side.before.size.result ≡ size_of start.args.first = at_Side.before.size.ensures.0 in
-    sends-room start.args.first start.args.weights.now start.args.costs.now start.requires.0 _ _ _ _ _ _ at-record.record-with.ensures.0 (omega (arith, at-record.record-with.auto, start.requires.1.0)) at-record.record-with.ensures.1.0 at-record.record-with.ensures.1.1 start.requires.1.1.1.1 e (at_Side.side.ensures ∙ ap (max 16) e)
+    sends_room start.args.first start.args.weights.now start.args.costs.now start.requires.0 _ _ _ _ _ _ at-record.record-with.ensures.0 (omega (arith, at-record.record-with.auto, start.requires.1.0)) at-record.record-with.ensures.1.0 at-record.record-with.ensures.1.1 start.requires.1.1.1.1 e (at_Side.side.ensures ∙ ap (max 16) e)
 
 same_length : tie.Need-same-length
 same_length c = search rules
@@ -53,7 +53,7 @@ returns c =
     let start = at-record.before.before.before.before.before.before.before.before.before.before in
     let at_Side = c.before.before.before.before.before.before.before in
     let e : at_Side.before.size.result ≡ size_of start.args.first = at_Side.before.size.ensures.0 in
-    (at-record.record-with.ensures.1.1, send-law start.args.first start.args.weights.now start.args.costs.now start.requires.0 (λ i. omega (arith, c.before.before.before.before.before.before.before.before.before.before.before.before.before.before.before.before.before.before.before.before.before.before.before.shared-slice-known2.given i)) _ _ _ _ _ at-record.record-with.ensures.0 at-record.record-with.ensures.1.0 at-record.record-with.ensures.1.1 e (at_Side.side.ensures ∙ ap (max 16) e) c.before.before.columns.ensures)
+    (at-record.record-with.ensures.1.1, send_law start.args.first start.args.weights.now start.args.costs.now start.requires.0 (λ i. omega (arith, c.before.before.before.before.before.before.before.before.before.before.before.before.before.before.before.before.before.before.before.before.before.before.before.shared-slice-known2.given i)) _ _ _ _ _ at-record.record-with.ensures.0 at-record.record-with.ensures.1.0 at-record.record-with.ensures.1.1 e (at_Side.side.ensures ∙ ap (max 16) e) c.before.before.columns.ensures)
 
 pub messages-with-spec : {M : Type 1} → statement M
 messages-with-spec =

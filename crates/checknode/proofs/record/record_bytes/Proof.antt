@@ -2,7 +2,7 @@
 use native.Mathlib.Omega.{arith}
 use borrow.Author.Rules.{rules}
 use Rattle.trellis.proofs.Rules.{most-few}
-use Rattle.rules.proofs.Powers.{power_small, groups-small}
+use Rattle.rules.proofs.Powers.{power_small, groups_small}
 use Rattle.checknode.proofs.record.record_bytes.Statement.{statement}
 use Rattle.checknode.proofs.record.record_bytes.Tie as tie
 
@@ -10,7 +10,7 @@ groups-requires : tie.Need-groups-requires
 groups-requires c κs = search rules
 
 add-result : tie.Need-overflow-add-result
-add-result c = let f = c.before.args.first in omega (arith, c.groups.ensures, groups-small _ _ (most-few f) (power_small f).1)
+add-result c = let f = c.before.args.first in omega (arith, c.groups.ensures, groups_small _ _ (most-few f) (power_small f).1)
 
 returns : tie.Need-returns
 returns c = search rules

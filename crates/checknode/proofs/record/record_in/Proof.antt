@@ -1,9 +1,9 @@
 -- Five hundred and twelve bytes are enough up to sixteen rows.
 use native.Mathlib.Omega.{arith}
 use lib.ListN.{length}
-use Rattle.trellis.specs.Rules.{powerOf}
+use Rattle.trellis.specs.Rules.{power_of}
 use Rattle.trellis.proofs.Ready.{ready-high}
-use Rattle.checknode.proofs.Resting.{room_small, room-large, power_small}
+use Rattle.checknode.proofs.Resting.{room_small, room_large, power_small}
 use borrow.Author.Rules.{rules}
 use Rattle.checknode.proofs.record.record_in.Statement.{statement}
 use Rattle.checknode.proofs.record.record_in.Tie as tie
@@ -18,7 +18,7 @@ record-room-requires : tie.Need-record-room-requires
 record-room-requires c κs =
     let start = c.before.before.before.before.before.before.before in
     let e = start.requires.1.1.0 in
-    let b = room_small (powerOf start.args.first) (length start.args.weights.now) (power_small (powerOf start.args.first) (omega (arith, start.requires.1.1.0))) start.requires.0.few in
+    let b = room_small (power_of start.args.first) (length start.args.weights.now) (power_small (power_of start.args.first) (omega (arith, start.requires.1.1.0))) start.requires.0.few in
     (start.requires.0, (e, (rw e b.0, (rw e b.1, start.requires.1.1.1))))
 
 same_length : tie.Need-same-length
@@ -37,7 +37,7 @@ record-room-requires-2 : tie.Need-record-room-requires-2
 record-room-requires-2 c κs =
     let start = c.before.before.before.before.before.before.before in
     let e = start.requires.1.1.0 in
-    let b = room-large (powerOf start.args.first) (length start.args.weights.now) (ready-high _ _ _ start.requires.0) start.requires.0.few in
+    let b = room_large (power_of start.args.first) (length start.args.weights.now) (ready-high _ _ _ start.requires.0) start.requires.0.few in
     (start.requires.0, (e, (rw e b.0, (rw e b.1, start.requires.1.1.1))))
 
 same-length-2 : tie.Need-same-length-2

@@ -4,11 +4,11 @@ use native.Mathlib.Omega.{arith}
 use borrow.Author.Rules.{rules}
 use lib.ListN.{length, length-take}
 use Rattle.rules.specs.declared.Rule.{Rule}
-use Rattle.trellis.specs.Rules.{powerOf}
-use Rattle.field.specs.Answers.{rowsLeave}
-use Rattle.field.proofs.RowsCall.{rows-filled}
-use Rattle.checknode.proofs.Turns.{ready-factors}
-use Rattle.checknode.proofs.Resting.{record-law, groups-same}
+use Rattle.trellis.specs.Rules.{power_of}
+use Rattle.field.specs.Answers.{rows_leave}
+use Rattle.field.proofs.RowsCall.{rows_filled}
+use Rattle.checknode.proofs.Turns.{ready_factors}
+use Rattle.checknode.proofs.Resting.{record_law, groups_same}
 use Rattle.checknode.proofs.record.record_with.Statement.{statement}
 use Rattle.checknode.proofs.record.record_with.Tie as tie
 
@@ -31,7 +31,7 @@ rests-in-requires c κs =
     let at_rows = c.before.before.before.before.before in
     let at-power = at_rows.before.before in
     let start = at-power.before.before.before.before.before.before in
-    (start.requires.0, ((at_rows.rows.ensures ∙ ap (λ p. rowsLeave p start.args.weights.now start.args.rows.now) at-power.power.ensures ∙ rows-filled (powerOf start.args.first) start.args.weights.now start.args.rows.now (ready-factors start.args.first start.args.weights.now start.args.costs.now start.requires.0) start.requires.1.0), record { of-rests = start.requires.1.1.0; of-shifts = simp length-take (omega (arith, start.requires.1.1.1)) }))
+    (start.requires.0, ((at_rows.rows.ensures ∙ ap (λ p. rows_leave p start.args.weights.now start.args.rows.now) at-power.power.ensures ∙ rows_filled (power_of start.args.first) start.args.weights.now start.args.rows.now (ready_factors start.args.first start.args.weights.now start.args.costs.now start.requires.0) start.requires.1.0), record { of_rests = start.requires.1.1.0; of_shifts = simp length-take (omega (arith, start.requires.1.1.1)) }))
 
 rule-of-requires : tie.Need-rule-of-requires
 rule-of-requires c κs = search rules
@@ -66,7 +66,7 @@ returns c =
     let at-power = at_rows.before.before in
     let at-shared-slice-known2 = at-power.before.before.before.before in
     let start = at-shared-slice-known2.before.before in
-    let r = at-rule-of.rule-of.ensures in ((at_rows.rows.ensures ∙ ap (λ p. rowsLeave p start.args.weights.now start.args.rows.now) at-power.power.ensures ∙ rows-filled (powerOf start.args.first) start.args.weights.now start.args.rows.now (ready-factors start.args.first start.args.weights.now start.args.costs.now start.requires.0) start.requires.1.0), (at-rests-in.rests-in.ensures.0, record-law start.args.first start.args.weights.now start.args.costs.now start.requires.0 (λ i. omega (arith, at-shared-slice-known2.shared-slice-known2.given i)) start.args.out.now _ (length start.args.out.now) refl start.requires.1.1.1 at-rests-in.rests-in.ensures.0 at-rests-in.rests-in.ensures.1 (at-groups.groups.ensures ∙ groups-same (length start.args.weights.now) _ _ (ap (λ (r : Rule). r.p) r) (ap (λ (r : Rule). r.k) r))))
+    let r = at-rule-of.rule-of.ensures in ((at_rows.rows.ensures ∙ ap (λ p. rows_leave p start.args.weights.now start.args.rows.now) at-power.power.ensures ∙ rows_filled (power_of start.args.first) start.args.weights.now start.args.rows.now (ready_factors start.args.first start.args.weights.now start.args.costs.now start.requires.0) start.requires.1.0), (at-rests-in.rests-in.ensures.0, record_law start.args.first start.args.weights.now start.args.costs.now start.requires.0 (λ i. omega (arith, at-shared-slice-known2.shared-slice-known2.given i)) start.args.out.now _ (length start.args.out.now) refl start.requires.1.1.1 at-rests-in.rests-in.ensures.0 at-rests-in.rests-in.ensures.1 (at-groups.groups.ensures ∙ groups_same (length start.args.weights.now) _ _ (ap (λ (r : Rule). r.p) r) (ap (λ (r : Rule). r.k) r))))
 
 pub record-with-spec : {M : Type 1} → statement M
 record-with-spec =

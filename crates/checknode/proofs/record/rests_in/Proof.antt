@@ -2,10 +2,10 @@
 use native.Mathlib.Omega.{arith}
 use borrow.Author.Rules.{rules}
 use lib.ListN.{length}
-use Rattle.trellis.specs.Rules.{powerOf}
+use Rattle.trellis.specs.Rules.{power_of}
 use Rattle.trellis.proofs.Ready.{ready-high}
 use Rattle.checknode.proofs.Lining.{cleared-room}
-use Rattle.checknode.proofs.Resting.{room_small, room-large}
+use Rattle.checknode.proofs.Resting.{room_small, room_large}
 use Rattle.checknode.proofs.record.rests_in.Statement.{statement}
 use Rattle.checknode.proofs.record.rests_in.Tie as tie
 
@@ -18,7 +18,7 @@ slice-aggregate-rests-with c = search rules
 rests-with-requires : tie.Need-rests-with-requires
 rests-with-requires c κs =
     let start = c.before.before.before.before.before.before.before.before.before.before in
-    (start.requires.0, (start.requires.1.0, ((start.requires.1.1, (room_small (powerOf start.args.first) (length start.args.weights.now) (omega arith) start.requires.0.few).1), cleared-room 512)))
+    (start.requires.0, (start.requires.1.0, ((start.requires.1.1, (room_small (power_of start.args.first) (length start.args.weights.now) (omega arith) start.requires.0.few).1), cleared-room 512)))
 
 same_length : tie.Need-same-length
 same_length c = search rules
@@ -35,7 +35,7 @@ slice-aggregate-rests-with-2 c = search rules
 rests-with-requires-2 : tie.Need-rests-with-requires-2
 rests-with-requires-2 c κs =
     let start = c.before.before.before.before.before.before.before.before.before.before in
-    (start.requires.0, (start.requires.1.0, ((start.requires.1.1, (room-large (powerOf start.args.first) (length start.args.weights.now) (ready-high _ _ _ start.requires.0) start.requires.0.few).1), cleared-room 2048)))
+    (start.requires.0, (start.requires.1.0, ((start.requires.1.1, (room_large (power_of start.args.first) (length start.args.weights.now) (ready-high _ _ _ start.requires.0) start.requires.0.few).1), cleared-room 2048)))
 
 same-length-3 : tie.Need-same-length-3
 same-length-3 c = search rules

@@ -7,12 +7,12 @@ use lib.ListN.{length, take, drop, length-append, length-take}
 use lib.Seq.{take_at}
 use lib.Pow.{pow_mono}
 use Rattle.trellis.specs.Lists.{blocks}
-use Rattle.trellis.specs.Rules.{powerOf}
+use Rattle.trellis.specs.Rules.{power_of}
 use Rattle.trellis.proofs.Ready.{ready-high}
 use Rattle.rules.specs.declared.Rule.{Rule}
-use Rattle.checknode.specs.inner.Lines.{restsOf, side_of}
+use Rattle.checknode.specs.inner.Lines.{rests_of, side_of}
 use Rattle.checknode.proofs.Lining.{cleared-part}
-use Rattle.checknode.proofs.Resting.{rests-law, shifts-law, sent-same}
+use Rattle.checknode.proofs.Resting.{rests_law, shifts_law, sent-same}
 use Rattle.checknode.proofs.record.rests_with.Statement.{statement}
 use Rattle.checknode.proofs.record.rests_with.Tie as tie
 
@@ -26,27 +26,27 @@ mul-n : tie.Need-overflow-mul-n
 mul-n c =
     let at_size = c.before in
     let start = at_size.before.before.before.before.before.before.before in
-    let e : c.side.result ≡ side_of (powerOf start.args.first) = (c.side.ensures ∙ ap (max 16) at_size.size.ensures.0) in let m : length start.args.weights.now * c.side.result ≤ length start.args.lines.now = rw e start.requires.1.1.0.1 in omega (arith, m)
+    let e : c.side.result ≡ side_of (power_of start.args.first) = (c.side.ensures ∙ ap (max 16) at_size.size.ensures.0) in let m : length start.args.weights.now * c.side.result ≤ length start.args.lines.now = rw e start.requires.1.1.0.1 in omega (arith, m)
 
 slice-relend-prefix-lines : tie.Need-slice-relend-prefix-lines
 slice-relend-prefix-lines c =
     let at_size = c.before in
     let start = at_size.before.before.before.before.before.before.before in
-    let e : c.side.result ≡ side_of (powerOf start.args.first) = (c.side.ensures ∙ ap (max 16) at_size.size.ensures.0) in let m : length start.args.weights.now * c.side.result ≤ length start.args.lines.now = rw e start.requires.1.1.0.1 in m
+    let e : c.side.result ≡ side_of (power_of start.args.first) = (c.side.ensures ∙ ap (max 16) at_size.size.ensures.0) in let m : length start.args.weights.now * c.side.result ≤ length start.args.lines.now = rw e start.requires.1.1.0.1 in m
 
 slice-aggregate-lines : tie.Need-slice-aggregate-lines
 slice-aggregate-lines c =
     let at_Side = c.before in
     let at_size = at_Side.before in
     let start = at_size.before.before.before.before.before.before.before in
-    let e : at_Side.side.result ≡ side_of (powerOf start.args.first) = (at_Side.side.ensures ∙ ap (max 16) at_size.size.ensures.0) in let m : length start.args.weights.now * at_Side.side.result ≤ length start.args.lines.now = rw e start.requires.1.1.0.1 in simp length-take (omega (arith, m))
+    let e : at_Side.side.result ≡ side_of (power_of start.args.first) = (at_Side.side.ensures ∙ ap (max 16) at_size.size.ensures.0) in let m : length start.args.weights.now * at_Side.side.result ≤ length start.args.lines.now = rw e start.requires.1.1.0.1 in simp length-take (omega (arith, m))
 
 lines-requires : tie.Need-lines-requires
 lines-requires c κs =
     let at_Side = c.before.before in
     let at_size = at_Side.before in
     let start = at_size.before.before.before.before.before.before.before in
-    let e : at_Side.side.result ≡ side_of (powerOf start.args.first) = (at_Side.side.ensures ∙ ap (max 16) at_size.size.ensures.0) in let m : length start.args.weights.now * at_Side.side.result ≤ length start.args.lines.now = rw e start.requires.1.1.0.1 in (start.requires.0, (start.requires.1.0, record { wide = omega (arith, e); narrow = omega (arith, e, pow_mono {i = powerOf start.args.first} {j = 6} (ready-high _ _ _ start.requires.0)); of-lines = simp length-take (omega (arith, m)); cleared = cleared-part start.args.lines.now 0 (length start.args.weights.now * at_Side.side.result) start.requires.1.1.1; of-out = start.requires.1.1.0.0.of-shifts }))
+    let e : at_Side.side.result ≡ side_of (power_of start.args.first) = (at_Side.side.ensures ∙ ap (max 16) at_size.size.ensures.0) in let m : length start.args.weights.now * at_Side.side.result ≤ length start.args.lines.now = rw e start.requires.1.1.0.1 in (start.requires.0, (start.requires.1.0, record { wide = omega (arith, e); narrow = omega (arith, e, pow_mono {i = power_of start.args.first} {j = 6} (ready-high _ _ _ start.requires.0)); of_lines = simp length-take (omega (arith, m)); cleared = cleared-part start.args.lines.now 0 (length start.args.weights.now * at_Side.side.result) start.requires.1.1.1; of_out = start.requires.1.1.0.0.of_shifts }))
 
 shift-all-requires : tie.Need-shift-all-requires
 shift-all-requires c κs = search rules
@@ -60,7 +60,7 @@ slice-reshare-prefix-sent c =
     let at_Side = at-lines.before.before.before in
     let at_size = at_Side.before in
     let start = at_size.before.before.before.before.before.before.before in
-    let e : at_Side.side.result ≡ side_of (powerOf start.args.first) = (at_Side.side.ensures ∙ ap (max 16) at_size.size.ensures.0) in let m : length start.args.weights.now * at_Side.side.result ≤ length start.args.lines.now = rw e start.requires.1.1.0.1 in let k : length (take (length start.args.weights.now * at_Side.side.result) start.args.lines.now) ≡ length start.args.weights.now * at_Side.side.result = simp length-take (omega (arith, m)) in simp length-append (omega (arith, m, k, at-lines.lines.auto))
+    let e : at_Side.side.result ≡ side_of (power_of start.args.first) = (at_Side.side.ensures ∙ ap (max 16) at_size.size.ensures.0) in let m : length start.args.weights.now * at_Side.side.result ≤ length start.args.lines.now = rw e start.requires.1.1.0.1 in let k : length (take (length start.args.weights.now * at_Side.side.result) start.args.lines.now) ≡ length start.args.weights.now * at_Side.side.result = simp length-take (omega (arith, m)) in simp length-append (omega (arith, m, k, at-lines.lines.auto))
 
 slice-aggregate-sent : tie.Need-slice-aggregate-sent
 slice-aggregate-sent c =
@@ -68,7 +68,7 @@ slice-aggregate-sent c =
     let at_Side = at-lines.before.before.before in
     let at_size = at_Side.before in
     let start = at_size.before.before.before.before.before.before.before in
-    let e : at_Side.side.result ≡ side_of (powerOf start.args.first) = (at_Side.side.ensures ∙ ap (max 16) at_size.size.ensures.0) in let m : length start.args.weights.now * at_Side.side.result ≤ length start.args.lines.now = rw e start.requires.1.1.0.1 in let k : length (take (length start.args.weights.now * at_Side.side.result) start.args.lines.now) ≡ length start.args.weights.now * at_Side.side.result = simp length-take (omega (arith, m)) in simp (length-take, length-append) (omega (arith, m, k, at-lines.lines.auto))
+    let e : at_Side.side.result ≡ side_of (power_of start.args.first) = (at_Side.side.ensures ∙ ap (max 16) at_size.size.ensures.0) in let m : length start.args.weights.now * at_Side.side.result ≤ length start.args.lines.now = rw e start.requires.1.1.0.1 in let k : length (take (length start.args.weights.now * at_Side.side.result) start.args.lines.now) ≡ length start.args.weights.now * at_Side.side.result = simp length-take (omega (arith, m)) in simp (length-take, length-append) (omega (arith, m, k, at-lines.lines.auto))
 
 sent-requires : tie.Need-sent-requires
 sent-requires c κs = search rules
@@ -91,13 +91,13 @@ returns c =
     let at_Side = at-lines.before.before.before in
     let at_size = at_Side.before in
     let start = at_size.before.before.before.before.before.before.before in
-    let e : at_Side.side.result ≡ side_of (powerOf start.args.first) = (at_Side.side.ensures ∙ ap (max 16) at_size.size.ensures.0) in let m : length start.args.weights.now * at_Side.side.result ≤ length start.args.lines.now = rw e start.requires.1.1.0.1 in let k : length (take (length start.args.weights.now * at_Side.side.result) start.args.lines.now) ≡ length start.args.weights.now * at_Side.side.result = simp length-take (omega (arith, m)) in
+    let e : at_Side.side.result ≡ side_of (power_of start.args.first) = (at_Side.side.ensures ∙ ap (max 16) at_size.size.ensures.0) in let m : length start.args.weights.now * at_Side.side.result ≤ length start.args.lines.now = rw e start.requires.1.1.0.1 in let k : length (take (length start.args.weights.now * at_Side.side.result) start.args.lines.now) ≡ length start.args.weights.now * at_Side.side.result = simp length-take (omega (arith, m)) in
     let a = start.args in
     let o = at-rule-of.rule-of.ensures in
     let l = at-lines.lines.new.1.1.1.1.1.0 in
     let t = take_at l (drop (length start.args.weights.now * at_Side.side.result) start.args.lines.now) (length start.args.weights.now * at_Side.side.result) (omega (arith, k, at-lines.lines.auto)) in
-    let g : length l ≡ length start.args.weights.now * side_of (powerOf start.args.first) = omega (arith, k, at-lines.lines.auto, ap (λ y. length start.args.weights.now * y) e) in
-    (rests-law a.first a.weights.now a.costs.now start.requires.0 l a.rests.now (at-lines.lines.ensures.1.0 ∙ ap (λ y. blocks (restsOf (powerOf a.first) a.weights.now a.costs.now y) (length a.weights.now)) e) g start.requires.1.1.0.0.of-rests (omega (arith, at-sent.sent.auto, start.requires.1.1.0.0.of-rests)) (at-sent.sent.ensures ∙ sent-same (length a.weights.now) a.rests.now (ap (λ (r : Rule). r.p) o) (ap (λ (r : Rule). r.k) o) (ap (λ (r : Rule). r.greatest) o) t), shifts-law a.first a.weights.now a.costs.now start.requires.0 at-lines.lines.ensures.0 at-lines.lines.ensures.1.1 at-shift-all.shift-all.ensures)
+    let g : length l ≡ length start.args.weights.now * side_of (power_of start.args.first) = omega (arith, k, at-lines.lines.auto, ap (λ y. length start.args.weights.now * y) e) in
+    (rests_law a.first a.weights.now a.costs.now start.requires.0 l a.rests.now (at-lines.lines.ensures.1.0 ∙ ap (λ y. blocks (rests_of (power_of a.first) a.weights.now a.costs.now y) (length a.weights.now)) e) g start.requires.1.1.0.0.of_rests (omega (arith, at-sent.sent.auto, start.requires.1.1.0.0.of_rests)) (at-sent.sent.ensures ∙ sent-same (length a.weights.now) a.rests.now (ap (λ (r : Rule). r.p) o) (ap (λ (r : Rule). r.k) o) (ap (λ (r : Rule). r.greatest) o) t), shifts_law a.first a.weights.now a.costs.now start.requires.0 at-lines.lines.ensures.0 at-lines.lines.ensures.1.1 at-shift-all.shift-all.ensures)
 
 pub rests-with-spec : {M : Type 1} → statement M
 rests-with-spec =

@@ -6,9 +6,9 @@ use borrow.Author.Tests.{not-true, not-false}
 use lib.ListN.{length}
 use Rattle.trellis.specs.Rules.{size_of}
 use Rattle.trellis.proofs.Recurrence.{size_64}
-use Rattle.field.proofs.Weighed.{WeightsAccepted, no-fault}
+use Rattle.field.proofs.Weighed.{WeightsAccepted, no_fault}
 use Rattle.field.proofs.Blocks.{mul_small}
-use Rattle.checknode.proofs.CheckFault.{fault-weights, fault-12, fault-13, fault-4, fault-none}
+use Rattle.checknode.proofs.CheckFault.{fault_weights, fault_12, fault_13, fault_4, fault_none}
 use Rattle.checknode.proofs.refusals.check_fault.Statement.{statement}
 use Rattle.checknode.proofs.refusals.check_fault.Tie as tie
 
@@ -18,13 +18,13 @@ weights-fault-requires c κs = search rules
 returns : tie.Need-returns
 returns c =
     let a = c.before.before.before.before.args in
-    fault-weights a.first a.weights.now a.costs.now a.room c.before.weights-fault.ensures c.if1.true
+    fault_weights a.first a.weights.now a.costs.now a.room c.before.weights-fault.ensures c.if1.true
 
 -- past 6, 9 and 11
 weighed : (c : tie.Else1) → let a = c.before.before.before.before.args in WeightsAccepted a.first a.weights.now
 weighed c =
     let a = c.before.before.before.before.args in
-    no-fault a.first a.weights.now (sym c.before.weights-fault.ensures ∙ c.if1.false)
+    no_fault a.first a.weights.now (sym c.before.weights-fault.ensures ∙ c.if1.false)
 
 size-requires : tie.Need-size-requires
 size-requires c κs = search rules
@@ -41,7 +41,7 @@ returns-2 : tie.Need-returns-2
 returns-2 c =
     let l = c.before.before in
     let a = l.before.before.before.before.args in
-    fault-12 a.first a.weights.now a.costs.now a.room (weighed l) _ (sized c.before) c.if2.true
+    fault_12 a.first a.weights.now a.costs.now a.room (weighed l) _ (sized c.before) c.if2.true
 
 zeros-ok-requires : tie.Need-zeros-ok-requires
 zeros-ok-requires c κs = search rules
@@ -51,7 +51,7 @@ returns-3 c =
     let z = c.before in
     let l = z.before.before.before in
     let a = l.before.before.before.before.args in
-    fault-13 a.first a.weights.now a.costs.now a.room (weighed l) _ (sized z.before.before) z.before.if2.false z.zeros-ok.ensures (not-true _ c.if3.true)
+    fault_13 a.first a.weights.now a.costs.now a.room (weighed l) _ (sized z.before.before) z.before.if2.false z.zeros-ok.ensures (not-true _ c.if3.true)
 
 record-bytes-requires : tie.Need-record-bytes-requires
 record-bytes-requires c κs = (weighed c.before.before.before.before).few
@@ -62,7 +62,7 @@ returns-4 c =
     let z = n.before.before in
     let l = z.before.before.before in
     let a = l.before.before.before.before.args in
-    fault-4 a.first a.weights.now a.costs.now a.room (weighed l) _ (sized z.before.before) z.before.if2.false z.zeros-ok.ensures (not-false _ n.before.if3.false) n.record-bytes.ensures c.if4.true
+    fault_4 a.first a.weights.now a.costs.now a.room (weighed l) _ (sized z.before.before) z.before.if2.false z.zeros-ok.ensures (not-false _ n.before.if3.false) n.record-bytes.ensures c.if4.true
 
 returns-5 : tie.Need-returns-5
 returns-5 c =
@@ -70,7 +70,7 @@ returns-5 c =
     let z = n.before.before in
     let l = z.before.before.before in
     let a = l.before.before.before.before.args in
-    fault-none a.first a.weights.now a.costs.now a.room (weighed l) _ (sized z.before.before) z.before.if2.false z.zeros-ok.ensures (not-false _ n.before.if3.false) n.record-bytes.ensures c.if4.false
+    fault_none a.first a.weights.now a.costs.now a.room (weighed l) _ (sized z.before.before) z.before.if2.false z.zeros-ok.ensures (not-false _ n.before.if3.false) n.record-bytes.ensures c.if4.false
 
 pub check-fault-spec : {M : Type 1} → statement M
 check-fault-spec =

@@ -8,13 +8,13 @@ use native.Mathlib.Omega.{arith}
 use borrow.Author.Rules.{rules}
 use lib.Dec.{ltb}
 use lib.ListN.{length}
-use Rattle.trellis.specs.Check.{firstZero}
-use Rattle.checknode.proofs.Zeros.{zeroFrom, zero_more, zero-end}
+use Rattle.trellis.specs.Check.{first_zero}
+use Rattle.checknode.proofs.Zeros.{zero_from, zero_more, zero-end}
 use Rattle.checknode.proofs.refusals.has_zero.Statement.{statement}
 use Rattle.checknode.proofs.refusals.has_zero.Tie as tie
 
 abbrev invariant-loop : tie.invariant-loop
-invariant-loop costs found₀ x₀ found x = (x ≤ length costs) × (ltb (firstZero costs) (length costs) ≡ found || zeroFrom costs x)
+invariant-loop costs found₀ x₀ found x = (x ≤ length costs) × (ltb (first_zero costs) (length costs) ≡ found || zero_from costs x)
 
 abbrev decreases-loop : tie.decreases-loop
 decreases-loop costs found₀ x₀ found x = length costs - x

@@ -4,15 +4,15 @@ use Prim.Native.Nat.{◌≤◌, ◌-◌}
 use native.Mathlib.Numerals.{add-one}
 use native.Mathlib.Omega.{arith}
 use borrow.Author.Rules.{rules}
-use Rattle.trellis.specs.Lists.{allTo}
-use Rattle.checknode.specs.Answers.{zeroOk}
+use Rattle.trellis.specs.Lists.{all_to}
+use Rattle.checknode.specs.Answers.{zero_ok}
 use Rattle.field.proofs.Blocks.{part_room}
 use Rattle.checknode.proofs.Zeros.{zero_turn}
 use Rattle.checknode.proofs.refusals.zeros_ok.Statement.{statement}
 use Rattle.checknode.proofs.refusals.zeros_ok.Tie as tie
 
 abbrev invariant-loop : tie.invariant-loop
-invariant-loop costs d q ok₀ n₀ ok n = (n ≤ d) × (ok ≡ allTo (zeroOk q costs) n)
+invariant-loop costs d q ok₀ n₀ ok n = (n ≤ d) × (ok ≡ all_to (zero_ok q costs) n)
 
 abbrev decreases-loop : tie.decreases-loop
 decreases-loop costs d q ok₀ n₀ ok n = d - n

@@ -7,14 +7,14 @@ use borrow.Author.Rules.{rules}
 use lib.ListN.{length, drop, length-set}
 use Rattle.trellis.specs.Lists.{tab}
 use Rattle.trellis.specs.Field.{xor}
-use Rattle.checknode.specs.inner.Lines.{sentIn}
-use Rattle.trellis.proofs.Loops.{tab-whole}
-use Rattle.checknode.proofs.Lining.{send-turn}
+use Rattle.checknode.specs.inner.Lines.{sent_in}
+use Rattle.trellis.proofs.Loops.{tab_whole}
+use Rattle.checknode.proofs.Lining.{send_turn}
 use Rattle.checknode.proofs.send.column.Statement.{statement}
 use Rattle.checknode.proofs.send.column.Tie as tie
 
 abbrev invariant-loop : tie.invariant-loop
-invariant-loop row s rests out₀ x₀ out x = (x ≤ length out₀) × ((length out ≡ length out₀) × (out ≡ tab (sentIn row s rests) x ++ drop x out₀))
+invariant-loop row s rests out₀ x₀ out x = (x ≤ length out₀) × ((length out ≡ length out₀) × (out ≡ tab (sent_in row s rests) x ++ drop x out₀))
 
 abbrev decreases-loop : tie.decreases-loop
 decreases-loop row s rests out₀ x₀ out x = length out₀ - x
@@ -51,7 +51,7 @@ loop-again : tie.Need-loop-preserved invariant-loop decreases-loop
 loop-again c =
     let at-loop = c.before.before.before.before.before in
     let start = at-loop.before.before.before.before in
-    (omega arith, (simp length-set (omega arith), send-turn start.args.row.now start.args.s start.args.rests.now start.args.out.now at-loop.loop.out at-loop.loop.x (omega arith) at-loop.loop.invariant.1.1 c.before.before.u8-to-usize.ensures.0 c.cost-of.ensures))
+    (omega arith, (simp length-set (omega arith), send_turn start.args.row.now start.args.s start.args.rests.now start.args.out.now at-loop.loop.out at-loop.loop.x (omega arith) at-loop.loop.invariant.1.1 c.before.before.u8-to-usize.ensures.0 c.cost-of.ensures))
 
 same_length : tie.Need-same-length invariant-loop decreases-loop
 same_length c = search rules
@@ -59,7 +59,7 @@ same_length c = search rules
 returns : tie.Need-returns invariant-loop decreases-loop
 returns c =
     let start = c.before.before.before.before.before in
-    let e : c.before.loop.x ≡ length start.args.out.now = omega arith in cc (tab-whole (sentIn start.args.row.now start.args.s start.args.rests.now) start.args.out.now)
+    let e : c.before.loop.x ≡ length start.args.out.now = omega arith in cc (tab_whole (sent_in start.args.row.now start.args.s start.args.rests.now) start.args.out.now)
 
 pub column-spec : {M : Type 1} → statement M
 column-spec =

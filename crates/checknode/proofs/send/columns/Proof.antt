@@ -7,14 +7,14 @@ use native.Mathlib.Omega.{arith}
 use borrow.Author.Rules.{rules}
 use lib.ListN.{length, drop}
 use Rattle.trellis.specs.Lists.{blocks}
-use Rattle.checknode.specs.inner.Lines.{sentColumn}
+use Rattle.checknode.specs.inner.Lines.{sent_column}
 use Rattle.trellis.proofs.Loops.{block_more, block-end}
-use Rattle.checknode.proofs.Lining.{send-bounds, send-room, sent-full, send-done}
+use Rattle.checknode.proofs.Lining.{send_bounds, send_room, sent-full, send_done}
 use Rattle.checknode.proofs.send.columns.Statement.{statement}
 use Rattle.checknode.proofs.send.columns.Tie as tie
 
 abbrev invariant-loop : tie.invariant-loop
-invariant-loop q l rows shifts rests out₀ n₀ out n = (n ≤ length shifts) × ((length out ≡ length out₀) × (out ≡ blocks (sentColumn q l rows shifts rests) n ++ drop (n * q) out₀))
+invariant-loop q l rows shifts rests out₀ n₀ out n = (n ≤ length shifts) × ((length out ≡ length out₀) × (out ≡ blocks (sent_column q l rows shifts rests) n ++ drop (n * q) out₀))
 
 abbrev decreases-loop : tie.decreases-loop
 decreases-loop q l rows shifts rests out₀ n₀ out n = length shifts - n
@@ -30,7 +30,7 @@ inside : (c : tie.In-loop invariant-loop decreases-loop) → let n = c.before.lo
 inside c =
     let at-loop = c.before in
     let start = at-loop.before.before.before.before.before in
-    let b = send-bounds start.args.q start.args.l start.args.rows.now start.args.shifts.now start.args.rests.now start.args.out.now start.requires at-loop.loop.n (omega arith) in
+    let b = send_bounds start.args.q start.args.l start.args.rows.now start.args.shifts.now start.args.rests.now start.args.out.now start.requires at-loop.loop.n (omega arith) in
     (b.0, b.1, omega (arith, b.2, at-loop.loop.invariant.1.0))
 
 mul-a : tie.Need-overflow-mul-a invariant-loop decreases-loop
@@ -79,7 +79,7 @@ column-requires : tie.Need-column-requires invariant-loop decreases-loop
 column-requires c κs =
     let at-loop = c.before.before.before.before.before in
     let start = at-loop.before.before.before.before.before in
-    send-room start.args.q start.args.l start.args.rows.now start.args.shifts.now start.args.rests.now start.args.out.now start.requires at-loop.loop.n (omega arith) at-loop.loop.out at-loop.loop.invariant.1.0
+    send_room start.args.q start.args.l start.args.rows.now start.args.shifts.now start.args.rests.now start.args.out.now start.requires at-loop.loop.n (omega arith) at-loop.loop.out at-loop.loop.invariant.1.0
 
 add-n : tie.Need-overflow-add-n invariant-loop decreases-loop
 add-n c = search rules
@@ -96,8 +96,8 @@ loop-again c =
       omega arith,
       (
         search rules,
-        block_more (sentColumn w start.args.l start.args.rows.now start.args.shifts.now start.args.rests.now) w (sent-full w start.args.l start.args.rows.now start.args.shifts.now start.args.rests.now) start.args.out.now at-loop.loop.out at-loop.loop.n at-loop.loop.invariant.1.1
-            (send-done w start.args.l start.args.rows.now start.args.shifts.now start.args.rests.now start.args.out.now start.requires at-loop.loop.n (omega arith) at-loop.loop.out at-loop.loop.invariant.1.0 at-column.column.ensures),
+        block_more (sent_column w start.args.l start.args.rows.now start.args.shifts.now start.args.rests.now) w (sent-full w start.args.l start.args.rows.now start.args.shifts.now start.args.rests.now) start.args.out.now at-loop.loop.out at-loop.loop.n at-loop.loop.invariant.1.1
+            (send_done w start.args.l start.args.rows.now start.args.shifts.now start.args.rests.now start.args.out.now start.requires at-loop.loop.n (omega arith) at-loop.loop.out at-loop.loop.invariant.1.0 at-column.column.ensures),
       ),
     )
 
@@ -110,7 +110,7 @@ returns c =
     let start = at-loop.before.before.before.before.before in
     let w = start.args.q in
     let e : at-loop.loop.n ≡ length start.args.shifts.now = omega arith in
-    rw e at (block-end (sentColumn w start.args.l start.args.rows.now start.args.shifts.now start.args.rests.now) w (sent-full w start.args.l start.args.rows.now start.args.shifts.now start.args.rests.now) start.args.out.now at-loop.loop.out at-loop.loop.n at-loop.loop.invariant.1.1 (rw e start.requires.of-out))
+    rw e at (block-end (sent_column w start.args.l start.args.rows.now start.args.shifts.now start.args.rests.now) w (sent-full w start.args.l start.args.rows.now start.args.shifts.now start.args.rests.now) start.args.out.now at-loop.loop.out at-loop.loop.n at-loop.loop.invariant.1.1 (rw e start.requires.of_out))
 
 pub columns_spec : {M : Type 1} → statement M
 columns_spec =

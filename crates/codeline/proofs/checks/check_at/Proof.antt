@@ -1,17 +1,17 @@
--- Each refusal is the case of `checkInto` whose tests are those passed on the way; past all tests the check is its edges.
+-- Each refusal is the case of `check_into` whose tests are those passed on the way; past all tests the check is its edges.
 use mathlib.Core.Path.{◌≡◌, sym}
 use Prim.Native.Nat.{◌+◌, ◌-◌, ◌*◌}
 use native.Mathlib.Omega.{arith}
 use borrow.Author.Rules.{rules}
 use borrow.Author.Tests.{lt-ltb, le-ltb, le-leb, lt-leb}
 use lib.ListN.{length, take, get_or}
-use Rattle.machine.specs.inner.Tables.{checkInto}
-use Rattle.codeline.proofs.Parsing.{check-past}
+use Rattle.machine.specs.inner.Tables.{check_into}
+use Rattle.codeline.proofs.Parsing.{check_past}
 use Rattle.codeline.proofs.checks.check_at.Statement.{statement}
 use Rattle.codeline.proofs.checks.check_at.Tie as tie
 
 returns : tie.Need-returns
-unfolding checkInto
+unfolding check_into
 returns c =
     let start = c.before.before.before.before.before in
     let a = start.args in
@@ -28,7 +28,7 @@ left-at-requires-2 : tie.Need-left-at-requires-2
 left-at-requires-2 c κs = search rules
 
 returns-2 : tie.Need-returns-2
-unfolding checkInto
+unfolding check_into
 returns-2 c =
     let start = c.before.before.before.before.before.before.before in
     let a = start.args in
@@ -37,7 +37,7 @@ returns-2 c =
     (simp (lt-leb (length s) a.at (omega arith), lt-ltb d 2 (omega arith)), tt)
 
 returns-3 : tie.Need-returns-3
-unfolding checkInto
+unfolding check_into
 returns-3 c =
     let start = c.before.before.before.before.before.before.before.before in
     let a = start.args in
@@ -49,7 +49,7 @@ sub-if4 : tie.Need-overflow-sub-if4
 sub-if4 c = omega arith
 
 returns-4 : tie.Need-returns-4
-unfolding checkInto
+unfolding check_into
 returns-4 c =
     let start = c.before.before.before.before.before.before.before.before.before in
     let a = start.args in
@@ -61,7 +61,7 @@ mul-if5 : tie.Need-overflow-mul-if5
 mul-if5 c = omega arith
 
 returns-5 : tie.Need-returns-5
-unfolding checkInto
+unfolding check_into
 returns-5 c =
     let start = c.before.before.before.before.before.before.before.before.before.before.before in
     let a = start.args in
@@ -90,7 +90,7 @@ returns-6 c =
     let w = g.before.before.before.before.before.before.before.before in
     let a = w.before.before.before.before.before.before.args in
     let n : a.at + 1 ≡ w.field_at.result.next = sym w.field_at.ensures.1.1 in
-    let e = check-past a.code.now a.at a.n a.q a.total w.field_at.result.value (take a.total a.columns.now) (take a.total a.weights.now) (omega arith) w.field_at.ensures.0 (omega arith) (omega arith) (omega arith) (omega arith) in
+    let e = check_past a.code.now a.at a.n a.q a.total w.field_at.result.value (take a.total a.columns.now) (take a.total a.weights.now) (omega arith) w.field_at.ensures.0 (omega arith) (omega arith) (omega arith) (omega arith) in
     (rw e (rw n (rw c.before.k.given.1 at g.edges_at.ensures.0)), tt)
 
 same-length-3 : tie.Need-same-length-3
@@ -105,7 +105,7 @@ returns-7 c =
     let w = g.before.before.before.before.before.before.before.before in
     let a = w.before.before.before.before.before.before.args in
     let n : a.at + 1 ≡ w.field_at.result.next = sym w.field_at.ensures.1.1 in
-    let e = check-past a.code.now a.at a.n a.q a.total w.field_at.result.value (take a.total a.columns.now) (take a.total a.weights.now) (omega arith) w.field_at.ensures.0 (omega arith) (omega arith) (omega arith) (omega arith) in
+    let e = check_past a.code.now a.at a.n a.q a.total w.field_at.result.value (take a.total a.columns.now) (take a.total a.weights.now) (omega arith) w.field_at.ensures.0 (omega arith) (omega arith) (omega arith) (omega arith) in
     let f = rw c.before.next.given.1 at g.edges_at.ensures.1 in
     (rw e (rw n (rw c.before.next.given.1 at g.edges_at.ensures.0)), (w.field_at.ensures.0, (omega arith, (omega arith, (omega arith, omega (arith, f))))))
 

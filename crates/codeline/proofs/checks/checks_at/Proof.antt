@@ -6,7 +6,7 @@ use native.Mathlib.Nat.{sub-zero}
 use native.Mathlib.Omega.{arith}
 use borrow.Author.Rules.{rules}
 use lib.ListN.{length, take}
-use Rattle.machine.specs.inner.Tables.{checksInto}
+use Rattle.machine.specs.inner.Tables.{checks_into}
 use Rattle.codeline.specs.inner.Reading.{CheckFits}
 use Rattle.codeline.specs.declared.checks.Check.TheVariants.{Degree}
 use Rattle.codeline.proofs.Parsing.{checks-bad, checks-more, checks-done, checks-over}
@@ -21,7 +21,7 @@ invariant-loop code at count n q degrees₀ columns₀ weights₀ i₀ total₀ 
     × ((length degrees ≡ length degrees₀)
     × ((length columns ≡ length columns₀)
     × ((length weights ≡ length weights₀)
-    × (checksInto (count - i) code here n q total (take i degrees) (take total columns) (take total weights) ≡ checksInto count code at n q 0 [] [] []))))))
+    × (checks_into (count - i) code here n q total (take i degrees) (take total columns) (take total weights) ≡ checks_into count code at n q 0 [] [] []))))))
 
 abbrev decreases-loop : tie.decreases-loop
 decreases-loop code at count n q degrees₀ columns₀ weights₀ i₀ total₀ here₀ degrees columns weights i total here = count - i

@@ -9,7 +9,7 @@ use borrow.Author.Tests.{lt-ltb, le-ltb}
 use lib.ListN.{length, get_or}
 use Rattle.machine.specs.CodeLine.{word_at}
 use Rattle.codeline.specs.inner.Reading.{ByteAt, WordAt, head_of}
-use Rattle.codeline.proofs.Parsing.{field-there, tested, first-tested, inside, headFrom, head_read}
+use Rattle.codeline.proofs.Parsing.{field_there, tested, first_tested, inside, head_from, head_read}
 use Rattle.codeline.proofs.head.head.Statement.{statement}
 use Rattle.codeline.proofs.head.head.Tie as tie
 
@@ -17,7 +17,7 @@ use Rattle.codeline.proofs.head.head.Tie as tie
 abbrev line1 : tie.Else1 → List ℕ
 line1 c = c.before.before.before.args.code.now
 
-past1 : (c : tie.Else1) → head_of (line1 c) ≡ headFrom 1 (line1 c)
+past1 : (c : tie.Else1) → head_of (line1 c) ≡ head_from 1 (line1 c)
 unfolding head_of
 past1 c = simp (le-ltb (length (line1 c)) 6 (omega arith))
 
@@ -27,20 +27,20 @@ first c = c.field_at.ensures
 abbrev line2 : tie.Else2 → List ℕ
 line2 c = line1 c.before.before.before.before
 
-past2 : (c : tie.Else2) → head_of (line2 c) ≡ headFrom 2 (line2 c)
+past2 : (c : tie.Else2) → head_of (line2 c) ≡ head_from 2 (line2 c)
 past2 c =
     let w = c.before.before.before in
-    past1 w.before ∙ first-tested _ (get_or (line2 c) 0 0) _ false _ _ c.before.accepted.ensures (first w).0 c.if2.false
+    past1 w.before ∙ first_tested _ (get_or (line2 c) 0 0) _ false _ _ c.before.accepted.ensures (first w).0 c.if2.false
 
 columns : (c : tie.After-field-at2) → WordAt c.field-at2.result (line2 c.before) 1
 columns c =
     let p = c.before.before.before.before in
-    field-there true c.field-at2.result (line2 c.before) p.field_at.result.next 1 c.field-at2.ensures (first p).1.1
+    field_there true c.field-at2.result (line2 c.before) p.field_at.result.next 1 c.field-at2.ensures (first p).1.1
 
 abbrev line3 : tie.Else3 → List ℕ
 line3 c = line2 c.before.before.before
 
-past3 : (c : tie.Else3) → head_of (line3 c) ≡ headFrom 4 (line3 c)
+past3 : (c : tie.Else3) → head_of (line3 c) ≡ head_from 4 (line3 c)
 past3 c =
     let w = c.before.before in
     past2 w.before ∙ tested _ (word_at (line3 c) 1) 1 256 _ false _ _ c.before.outside.ensures (columns w).0 c.if3.false
@@ -48,12 +48,12 @@ past3 c =
 checks : (c : tie.After-field-at3) → ByteAt c.field-at3.result (line3 c.before) 3
 checks c =
     let p = c.before.before.before in
-    field-there false c.field-at3.result (line3 c.before) p.field-at2.result.next 3 c.field-at3.ensures (columns p).1.1
+    field_there false c.field-at3.result (line3 c.before) p.field-at2.result.next 3 c.field-at3.ensures (columns p).1.1
 
 abbrev line4 : tie.Else4 → List ℕ
 line4 c = line3 c.before.before.before
 
-past4 : (c : tie.Else4) → head_of (line4 c) ≡ headFrom 6 (line4 c)
+past4 : (c : tie.Else4) → head_of (line4 c) ≡ head_from 6 (line4 c)
 past4 c =
     let w = c.before.before in
     past3 w.before ∙ tested _ (get_or (line4 c) 3 0) 1 128 _ false _ _ c.before.outside2.ensures (checks w).0 c.if4.false
@@ -61,12 +61,12 @@ past4 c =
 scale : (c : tie.After-field-at4) → ByteAt c.field-at4.result (line4 c.before) 4
 scale c =
     let p = c.before.before.before in
-    field-there false c.field-at4.result (line4 c.before) p.field-at3.result.next 4 c.field-at4.ensures (checks p).1.1
+    field_there false c.field-at4.result (line4 c.before) p.field-at3.result.next 4 c.field-at4.ensures (checks p).1.1
 
 abbrev line5 : tie.Else5 → List ℕ
 line5 c = line4 c.before.before.before
 
-past5 : (c : tie.Else5) → head_of (line5 c) ≡ headFrom 8 (line5 c)
+past5 : (c : tie.Else5) → head_of (line5 c) ≡ head_from 8 (line5 c)
 past5 c =
     let w = c.before.before in
     past4 w.before ∙ tested _ (get_or (line5 c) 4 0) 1 16 _ false _ _ c.before.outside3.ensures (scale w).0 c.if5.false
@@ -74,7 +74,7 @@ past5 c =
 limit : (c : tie.After-field-at5) → ByteAt c.field-at5.result (line5 c.before) 5
 limit c =
     let p = c.before.before.before in
-    field-there false c.field-at5.result (line5 c.before) p.field-at4.result.next 5 c.field-at5.ensures (scale p).1.1
+    field_there false c.field-at5.result (line5 c.before) p.field-at4.result.next 5 c.field-at5.ensures (scale p).1.1
 
 left-at-requires : tie.Need-left-at-requires
 left-at-requires c κs = search rules
@@ -103,7 +103,7 @@ returns-2 c =
     let t = c.before in
     let w = t.before.before.before in
     let e = w.before in
-    rw c.refused2.ensures (sym (past1 e ∙ first-tested _ (get_or (line1 e) 0 0) _ true _ _ t.before.accepted.ensures (first w).0 t.if2.true), tt)
+    rw c.refused2.ensures (sym (past1 e ∙ first_tested _ (get_or (line1 e) 0 0) _ true _ _ t.before.accepted.ensures (first w).0 t.if2.true), tt)
 
 field-at-requires-2 : tie.Need-field-at-requires-2
 field-at-requires-2 c κs = omega (arith, first c.before.before.before)

@@ -4,8 +4,8 @@ use Prim.Native.Nat.{◌≤◌}
 use native.Mathlib.Omega.{arith}
 use borrow.Author.Rules.{rules}
 use lib.ListN.{length-take}
-use Rattle.codeline.specs.inner.Reading.{checksIn}
-use Rattle.codeline.proofs.Answered.{handed-is}
+use Rattle.codeline.specs.inner.Reading.{checks_in}
+use Rattle.codeline.proofs.Answered.{handed_is}
 use Rattle.codeline.proofs.tables.hand_over.Statement.{statement}
 use Rattle.codeline.proofs.tables.hand_over.Tie as tie
 
@@ -81,10 +81,10 @@ returns-2 c =
     let w = fits k in
     let s = k.before.before.before.before.before.before.before.before in
     let a = s.args in (
-      handed-is a.r.header _ e (checksIn a.r.header) at-u8-to-usize.u8-to-usize.result a.ds.now a.degrees.now (at-u8-to-usize.u8-to-usize.ensures.0 ∙ sym (ap checksIn e)) (omega (arith, w, s.requires.1)) (omega (arith, w, s.requires.1)) at_copy.copy_u8.ensures,
+      handed_is a.r.header _ e (checks_in a.r.header) at-u8-to-usize.u8-to-usize.result a.ds.now a.degrees.now (at-u8-to-usize.u8-to-usize.ensures.0 ∙ sym (ap checks_in e)) (omega (arith, w, s.requires.1)) (omega (arith, w, s.requires.1)) at_copy.copy_u8.ensures,
       (
-        handed-is a.r.header _ e a.r.edges a.r.edges a.cs.now a.columns.now refl (omega (arith, w, s.requires.1)) (omega (arith, w, s.requires.1)) at_words.copy-u16.ensures,
-        handed-is a.r.header _ e a.r.edges a.r.edges a.ws.now a.weights.now refl (omega (arith, w, s.requires.1)) (omega (arith, w, s.requires.1)) at-copy2.copy-u82.ensures,
+        handed_is a.r.header _ e a.r.edges a.r.edges a.cs.now a.columns.now refl (omega (arith, w, s.requires.1)) (omega (arith, w, s.requires.1)) at_words.copy-u16.ensures,
+        handed_is a.r.header _ e a.r.edges a.r.edges a.ws.now a.weights.now refl (omega (arith, w, s.requires.1)) (omega (arith, w, s.requires.1)) at-copy2.copy-u82.ensures,
       ),
     )
 

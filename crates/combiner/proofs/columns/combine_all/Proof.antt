@@ -5,14 +5,14 @@ use Prim.Native.Nat.{◌+◌, ◌-◌, ◌*◌, ◌≤◌}
 use native.Mathlib.Omega.{arith}
 use borrow.Author.Rules.{rules}
 use lib.ListN.{length, drop}
-use Rattle.machine.specs.Combining.{combinedTo}
+use Rattle.machine.specs.Combining.{combined_to}
 use Rattle.machine.proofs.Ranges.{column-room}
-use Rattle.combiner.proofs.Combined.{all_start, all-turn, all-length, all_done}
+use Rattle.combiner.proofs.Combined.{all_start, all_turn, all-length, all_done}
 use Rattle.combiner.proofs.columns.combine_all.Statement.{statement}
 use Rattle.combiner.proofs.columns.combine_all.Tie as tie
 
 abbrev invariant-loop : tie.invariant-loop
-invariant-loop first second q n out₀ c₀ out c = (c ≤ n) × ((length out ≡ length out₀) × (out ≡ combinedTo q first second c ++ drop (c * q) out₀))
+invariant-loop first second q n out₀ c₀ out c = (c ≤ n) × ((length out ≡ length out₀) × (out ≡ combined_to q first second c ++ drop (c * q) out₀))
 
 abbrev decreases-loop : tie.decreases-loop
 decreases-loop first second q n out₀ c₀ out c = n - c
@@ -40,7 +40,7 @@ loop-again c =
     let l = c.before.before.before.before.before.loop in
     let s = c.before.before.before.before.before.before.before.before.before in
     let a = s.args in
-    let t = c.before.before.combine-at.ensures ∙ all-turn a.first.now a.second.now a.out.now a.q a.n s.requires.1.1.0 s.requires.1.1.1 l.out l.c l.invariant.1.1 in
+    let t = c.before.before.combine-at.ensures ∙ all_turn a.first.now a.second.now a.out.now a.q a.n s.requires.1.1.0 s.requires.1.1.1 l.out l.c l.invariant.1.1 in
     (omega arith, (ap length t ∙ all-length a.first.now a.second.now a.out.now a.q a.n s.requires.1.1.0 s.requires.1.1.1 (l.c + 1) (omega arith), t))
 
 same_length : tie.Need-same-length invariant-loop decreases-loop

@@ -7,13 +7,13 @@ use borrow.Author.Rules.{rules}
 use lib.ListN.{length, drop}
 use Rattle.trellis.specs.Lists.{tab}
 use Rattle.trellis.proofs.Loops.{tab-more}
-use Rattle.machine.specs.Combining.{bothCosts}
-use Rattle.combiner.proofs.Combined.{least-le, column-done}
+use Rattle.machine.specs.Combining.{both_costs}
+use Rattle.combiner.proofs.Combined.{least_le, column-done}
 use Rattle.combiner.proofs.columns.combine_column.Statement.{statement}
 use Rattle.combiner.proofs.columns.combine_column.Tie as tie
 
 abbrev invariant-loop : tie.invariant-loop
-invariant-loop first second out₀ least i₀ out i = (i ≤ length out₀) × ((length out ≡ length out₀) × (out ≡ tab (λ (x : ℕ). min 255 (bothCosts first second x - least)) i ++ drop i out₀))
+invariant-loop first second out₀ least i₀ out i = (i ≤ length out₀) × ((length out ≡ length out₀) × (out ≡ tab (λ (x : ℕ). min 255 (both_costs first second x - least)) i ++ drop i out₀))
 
 abbrev decreases-loop : tie.decreases-loop
 decreases-loop first second out₀ least i₀ out i = length out₀ - i
@@ -37,7 +37,7 @@ sub-cap-u8 : tie.Need-overflow-sub-cap-u8 invariant-loop decreases-loop
 sub-cap-u8 c =
     let l = c.before.before.before.before.loop in
     let a = c.before.before.before.before.before.before.before.before.before.args in
-    omega (arith, least-le a.first.now a.second.now (length a.first.now) (λ x. omega (arith, c.before.before.before.before.before.before.before.before.shared-slice-known.given x, c.before.before.before.before.before.before.before.shared-slice-known2.given x)) l.i (omega arith))
+    omega (arith, least_le a.first.now a.second.now (length a.first.now) (λ x. omega (arith, c.before.before.before.before.before.before.before.before.shared-slice-known.given x, c.before.before.before.before.before.before.before.shared-slice-known2.given x)) l.i (omega arith))
 
 cap-u8-requires : tie.Need-cap-u8-requires invariant-loop decreases-loop
 cap-u8-requires c κs = search rules
@@ -56,7 +56,7 @@ loop-again c =
     let l = c.before.before.before.before.before.loop in
     let m = c.before.before.before.before.before.before.least.result in
     let a = c.before.before.before.before.before.before.before.before.before.before.args in
-    (search rules, (search rules, cc (tab-more (λ (x : ℕ). min 255 (bothCosts a.first.now a.second.now x - m)) a.out.now l.i (omega arith))))
+    (search rules, (search rules, cc (tab-more (λ (x : ℕ). min 255 (both_costs a.first.now a.second.now x - m)) a.out.now l.i (omega arith))))
 
 same_length : tie.Need-same-length invariant-loop decreases-loop
 same_length c = search rules

@@ -5,18 +5,18 @@ use native.Mathlib.Numerals.{add-one}
 use native.Mathlib.Omega.{arith}
 use borrow.Author.Rules.{rules}
 use lib.ListN.{length}
-use Rattle.combiner.specs.inner.Columns.{leastBoth}
+use Rattle.combiner.specs.inner.Columns.{least_both}
 use Rattle.combiner.proofs.columns.least.Statement.{statement}
 use Rattle.combiner.proofs.columns.least.Tie as tie
 
 abbrev invariant-loop : tie.invariant-loop
-invariant-loop first second least₀ i₀ least i = (i ≤ length first) × ((least ≡ leastBoth first second i) × (least ≤ 1000))
+invariant-loop first second least₀ i₀ least i = (i ≤ length first) × ((least ≡ least_both first second i) × (least ≤ 1000))
 
 abbrev decreases-loop : tie.decreases-loop
 decreases-loop first second least₀ i₀ least i = length first - i
 
 loop-holds : tie.Need-loop-init invariant-loop decreases-loop
-unfolding leastBoth
+unfolding least_both
 loop-holds c = (omega arith, (refl, omega arith))
 
 shared-slice-read-both : tie.Need-shared-slice-read-both invariant-loop decreases-loop
@@ -38,7 +38,7 @@ loop-less : tie.Need-loop-smaller invariant-loop decreases-loop
 loop-less c = omega arith
 
 loop-again : tie.Need-loop-preserved invariant-loop decreases-loop
-unfolding leastBoth
+unfolding least_both
 loop-again c = (omega arith, (rw add-one (cc), omega arith))
 
 returns : tie.Need-returns invariant-loop decreases-loop

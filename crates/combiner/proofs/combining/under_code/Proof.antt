@@ -5,8 +5,8 @@ use native.Mathlib.Omega.{arith}
 use borrow.Author.Rules.{rules}
 use lib.ListN.{length-take}
 use Rattle.trellis.specs.Rules.{size_of}
-use Rattle.machine.specs.Combining.{combinedTo}
-use Rattle.combiner.proofs.Combined.{under-refused, under-room, size-some, under-written}
+use Rattle.machine.specs.Combining.{combined_to}
+use Rattle.combiner.proofs.Combined.{under-refused, under-room, size-some, under_written}
 use Rattle.combiner.proofs.combining.under_code.Statement.{statement}
 use Rattle.combiner.proofs.combining.under_code.Tie as tie
 
@@ -59,7 +59,7 @@ returns-2 c =
     let at-if1 = at_size.before in
     let at-fault = at-if1.before in
     let start = at-fault.before.before.before.before in
-    under-written start.args.numbers.first start.args.numbers.columns start.args.first.now start.args.second.now start.args.out.now at-fault.fault.result at-fault.fault.ensures at-if1.if1.false at_size.size.result at-combine-all.combine-all.new.1.1.1.1.0 at_size.size.ensures.0 (at-combine-all.combine-all.ensures ∙ ap (λ n. combinedTo at_size.size.result start.args.first.now start.args.second.now n) at-u16-to-usize.u16-to-usize.ensures.0)
+    under_written start.args.numbers.first start.args.numbers.columns start.args.first.now start.args.second.now start.args.out.now at-fault.fault.result at-fault.fault.ensures at-if1.if1.false at_size.size.result at-combine-all.combine-all.new.1.1.1.1.0 at_size.size.ensures.0 (at-combine-all.combine-all.ensures ∙ ap (λ n. combined_to at_size.size.result start.args.first.now start.args.second.now n) at-u16-to-usize.u16-to-usize.ensures.0)
 
 pub under-code-spec : {M : Type 1} → statement M
 under-code-spec =

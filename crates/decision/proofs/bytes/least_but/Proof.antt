@@ -5,7 +5,7 @@ use native.Mathlib.Numerals.{add-one}
 use native.Mathlib.Omega.{arith}
 use borrow.Author.Rules.{rules}
 use lib.ListN.{length}
-use Rattle.trellis.specs.inner.Margins.{leastBut}
+use Rattle.trellis.specs.inner.Margins.{least_but}
 use Rattle.decision.proofs.Searching.{Least, least-all}
 use Rattle.decision.proofs.bytes.least_but.Statement.{statement}
 use Rattle.decision.proofs.bytes.least_but.Tie as tie
@@ -17,7 +17,7 @@ abbrev decreases-loop : tie.decreases-loop
 decreases-loop costs z least₀ x₀ least x = length costs - x
 
 loop-holds : tie.Need-loop-init invariant-loop decreases-loop
-unfolding leastBut
+unfolding least_but
 loop-holds c = (omega arith, refl)
 
 shared-slice-read-but : tie.Need-shared-slice-read-but invariant-loop decreases-loop
@@ -36,7 +36,7 @@ loop-less : tie.Need-loop-smaller invariant-loop decreases-loop
 loop-less c = search rules
 
 loop-again : tie.Need-loop-preserved invariant-loop decreases-loop
-unfolding leastBut
+unfolding least_but
 loop-again c = (omega arith, rw add-one cc)
 
 returns : tie.Need-returns invariant-loop decreases-loop

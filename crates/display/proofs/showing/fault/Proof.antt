@@ -2,8 +2,8 @@
 use mathlib.Core.Path.{sym, ◌∙◌}
 use borrow.Author.Rules.{rules}
 use borrow.Author.Tests.{not-true, not-false}
-use Rattle.field.proofs.Weighed.{WeightsAccepted, no-fault}
-use Rattle.display.proofs.Refusals.{weight-fault, form-fault, short-fault, none-fault}
+use Rattle.field.proofs.Weighed.{WeightsAccepted, no_fault}
+use Rattle.display.proofs.Refusals.{weight_fault, form_fault, short_fault, none_fault}
 use Rattle.display.proofs.showing.fault.Statement.{statement}
 use Rattle.display.proofs.showing.fault.Tie as tie
 
@@ -14,7 +14,7 @@ returns : tie.Need-returns
 returns c =
     let k = c.before in
     let a = k.before.before.before.args in
-    weight-fault a.first a.weights.now a.bytes.now a.room k.weights-fault.result k.weights-fault.ensures c.if1.true
+    weight_fault a.first a.weights.now a.bytes.now a.room k.weights-fault.result k.weights-fault.ensures c.if1.true
 
 record-ok-requires : tie.Need-record-ok-requires
 record-ok-requires c κs = search rules
@@ -24,24 +24,24 @@ returns-2 c =
     let o = c.before in
     let k = o.before.before in
     let a = k.before.before.before.args in
-    let W : WeightsAccepted a.first a.weights.now = no-fault _ _ (sym k.weights-fault.ensures ∙ o.before.if1.false) in
-    form-fault a.first a.weights.now a.bytes.now a.room W (sym o.record-ok.ensures ∙ not-true _ c.if2.true)
+    let W : WeightsAccepted a.first a.weights.now = no_fault _ _ (sym k.weights-fault.ensures ∙ o.before.if1.false) in
+    form_fault a.first a.weights.now a.bytes.now a.room W (sym o.record_ok_lem.ensures ∙ not-true _ c.if2.true)
 
 returns-3 : tie.Need-returns-3
 returns-3 c =
     let o = c.before.before in
     let k = o.before.before in
     let a = k.before.before.before.args in
-    let W : WeightsAccepted a.first a.weights.now = no-fault _ _ (sym k.weights-fault.ensures ∙ o.before.if1.false) in
-    short-fault a.first a.weights.now a.bytes.now a.room W (sym o.record-ok.ensures ∙ not-false _ c.before.if2.false) c.if3.true
+    let W : WeightsAccepted a.first a.weights.now = no_fault _ _ (sym k.weights-fault.ensures ∙ o.before.if1.false) in
+    short_fault a.first a.weights.now a.bytes.now a.room W (sym o.record_ok_lem.ensures ∙ not-false _ c.before.if2.false) c.if3.true
 
 returns-4 : tie.Need-returns-4
 returns-4 c =
     let o = c.before.before in
     let k = o.before.before in
     let a = k.before.before.before.args in
-    let W : WeightsAccepted a.first a.weights.now = no-fault _ _ (sym k.weights-fault.ensures ∙ o.before.if1.false) in
-    none-fault a.first a.weights.now a.bytes.now a.room W (sym o.record-ok.ensures ∙ not-false _ c.before.if2.false) c.if3.false
+    let W : WeightsAccepted a.first a.weights.now = no_fault _ _ (sym k.weights-fault.ensures ∙ o.before.if1.false) in
+    none_fault a.first a.weights.now a.bytes.now a.room W (sym o.record_ok_lem.ensures ∙ not-false _ c.before.if2.false) c.if3.false
 
 pub fault-spec : {M : Type 1} → statement M
 fault-spec =

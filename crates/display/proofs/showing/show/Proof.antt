@@ -7,12 +7,12 @@ use borrow.Author.Rules.{rules}
 use lib.ListN.{length, drop}
 use Rattle.trellis.specs.Lists.{tab}
 use Rattle.trellis.proofs.Loops.{tab-more}
-use Rattle.display.proofs.Shown.{dividedAt, shown-done}
+use Rattle.display.proofs.Shown.{divided_at, shown_done}
 use Rattle.display.proofs.showing.show.Statement.{statement}
 use Rattle.display.proofs.showing.show.Tie as tie
 
 abbrev invariant-loop : tie.invariant-loop
-invariant-loop p weights bytes out₀ n₀ out n = (n ≤ length out₀) × ((length out ≡ length out₀) × (out ≡ tab (dividedAt p weights bytes) n ++ drop n out₀))
+invariant-loop p weights bytes out₀ n₀ out n = (n ≤ length out₀) × ((length out ≡ length out₀) × (out ≡ tab (divided_at p weights bytes) n ++ drop n out₀))
 
 abbrev decreases-loop : tie.decreases-loop
 decreases-loop p weights bytes out₀ n₀ out n = length out₀ - n
@@ -41,7 +41,7 @@ loop-less c = search rules
 loop-again : tie.Need-loop-preserved invariant-loop decreases-loop
 loop-again c =
     let a = c.before.before.before.before.before.before.before.before.args in
-    (search rules, (search rules, cc (tab-more (dividedAt a.p a.weights.now a.bytes.now) a.out.now c.before.before.before.before.loop.n (omega arith))))
+    (search rules, (search rules, cc (tab-more (divided_at a.p a.weights.now a.bytes.now) a.out.now c.before.before.before.before.loop.n (omega arith))))
 
 same_length : tie.Need-same-length invariant-loop decreases-loop
 same_length c = search rules
@@ -51,7 +51,7 @@ returns c =
     let s = c.before.before.before.before.before in
     let a = s.args in
     let l = c.before.loop in
-    shown-done a.p a.weights.now a.bytes.now a.out.now l.out l.n s.requires (omega arith) l.invariant.1.1
+    shown_done a.p a.weights.now a.bytes.now a.out.now l.out l.n s.requires (omega arith) l.invariant.1.1
 
 pub show-spec : {M : Type 1} → statement M
 show-spec =

@@ -3,8 +3,8 @@ use mathlib.Core.Path.{ap, ◌∙◌, sym}
 use borrow.Author.Rules.{rules}
 use Rattle.machine.specs.Encoding.{Wrote}
 use Rattle.codeline.specs.inner.Coding.{code_of}
-use Rattle.codeline.proofs.Says.{line-says, line-coded}
-use Rattle.encoder.proofs.Encoded.{line_refused, line-encodes}
+use Rattle.codeline.proofs.Says.{line_says, line-coded}
+use Rattle.encoder.proofs.Encoded.{line_refused, line_encodes}
 use Rattle.encoder.proofs.encoding.encode_in.Statement.{statement}
 use Rattle.encoder.proofs.encoding.encode_in.Tie as tie
 
@@ -40,7 +40,7 @@ returns-2 c =
     let at-numbers = at-under-code.before.before.before.before.before.before.before.before.before in
     let at-code-tables = at-numbers.before.before in
     let start = at-code-tables.before.before.before.before.before.before.before in
-    let e = line-encodes start.args.code.now (code_of at-numbers.numbers.given.0.0 at-code-tables.code-tables.new.1.0 at-code-tables.code-tables.new.1.1.0 at-code-tables.code-tables.new.1.1.1.0) (line-says start.args.code.now at-code-tables.code-tables.result at-code-tables.code-tables.ensures.0 at-numbers.numbers.given.0.0 at-numbers.numbers.given.1 _ _ _ at-code-tables.code-tables.new.1.0 at-code-tables.code-tables.new.1.1.0 at-code-tables.code-tables.new.1.1.1.0 at-code-tables.code-tables.ensures.1.0 at-code-tables.code-tables.ensures.1.1.0 at-code-tables.code-tables.ensures.1.1.1) start.args.message.now start.args.symbols.now in (at-under-code.under-code.ensures.0 ∙ sym (ap (λ (w : Wrote). w.reply) e), at-under-code.under-code.ensures.1 ∙ sym (ap (λ (w : Wrote). w.out) e))
+    let e = line_encodes start.args.code.now (code_of at-numbers.numbers.given.0.0 at-code-tables.code-tables.new.1.0 at-code-tables.code-tables.new.1.1.0 at-code-tables.code-tables.new.1.1.1.0) (line_says start.args.code.now at-code-tables.code-tables.result at-code-tables.code-tables.ensures.0 at-numbers.numbers.given.0.0 at-numbers.numbers.given.1 _ _ _ at-code-tables.code-tables.new.1.0 at-code-tables.code-tables.new.1.1.0 at-code-tables.code-tables.new.1.1.1.0 at-code-tables.code-tables.ensures.1.0 at-code-tables.code-tables.ensures.1.1.0 at-code-tables.code-tables.ensures.1.1.1) start.args.message.now start.args.symbols.now in (at-under-code.under-code.ensures.0 ∙ sym (ap (λ (w : Wrote). w.reply) e), at-under-code.under-code.ensures.1 ∙ sym (ap (λ (w : Wrote). w.out) e))
 
 pub encode-in-spec : {M : Type 1} → statement M
 encode-in-spec =

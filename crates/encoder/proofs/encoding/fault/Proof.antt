@@ -1,7 +1,7 @@
 -- The tests in the definition's order.
 use borrow.Author.Rules.{rules}
 use borrow.Author.Tests.{not-true, not-false}
-use Rattle.encoder.proofs.Refusals.{fault-form, fault-length, fault-elements, fault-room, fault-none}
+use Rattle.encoder.proofs.Refusals.{fault_form, fault_length, fault_elements, fault_room, fault_none}
 use Rattle.encoder.proofs.encoding.fault.Statement.{statement}
 use Rattle.encoder.proofs.encoding.fault.Tie as tie
 
@@ -12,7 +12,7 @@ returns : tie.Need-returns
 returns c =
     let at-formed = c.before in
     let start = at-formed.before.before.before.before.before in
-    fault-form start.args.numbers start.args.degrees.now start.args.columns.now start.args.weights.now start.requires start.args.message.now start.args.room at-formed.formed.result at-formed.formed.ensures (not-true _ c.if1.true)
+    fault_form start.args.numbers start.args.degrees.now start.args.columns.now start.args.weights.now start.requires start.args.message.now start.args.room at-formed.formed.result at-formed.formed.ensures (not-true _ c.if1.true)
 
 u16-to-usize-requires : tie.Need-u16-to-usize-requires
 u16-to-usize-requires c κs = search rules
@@ -30,7 +30,7 @@ returns-2 c =
     let at-if1 = at-u16-to-usize.before in
     let at-formed = at-if1.before in
     let start = at-formed.before.before.before.before.before in
-    fault-length start.args.numbers start.args.degrees.now start.args.columns.now start.args.weights.now start.requires start.args.message.now start.args.room at-formed.formed.result at-formed.formed.ensures (not-false _ at-if1.if1.false) at-u16-to-usize.u16-to-usize.result at-u8-to-usize.u8-to-usize.result at-u16-to-usize.u16-to-usize.ensures.0 at-u8-to-usize.u8-to-usize.ensures.0 c.if2.true
+    fault_length start.args.numbers start.args.degrees.now start.args.columns.now start.args.weights.now start.requires start.args.message.now start.args.room at-formed.formed.result at-formed.formed.ensures (not-false _ at-if1.if1.false) at-u16-to-usize.u16-to-usize.result at-u8-to-usize.u8-to-usize.result at-u16-to-usize.u16-to-usize.ensures.0 at-u8-to-usize.u8-to-usize.ensures.0 c.if2.true
 
 size-requires : tie.Need-size-requires
 size-requires c κs = search rules
@@ -48,7 +48,7 @@ returns-3 c =
     let at-if1 = at-u16-to-usize.before in
     let at-formed = at-if1.before in
     let start = at-formed.before.before.before.before.before in
-    fault-elements start.args.numbers start.args.degrees.now start.args.columns.now start.args.weights.now start.requires start.args.message.now start.args.room at-formed.formed.result at-formed.formed.ensures (not-false _ at-if1.if1.false) at-u16-to-usize.u16-to-usize.result at-u8-to-usize.u8-to-usize.result at-u16-to-usize.u16-to-usize.ensures.0 at-u8-to-usize.u8-to-usize.ensures.0 at-if2.if2.false at_size.size.result at_size.size.ensures.0 at-elements.elements.result at-elements.elements.ensures (not-true _ c.if3.true)
+    fault_elements start.args.numbers start.args.degrees.now start.args.columns.now start.args.weights.now start.requires start.args.message.now start.args.room at-formed.formed.result at-formed.formed.ensures (not-false _ at-if1.if1.false) at-u16-to-usize.u16-to-usize.result at-u8-to-usize.u8-to-usize.result at-u16-to-usize.u16-to-usize.ensures.0 at-u8-to-usize.u8-to-usize.ensures.0 at-if2.if2.false at_size.size.result at_size.size.ensures.0 at-elements.elements.result at-elements.elements.ensures (not-true _ c.if3.true)
 
 returns-4 : tie.Need-returns-4
 returns-4 c =
@@ -61,7 +61,7 @@ returns-4 c =
     let at-if1 = at-u16-to-usize.before in
     let at-formed = at-if1.before in
     let start = at-formed.before.before.before.before.before in
-    fault-room start.args.numbers start.args.degrees.now start.args.columns.now start.args.weights.now start.requires start.args.message.now start.args.room at-formed.formed.result at-formed.formed.ensures (not-false _ at-if1.if1.false) at-u16-to-usize.u16-to-usize.result at-u8-to-usize.u8-to-usize.result at-u16-to-usize.u16-to-usize.ensures.0 at-u8-to-usize.u8-to-usize.ensures.0 at-if2.if2.false at_size.size.result at_size.size.ensures.0 at-elements.elements.result at-elements.elements.ensures (not-false _ at-if3.if3.false) c.if4.true
+    fault_room start.args.numbers start.args.degrees.now start.args.columns.now start.args.weights.now start.requires start.args.message.now start.args.room at-formed.formed.result at-formed.formed.ensures (not-false _ at-if1.if1.false) at-u16-to-usize.u16-to-usize.result at-u8-to-usize.u8-to-usize.result at-u16-to-usize.u16-to-usize.ensures.0 at-u8-to-usize.u8-to-usize.ensures.0 at-if2.if2.false at_size.size.result at_size.size.ensures.0 at-elements.elements.result at-elements.elements.ensures (not-false _ at-if3.if3.false) c.if4.true
 
 returns-5 : tie.Need-returns-5
 returns-5 c =
@@ -74,7 +74,7 @@ returns-5 c =
     let at-if1 = at-u16-to-usize.before in
     let at-formed = at-if1.before in
     let start = at-formed.before.before.before.before.before in
-    fault-none start.args.numbers start.args.degrees.now start.args.columns.now start.args.weights.now start.requires start.args.message.now start.args.room at-formed.formed.result at-formed.formed.ensures (not-false _ at-if1.if1.false) at-u16-to-usize.u16-to-usize.result at-u8-to-usize.u8-to-usize.result at-u16-to-usize.u16-to-usize.ensures.0 at-u8-to-usize.u8-to-usize.ensures.0 at-if2.if2.false at_size.size.result at_size.size.ensures.0 at-elements.elements.result at-elements.elements.ensures (not-false _ at-if3.if3.false) c.if4.false
+    fault_none start.args.numbers start.args.degrees.now start.args.columns.now start.args.weights.now start.requires start.args.message.now start.args.room at-formed.formed.result at-formed.formed.ensures (not-false _ at-if1.if1.false) at-u16-to-usize.u16-to-usize.result at-u8-to-usize.u8-to-usize.result at-u16-to-usize.u16-to-usize.ensures.0 at-u8-to-usize.u8-to-usize.ensures.0 at-if2.if2.false at_size.size.result at_size.size.ensures.0 at-elements.elements.result at-elements.elements.ensures (not-false _ at-if3.if3.false) c.if4.false
 
 pub fault-spec : {M : Type 1} → statement M
 fault-spec =

@@ -6,7 +6,7 @@ use borrow.Author.Rules.{rules}
 use lib.ListN.{length, drop, length-take}
 use lib.Seq.{length-take-le}
 use Rattle.machine.specs.Encoding.{Wrote}
-use Rattle.encoder.proofs.Encoded.{front_kept, call-refused, call-room, call-fill-room, call-leaves}
+use Rattle.encoder.proofs.Encoded.{front_kept, call_refused, call_room, call_fill_room, call_leaves}
 use Rattle.encoder.proofs.encoding.under_code.Statement.{statement}
 use Rattle.encoder.proofs.encoding.under_code.Tie as tie
 
@@ -17,7 +17,7 @@ returns : tie.Need-returns
 returns c =
     let at-fault = c.before in
     let start = at-fault.before.before.before.before.before.before in
-    let e = call-refused start.args.numbers start.args.degrees.now start.args.columns.now start.args.weights.now start.requires start.args.message.now start.args.symbols.now at-fault.fault.result at-fault.fault.ensures c.if1.true in (sym (ap (λ (w : Wrote). w.reply) e), sym (ap (λ (w : Wrote). w.out) e))
+    let e = call_refused start.args.numbers start.args.degrees.now start.args.columns.now start.args.weights.now start.requires start.args.message.now start.args.symbols.now at-fault.fault.result at-fault.fault.ensures c.if1.true in (sym (ap (λ (w : Wrote). w.reply) e), sym (ap (λ (w : Wrote). w.out) e))
 
 u16-to-usize-requires : tie.Need-u16-to-usize-requires
 u16-to-usize-requires c κs = search rules
@@ -27,7 +27,7 @@ slice-relend-prefix-copy-u8 c =
     let at-if1 = c.before in
     let at-fault = at-if1.before in
     let start = at-fault.before.before.before.before.before.before in
-    omega (arith, call-room start.args.numbers start.args.degrees.now start.args.columns.now start.args.weights.now start.requires start.args.message.now start.args.symbols.now at-fault.fault.result at-fault.fault.ensures at-if1.if1.false c.u16-to-usize.result c.u16-to-usize.ensures.0)
+    omega (arith, call_room start.args.numbers start.args.degrees.now start.args.columns.now start.args.weights.now start.requires start.args.message.now start.args.symbols.now at-fault.fault.result at-fault.fault.ensures at-if1.if1.false c.u16-to-usize.result c.u16-to-usize.ensures.0)
 
 slice-aggregate-copy-u8 : tie.Need-slice-aggregate-copy-u8
 slice-aggregate-copy-u8 c =
@@ -35,7 +35,7 @@ slice-aggregate-copy-u8 c =
     let at-if1 = at-u16-to-usize.before in
     let at-fault = at-if1.before in
     let start = at-fault.before.before.before.before.before.before in
-    simp length-take (omega (arith, call-room start.args.numbers start.args.degrees.now start.args.columns.now start.args.weights.now start.requires start.args.message.now start.args.symbols.now at-fault.fault.result at-fault.fault.ensures at-if1.if1.false at-u16-to-usize.u16-to-usize.result at-u16-to-usize.u16-to-usize.ensures.0))
+    simp length-take (omega (arith, call_room start.args.numbers start.args.degrees.now start.args.columns.now start.args.weights.now start.requires start.args.message.now start.args.symbols.now at-fault.fault.result at-fault.fault.ensures at-if1.if1.false at-u16-to-usize.u16-to-usize.result at-u16-to-usize.u16-to-usize.ensures.0))
 
 copy-u8-requires : tie.Need-copy-u8-requires
 copy-u8-requires c κs = search rules
@@ -47,7 +47,7 @@ slice-relend-prefix-fill c =
     let at-if1 = at-u16-to-usize.before in
     let at-fault = at-if1.before in
     let start = at-fault.before.before.before.before.before.before in
-    omega (arith, call-room start.args.numbers start.args.degrees.now start.args.columns.now start.args.weights.now start.requires start.args.message.now start.args.symbols.now at-fault.fault.result at-fault.fault.ensures at-if1.if1.false at-u16-to-usize.u16-to-usize.result at-u16-to-usize.u16-to-usize.ensures.0, front_kept start.args.symbols.now at_copy.copy_u8.new.1.0 (length start.args.message.now) (omega (arith, call-room start.args.numbers start.args.degrees.now start.args.columns.now start.args.weights.now start.requires start.args.message.now start.args.symbols.now at-fault.fault.result at-fault.fault.ensures at-if1.if1.false at-u16-to-usize.u16-to-usize.result at-u16-to-usize.u16-to-usize.ensures.0)) at_copy.copy_u8.auto.1.0)
+    omega (arith, call_room start.args.numbers start.args.degrees.now start.args.columns.now start.args.weights.now start.requires start.args.message.now start.args.symbols.now at-fault.fault.result at-fault.fault.ensures at-if1.if1.false at-u16-to-usize.u16-to-usize.result at-u16-to-usize.u16-to-usize.ensures.0, front_kept start.args.symbols.now at_copy.copy_u8.new.1.0 (length start.args.message.now) (omega (arith, call_room start.args.numbers start.args.degrees.now start.args.columns.now start.args.weights.now start.requires start.args.message.now start.args.symbols.now at-fault.fault.result at-fault.fault.ensures at-if1.if1.false at-u16-to-usize.u16-to-usize.result at-u16-to-usize.u16-to-usize.ensures.0)) at_copy.copy_u8.auto.1.0)
 
 slice-aggregate-fill : tie.Need-slice-aggregate-fill
 slice-aggregate-fill c =
@@ -56,7 +56,7 @@ slice-aggregate-fill c =
     let at-if1 = at-u16-to-usize.before in
     let at-fault = at-if1.before in
     let start = at-fault.before.before.before.before.before.before in
-    sym (length-take-le at-u16-to-usize.u16-to-usize.result (at_copy.copy_u8.new.1.0 ++ drop (length start.args.message.now) start.args.symbols.now) (omega (arith, call-room start.args.numbers start.args.degrees.now start.args.columns.now start.args.weights.now start.requires start.args.message.now start.args.symbols.now at-fault.fault.result at-fault.fault.ensures at-if1.if1.false at-u16-to-usize.u16-to-usize.result at-u16-to-usize.u16-to-usize.ensures.0, front_kept start.args.symbols.now at_copy.copy_u8.new.1.0 (length start.args.message.now) (omega (arith, call-room start.args.numbers start.args.degrees.now start.args.columns.now start.args.weights.now start.requires start.args.message.now start.args.symbols.now at-fault.fault.result at-fault.fault.ensures at-if1.if1.false at-u16-to-usize.u16-to-usize.result at-u16-to-usize.u16-to-usize.ensures.0)) at_copy.copy_u8.auto.1.0)))
+    sym (length-take-le at-u16-to-usize.u16-to-usize.result (at_copy.copy_u8.new.1.0 ++ drop (length start.args.message.now) start.args.symbols.now) (omega (arith, call_room start.args.numbers start.args.degrees.now start.args.columns.now start.args.weights.now start.requires start.args.message.now start.args.symbols.now at-fault.fault.result at-fault.fault.ensures at-if1.if1.false at-u16-to-usize.u16-to-usize.result at-u16-to-usize.u16-to-usize.ensures.0, front_kept start.args.symbols.now at_copy.copy_u8.new.1.0 (length start.args.message.now) (omega (arith, call_room start.args.numbers start.args.degrees.now start.args.columns.now start.args.weights.now start.requires start.args.message.now start.args.symbols.now at-fault.fault.result at-fault.fault.ensures at-if1.if1.false at-u16-to-usize.u16-to-usize.result at-u16-to-usize.u16-to-usize.ensures.0)) at_copy.copy_u8.auto.1.0)))
 
 fill-requires : tie.Need-fill-requires
 fill-requires c κs =
@@ -65,7 +65,7 @@ fill-requires c κs =
     let at-if1 = at-u16-to-usize.before in
     let at-fault = at-if1.before in
     let start = at-fault.before.before.before.before.before.before in
-    call-fill-room start.args.numbers start.args.degrees.now start.args.columns.now start.args.weights.now start.requires start.args.message.now start.args.symbols.now at-fault.fault.result at-fault.fault.ensures at-if1.if1.false at-u16-to-usize.u16-to-usize.result at-u16-to-usize.u16-to-usize.ensures.0 at_copy.copy_u8.new.1.0 at_copy.copy_u8.ensures
+    call_fill_room start.args.numbers start.args.degrees.now start.args.columns.now start.args.weights.now start.requires start.args.message.now start.args.symbols.now at-fault.fault.result at-fault.fault.ensures at-if1.if1.false at-u16-to-usize.u16-to-usize.result at-u16-to-usize.u16-to-usize.ensures.0 at_copy.copy_u8.new.1.0 at_copy.copy_u8.ensures
 
 same_length : tie.Need-same-length
 same_length c = search rules
@@ -78,7 +78,7 @@ returns-2 c =
     let at-if1 = at-u16-to-usize.before in
     let at-fault = at-if1.before in
     let start = at-fault.before.before.before.before.before.before in
-    let e = call-leaves start.args.numbers start.args.degrees.now start.args.columns.now start.args.weights.now start.requires start.args.message.now start.args.symbols.now at-fault.fault.result at-fault.fault.ensures at-if1.if1.false at-u16-to-usize.u16-to-usize.result at-u16-to-usize.u16-to-usize.ensures.0 at_copy.copy_u8.new.1.0 at_copy.copy_u8.ensures at_fill_lem.fill.new.1.1.1.1.1.0 at_fill_lem.fill.ensures in (sym (ap (λ (w : Wrote). w.reply) e), sym (ap (λ (w : Wrote). w.out) e))
+    let e = call_leaves start.args.numbers start.args.degrees.now start.args.columns.now start.args.weights.now start.requires start.args.message.now start.args.symbols.now at-fault.fault.result at-fault.fault.ensures at-if1.if1.false at-u16-to-usize.u16-to-usize.result at-u16-to-usize.u16-to-usize.ensures.0 at_copy.copy_u8.new.1.0 at_copy.copy_u8.ensures at_fill_lem.fill.new.1.1.1.1.1.0 at_fill_lem.fill.ensures in (sym (ap (λ (w : Wrote). w.reply) e), sym (ap (λ (w : Wrote). w.out) e))
 
 pub under-code-spec : {M : Type 1} → statement M
 under-code-spec =

@@ -6,16 +6,16 @@ use native.Mathlib.Omega.{arith}
 use borrow.Author.Rules.{rules}
 use lib.ListN.{length, take, drop, length-set}
 use lib.Seq.{length-take-le}
-use Rattle.machine.specs.Encoding.{encodeTo}
-use Rattle.machine.specs.inner.Tables.{edgesBefore}
+use Rattle.machine.specs.Encoding.{encode_to}
+use Rattle.machine.specs.inner.Tables.{edges_before}
 use Rattle.codeline.specs.inner.Coding.{code_of}
 use Rattle.machine.proofs.Places.{before_more}
-use Rattle.encoder.proofs.Filling.{whole, columns-end, turn-room, fill-turn, fill_start, fill_done}
+use Rattle.encoder.proofs.Filling.{whole, columns-end, turn_room, fill_turn, fill_start, fill_done}
 use Rattle.encoder.proofs.fill.fill.Statement.{statement}
 use Rattle.encoder.proofs.fill.fill.Tie as tie
 
 abbrev invariant-loop : tie.invariant-loop
-invariant-loop numbers degrees columns weights from symbols₀ count m₀ at₀ symbols m at = (m ≤ numbers.checks) × ((at ≡ edgesBefore degrees m) × ((length symbols ≡ length symbols₀) × (symbols ≡ encodeTo (code_of numbers degrees columns weights) (take from symbols₀) m ++ drop (from + m) symbols₀)))
+invariant-loop numbers degrees columns weights from symbols₀ count m₀ at₀ symbols m at = (m ≤ numbers.checks) × ((at ≡ edges_before degrees m) × ((length symbols ≡ length symbols₀) × (symbols ≡ encode_to (code_of numbers degrees columns weights) (take from symbols₀) m ++ drop (from + m) symbols₀)))
 
 abbrev decreases-loop : tie.decreases-loop
 decreases-loop numbers degrees columns weights from symbols₀ count m₀ at₀ symbols m at = numbers.checks - m
@@ -48,7 +48,7 @@ own-requires : tie.Need-own-requires invariant-loop decreases-loop
 own-requires c κs =
     let at-loop = c.before.before in
     let start = at-loop.before.before.before.before.before.before in
-    turn-room start.args.numbers start.args.degrees.now start.args.columns.now start.args.weights.now start.args.from start.args.symbols.now start.requires at-loop.loop.m (omega arith) at-loop.loop.symbols at-loop.loop.invariant.1.1.1 at-loop.loop.at at-loop.loop.invariant.1.0
+    turn_room start.args.numbers start.args.degrees.now start.args.columns.now start.args.weights.now start.args.from start.args.symbols.now start.requires at-loop.loop.m (omega arith) at-loop.loop.symbols at-loop.loop.invariant.1.1.1 at-loop.loop.at at-loop.loop.invariant.1.0
 
 slice-write-symbols : tie.Need-slice-write-symbols invariant-loop decreases-loop
 slice-write-symbols c =
@@ -58,7 +58,7 @@ slice-write-symbols c =
 shared-slice-read-u8-to-usize : tie.Need-shared-slice-read-u8-to-usize invariant-loop decreases-loop
 shared-slice-read-u8-to-usize c =
     let start = c.before.before.before.before.before.before.before.before.before.before in
-    omega (arith, start.requires.coded.for-degrees)
+    omega (arith, start.requires.coded.for_degrees)
 
 u8-to-usize-requires-2 : tie.Need-u8-to-usize-requires-2 invariant-loop decreases-loop
 u8-to-usize-requires-2 c κs = search rules
@@ -80,7 +80,7 @@ loop-again c =
     let at_own = c.before.before in
     let at-loop = at_own.before.before.before in
     let start = at-loop.before.before.before.before.before.before in
-    (omega arith, (before_more start.args.degrees.now at-loop.loop.m at-loop.loop.at c.u8-to-usize2.result at-loop.loop.invariant.1.0 c.u8-to-usize2.ensures.0, (length-set at-loop.loop.symbols (start.args.from + at-loop.loop.m) at_own.own.result ∙ at-loop.loop.invariant.1.1.0, fill-turn start.args.numbers start.args.degrees.now start.args.columns.now start.args.weights.now start.args.from start.args.symbols.now start.requires at-loop.loop.m (omega arith) at-loop.loop.symbols at-loop.loop.invariant.1.1.1 at_own.own.result at_own.own.ensures)))
+    (omega arith, (before_more start.args.degrees.now at-loop.loop.m at-loop.loop.at c.u8-to-usize2.result at-loop.loop.invariant.1.0 c.u8-to-usize2.ensures.0, (length-set at-loop.loop.symbols (start.args.from + at-loop.loop.m) at_own.own.result ∙ at-loop.loop.invariant.1.1.0, fill_turn start.args.numbers start.args.degrees.now start.args.columns.now start.args.weights.now start.args.from start.args.symbols.now start.requires at-loop.loop.m (omega arith) at-loop.loop.symbols at-loop.loop.invariant.1.1.1 at_own.own.result at_own.own.ensures)))
 
 same_length : tie.Need-same-length invariant-loop decreases-loop
 same_length c = search rules

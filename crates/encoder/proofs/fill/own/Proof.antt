@@ -4,14 +4,14 @@ use Prim.Native.Nat.{◌-◌, ◌≤◌}
 use native.Mathlib.Omega.{arith}
 use borrow.Author.Rules.{rules}
 use Rattle.machine.specs.CodeLine.{power, check}
-use Rattle.machine.specs.Machine.{paritySum}
+use Rattle.machine.specs.Machine.{parity_sum}
 use Rattle.codeline.specs.inner.Coding.{code_of}
 use Rattle.encoder.proofs.Filling.{enough, edge-room, sum_more, own_is}
 use Rattle.encoder.proofs.fill.own.Statement.{statement}
 use Rattle.encoder.proofs.fill.own.Tie as tie
 
 abbrev invariant-loop : tie.invariant-loop
-invariant-loop numbers m at degrees columns weights word d n s₀ k₀ s k = (k ≤ n) × (s ≡ paritySum (power (code_of numbers degrees columns weights)) (check (code_of numbers degrees columns weights) m) word k)
+invariant-loop numbers m at degrees columns weights word d n s₀ k₀ s k = (k ≤ n) × (s ≡ parity_sum (power (code_of numbers degrees columns weights)) (check (code_of numbers degrees columns weights) m) word k)
 
 abbrev decreases-loop : tie.decreases-loop
 decreases-loop numbers m at degrees columns weights word d n s₀ k₀ s k = n - k
@@ -19,7 +19,7 @@ decreases-loop numbers m at degrees columns weights word d n s₀ k₀ s k = n -
 shared-slice-read-u8-to-usize : tie.Need-shared-slice-read-u8-to-usize invariant-loop decreases-loop
 shared-slice-read-u8-to-usize c =
     let start = c.before.before.before.before.before in
-    omega (arith, start.requires.inside, start.requires.coded.for-degrees)
+    omega (arith, start.requires.inside, start.requires.coded.for_degrees)
 
 u8-to-usize-requires : tie.Need-u8-to-usize-requires invariant-loop decreases-loop
 u8-to-usize-requires c κs = search rules

@@ -3,9 +3,9 @@ use mathlib.Core.Path.{◌≡◌, ap, ◌∙◌}
 use borrow.Author.Rules.{rules}
 use lib.ListN.{get_or}
 use Rattle.trellis.specs.Field.{product}
-use Rattle.trellis.specs.Rules.{powerOf}
-use Rattle.field.specs.Answers.{productReply}
-use Rattle.division.proofs.Quotients.{times-is}
+use Rattle.trellis.specs.Rules.{power_of}
+use Rattle.field.specs.Answers.{product_reply}
+use Rattle.division.proofs.Quotients.{times_is}
 use Rattle.encoder.proofs.fill.term_at.Statement.{statement}
 use Rattle.encoder.proofs.fill.term_at.Tie as tie
 
@@ -37,7 +37,7 @@ returns c =
     let start = at-u16-to-usize.before.before.before.before.before in
     let e : at-u16-to-usize.u16-to-usize.result ≡ get_or start.args.columns.now start.args.edge 0 = at-u16-to-usize.u16-to-usize.ensures.0 in
     let x : get_or start.args.symbols.now at-u16-to-usize.u16-to-usize.result 0 ≡ get_or start.args.symbols.now (get_or start.args.columns.now start.args.edge 0) 0 = ap (λ c. get_or start.args.symbols.now c 0) e in
-    c.times.ensures ∙ ap (λ p. (productReply p (get_or start.args.weights.now start.args.edge 0) (get_or start.args.symbols.now at-u16-to-usize.u16-to-usize.result 0)).value) at-power.power.ensures ∙ times-is (powerOf start.args.numbers.first) (get_or start.args.weights.now start.args.edge 0) (get_or start.args.symbols.now at-u16-to-usize.u16-to-usize.result 0) start.requires.low start.requires.high start.requires.weight (rw e start.requires.symbol) ∙ ap (product (powerOf start.args.numbers.first) (get_or start.args.weights.now start.args.edge 0)) x
+    c.times.ensures ∙ ap (λ p. (product_reply p (get_or start.args.weights.now start.args.edge 0) (get_or start.args.symbols.now at-u16-to-usize.u16-to-usize.result 0)).value) at-power.power.ensures ∙ times_is (power_of start.args.numbers.first) (get_or start.args.weights.now start.args.edge 0) (get_or start.args.symbols.now at-u16-to-usize.u16-to-usize.result 0) start.requires.low start.requires.high start.requires.weight (rw e start.requires.symbol) ∙ ap (product (power_of start.args.numbers.first) (get_or start.args.weights.now start.args.edge 0)) x
 
 pub term-at-spec : {M : Type 1} → statement M
 term-at-spec =

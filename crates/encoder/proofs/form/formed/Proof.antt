@@ -3,15 +3,15 @@ use mathlib.Core.Path.{◌≡◌, refl}
 use Prim.Native.Nat.{ℕ, ◌+◌, ◌-◌, ◌≤◌, ◌<◌}
 use native.Mathlib.Omega.{arith}
 use borrow.Author.Rules.{rules}
-use Rattle.machine.specs.inner.Tables.{edgesBefore}
+use Rattle.machine.specs.inner.Tables.{edges_before}
 use Rattle.machine.proofs.Places.{before_more}
 use Rattle.encoder.proofs.Filling.{some-edge, columns-end}
-use Rattle.encoder.proofs.Refusals.{last_at, own-more, formed-short, formed-not, formed-done}
+use Rattle.encoder.proofs.Refusals.{last_at, own_more, formed-short, formed-not, formed-done}
 use Rattle.encoder.proofs.form.formed.Statement.{statement}
 use Rattle.encoder.proofs.form.formed.Tie as tie
 
 abbrev invariant-loop : tie.invariant-loop
-invariant-loop degrees columns weights n count from m₀ at₀ m at = (m ≤ count) × ((at ≡ edgesBefore degrees m) × ((j : ℕ) → j < m → last_at degrees columns j ≡ from + j))
+invariant-loop degrees columns weights n count from m₀ at₀ m at = (m ≤ count) × ((at ≡ edges_before degrees m) × ((j : ℕ) → j < m → last_at degrees columns j ≡ from + j))
 
 abbrev decreases-loop : tie.decreases-loop
 decreases-loop degrees columns weights n count from m₀ at₀ m at = count - m
@@ -38,7 +38,7 @@ loop-holds c = (omega arith, (refl, λ j h. absurd (omega arith)))
 shared-slice-read-u8-to-usize : tie.Need-shared-slice-read-u8-to-usize invariant-loop decreases-loop
 shared-slice-read-u8-to-usize c =
     let start = c.before.before.before.before.before.before.before.before.before in
-    omega (arith, start.requires.for-degrees)
+    omega (arith, start.requires.for_degrees)
 
 u8-to-usize-requires-2 : tie.Need-u8-to-usize-requires-2 invariant-loop decreases-loop
 u8-to-usize-requires-2 c κs = search rules
@@ -105,7 +105,7 @@ loop-again c =
     let at-u8-to-usize = at-loop.before.before in
     let at-u16-to-usize = at-u8-to-usize.before in
     let start = at-u16-to-usize.before.before.before.before in
-    (omega arith, (before_more start.args.degrees.now at-loop.loop.m at-loop.loop.at at-u8-to-usize2.u8-to-usize2.result at-loop.loop.invariant.1.0 at-u8-to-usize2.u8-to-usize2.ensures.0, own-more start.args.degrees.now start.args.columns.now (at-u16-to-usize.u16-to-usize.result - at-u8-to-usize.u8-to-usize.result) at-loop.loop.m at-loop.loop.at at-u8-to-usize2.u8-to-usize2.result at-u16-to-usize2.u16-to-usize2.result at-loop.loop.invariant.1.0 at-u8-to-usize2.u8-to-usize2.ensures.0 at-u16-to-usize2.u16-to-usize2.ensures.0 c.if2.false at-loop.loop.invariant.1.1))
+    (omega arith, (before_more start.args.degrees.now at-loop.loop.m at-loop.loop.at at-u8-to-usize2.u8-to-usize2.result at-loop.loop.invariant.1.0 at-u8-to-usize2.u8-to-usize2.ensures.0, own_more start.args.degrees.now start.args.columns.now (at-u16-to-usize.u16-to-usize.result - at-u8-to-usize.u8-to-usize.result) at-loop.loop.m at-loop.loop.at at-u8-to-usize2.u8-to-usize2.result at-u16-to-usize2.u16-to-usize2.result at-loop.loop.invariant.1.0 at-u8-to-usize2.u8-to-usize2.ensures.0 at-u16-to-usize2.u16-to-usize2.ensures.0 c.if2.false at-loop.loop.invariant.1.1))
 
 returns-3 : tie.Need-returns-3 invariant-loop decreases-loop
 returns-3 c =

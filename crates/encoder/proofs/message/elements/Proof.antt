@@ -6,13 +6,13 @@ use borrow.Author.Rules.{rules}
 use lib.ListN.{length, get_or}
 use lib.Dec.{ltb}
 use mathlib.Core.Bool.{true}
-use Rattle.trellis.specs.Lists.{allTo}
+use Rattle.trellis.specs.Lists.{all_to}
 use Rattle.encoder.proofs.Refusals.{elements-not, elements-more}
 use Rattle.encoder.proofs.message.elements.Statement.{statement}
 use Rattle.encoder.proofs.message.elements.Tie as tie
 
 abbrev invariant-loop : tie.invariant-loop
-invariant-loop symbols q i₀ i = (i ≤ length symbols) × (allTo (λ (j : ℕ). ltb (get_or symbols j 0) q) i ≡ true)
+invariant-loop symbols q i₀ i = (i ≤ length symbols) × (all_to (λ (j : ℕ). ltb (get_or symbols j 0) q) i ≡ true)
 
 abbrev decreases-loop : tie.decreases-loop
 decreases-loop symbols q i₀ i = length symbols - i
@@ -49,7 +49,7 @@ returns-2 c =
     let l = c.before in
     let a = l.before.before.args in
     let e : l.loop.i ≡ length a.symbols.now = omega arith in
-    sym (ap (allTo (λ (j : ℕ). ltb (get_or a.symbols.now j 0) a.q)) (sym e) ∙ l.loop.invariant.1)
+    sym (ap (all_to (λ (j : ℕ). ltb (get_or a.symbols.now j 0) a.q)) (sym e) ∙ l.loop.invariant.1)
 
 pub elements-spec : {M : Type 1} → statement M
 elements-spec =

@@ -6,14 +6,14 @@ use native.Mathlib.Omega.{arith}
 use borrow.Author.Rules.{rules}
 use lib.ListN.{length, drop, length-set}
 use Rattle.trellis.specs.Lists.{tab}
-use Rattle.trellis.proofs.Loops.{tab-whole}
-use Rattle.expansion.specs.inner.Transposed.{bySymbol}
-use Rattle.expansion.proofs.Transposing.{symbol-room, symbol-turn}
+use Rattle.trellis.proofs.Loops.{tab_whole}
+use Rattle.expansion.specs.inner.Transposed.{by_symbol}
+use Rattle.expansion.proofs.Transposing.{symbol-room, symbol_turn}
 use Rattle.expansion.proofs.expansion.by_symbol.Statement.{statement}
 use Rattle.expansion.proofs.expansion.by_symbol.Tie as tie
 
 abbrev invariant-loop : tie.invariant-loop
-invariant-loop v s out₀ x₀ out x = (x ≤ length out₀) × ((length out ≡ length out₀) × (out ≡ tab (bySymbol v out₀ s) x ++ drop x out₀))
+invariant-loop v s out₀ x₀ out x = (x ≤ length out₀) × ((length out ≡ length out₀) × (out ≡ tab (by_symbol v out₀ s) x ++ drop x out₀))
 
 abbrev decreases-loop : tie.decreases-loop
 decreases-loop v s out₀ x₀ out x = length out₀ - x
@@ -48,7 +48,7 @@ loop-again c =
     let at-u8-to-usize = c.before in
     let at-loop = at-u8-to-usize.before.before.before in
     let start = at-loop.before.before.before in
-    (omega arith, (simp length-set (omega arith), symbol-turn start.args.v.now start.args.out.now at-loop.loop.out start.args.s at-loop.loop.x (omega arith) at-loop.loop.invariant.1.1 at-u8-to-usize.u8-to-usize.ensures.0))
+    (omega arith, (simp length-set (omega arith), symbol_turn start.args.v.now start.args.out.now at-loop.loop.out start.args.s at-loop.loop.x (omega arith) at-loop.loop.invariant.1.1 at-u8-to-usize.u8-to-usize.ensures.0))
 
 same_length : tie.Need-same-length invariant-loop decreases-loop
 same_length c = search rules
@@ -57,7 +57,7 @@ returns : tie.Need-returns invariant-loop decreases-loop
 returns c =
     let at-loop = c.before in
     let start = at-loop.before.before.before in
-    let e : at-loop.loop.x ≡ length start.args.out.now = omega arith in at-loop.loop.invariant.1.1 ∙ rw e (tab-whole _ start.args.out.now)
+    let e : at-loop.loop.x ≡ length start.args.out.now = omega arith in at-loop.loop.invariant.1.1 ∙ rw e (tab_whole _ start.args.out.now)
 
 pub by-symbol-spec : {M : Type 1} → statement M
 by-symbol-spec =

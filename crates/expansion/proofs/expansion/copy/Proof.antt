@@ -6,7 +6,7 @@ use native.Mathlib.Omega.{arith}
 use borrow.Author.Rules.{rules}
 use lib.ListN.{length, drop, get_or, length-set}
 use Rattle.trellis.specs.Lists.{tab}
-use Rattle.trellis.proofs.Loops.{tab-more, tab-whole}
+use Rattle.trellis.proofs.Loops.{tab-more, tab_whole}
 use Rattle.expansion.proofs.expansion.copy.Statement.{statement}
 use Rattle.expansion.proofs.expansion.copy.Tie as tie
 
@@ -45,7 +45,7 @@ returns c =
     let at-loop = c.before in
     let start = at-loop.before in
     let e : at-loop.loop.a ≡ length start.args.v.now = omega arith in
-    at-loop.loop.invariant.1.1 ∙ rw e (tab-whole _ start.args.v.now)
+    at-loop.loop.invariant.1.1 ∙ rw e (tab_whole _ start.args.v.now)
 
 pub copy_spec : {M : Type 1} → statement M
 copy_spec =

@@ -6,14 +6,14 @@ use native.Mathlib.Omega.{arith}
 use borrow.Author.Rules.{rules}
 use lib.ListN.{length, drop, set, length-set}
 use Rattle.trellis.specs.Lists.{tab}
-use Rattle.expansion.specs.inner.Transposed.{everyAt}
-use Rattle.field.proofs.Filling.{products-end}
-use Rattle.expansion.proofs.Transposing.{every-start, every-turn}
+use Rattle.expansion.specs.inner.Transposed.{every_at}
+use Rattle.field.proofs.Filling.{products_end}
+use Rattle.expansion.proofs.Transposing.{every_start, every_turn}
 use Rattle.expansion.proofs.expansion.every.Statement.{statement}
 use Rattle.expansion.proofs.expansion.every.Tie as tie
 
 abbrev invariant-loop : tie.invariant-loop
-invariant-loop r at g first out₀ a₀ out a = ((1 ≤ a) × (a ≤ length out₀)) × ((length out ≡ length out₀) × (out ≡ tab (everyAt r at g first) a ++ drop a out₀))
+invariant-loop r at g first out₀ a₀ out a = ((1 ≤ a) × (a ≤ length out₀)) × ((length out ≡ length out₀) × (out ≡ tab (every_at r at g first) a ++ drop a out₀))
 
 abbrev decreases-loop : tie.decreases-loop
 decreases-loop r at g first out₀ a₀ out a = length out₀ - a
@@ -22,7 +22,7 @@ slice-write-out : tie.Need-slice-write-out invariant-loop decreases-loop
 slice-write-out c = search rules
 
 loop-holds : tie.Need-loop-init invariant-loop decreases-loop
-loop-holds c = ((omega arith, simp length-set (omega arith)), (refl, every-start c.args.r.now c.args.at c.args.g c.args.first c.args.out.now c.requires.0))
+loop-holds c = ((omega arith, simp length-set (omega arith)), (refl, every_start c.args.r.now c.args.at c.args.g c.args.first c.args.out.now c.requires.0))
 
 sub_out : tie.Need-overflow-sub-out invariant-loop decreases-loop
 sub_out c = search rules
@@ -65,7 +65,7 @@ loop-again c =
     let at-loop = c.before.before in
     let start = at-loop.before in
     let l : length (set start.args.out.now 0 start.args.first) ≡ length start.args.out.now = simp length-set in
-    ((omega arith, omega arith), (simp length-set (omega arith), every-turn start.args.r.now start.args.at start.args.g start.args.first _ at-loop.loop.out at-loop.loop.a (omega arith) (omega arith) at-loop.loop.invariant.1.1))
+    ((omega arith, omega arith), (simp length-set (omega arith), every_turn start.args.r.now start.args.at start.args.g start.args.first _ at-loop.loop.out at-loop.loop.a (omega arith) (omega arith) at-loop.loop.invariant.1.1))
 
 same_length : tie.Need-same-length invariant-loop decreases-loop
 same_length c =
@@ -78,7 +78,7 @@ returns c =
     let at-loop = c.before in
     let start = at-loop.before in
     let l : length (set start.args.out.now 0 start.args.first) ≡ length start.args.out.now = simp length-set in
-    products-end (everyAt start.args.r.now start.args.at start.args.g start.args.first) at-loop.loop.a (length start.args.out.now) _ at-loop.loop.out (omega arith) l at-loop.loop.invariant.1.1
+    products_end (every_at start.args.r.now start.args.at start.args.g start.args.first) at-loop.loop.a (length start.args.out.now) _ at-loop.loop.out (omega arith) l at-loop.loop.invariant.1.1
 
 pub every-spec : {M : Type 1} → statement M
 every-spec =

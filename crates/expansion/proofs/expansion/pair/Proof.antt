@@ -6,13 +6,13 @@ use native.Mathlib.Omega.{arith}
 use borrow.Author.Rules.{rules}
 use lib.ListN.{length, drop, length-set}
 use Rattle.trellis.specs.Lists.{tab}
-use Rattle.trellis.proofs.Loops.{tab-more, tab-seam, tab-whole}
-use Rattle.expansion.specs.inner.Transposed.{besideIn}
+use Rattle.trellis.proofs.Loops.{tab-more, tab_seam, tab_whole}
+use Rattle.expansion.specs.inner.Transposed.{beside_in}
 use Rattle.expansion.proofs.expansion.pair.Statement.{statement}
 use Rattle.expansion.proofs.expansion.pair.Tie as tie
 
 abbrev invariant-loop : tie.invariant-loop
-invariant-loop c s n v₀ a₀ v a = (a ≤ length v₀) × ((length v ≡ length v₀) × (v ≡ tab (besideIn c s n v₀) a ++ drop a v₀))
+invariant-loop c s n v₀ a₀ v a = (a ≤ length v₀) × ((length v ≡ length v₀) × (v ≡ tab (beside_in c s n v₀) a ++ drop a v₀))
 
 abbrev decreases-loop : tie.decreases-loop
 decreases-loop c s n v₀ a₀ v a = length v₀ - a
@@ -45,7 +45,7 @@ loop-again : tie.Need-loop-preserved invariant-loop decreases-loop
 loop-again c =
     let at-loop = c.before.before.before.before.before in
     let start = at-loop.before.before.before.before in
-    (omega arith, (simp length-set (omega arith), cc (tab-more (besideIn start.args.c.now start.args.s.now start.args.n start.args.v.now) start.args.v.now at-loop.loop.a (omega arith), tab-seam (besideIn start.args.c.now start.args.s.now start.args.n start.args.v.now) start.args.v.now at-loop.loop.a (omega arith))))
+    (omega arith, (simp length-set (omega arith), cc (tab-more (beside_in start.args.c.now start.args.s.now start.args.n start.args.v.now) start.args.v.now at-loop.loop.a (omega arith), tab_seam (beside_in start.args.c.now start.args.s.now start.args.n start.args.v.now) start.args.v.now at-loop.loop.a (omega arith))))
 
 same_length : tie.Need-same-length invariant-loop decreases-loop
 same_length c = search rules
@@ -55,7 +55,7 @@ returns c =
     let at-loop = c.before in
     let start = at-loop.before.before.before.before in
     let e : at-loop.loop.a ≡ length start.args.v.now = omega arith in
-    at-loop.loop.invariant.1.1 ∙ rw e (tab-whole _ start.args.v.now)
+    at-loop.loop.invariant.1.1 ∙ rw e (tab_whole _ start.args.v.now)
 
 pub pair_spec : {M : Type 1} → statement M
 pair_spec =

@@ -5,12 +5,12 @@ use native.Mathlib.Omega.{arith}
 use borrow.Author.Rules.{rules}
 use lib.ListN.{length, length-take, length-drop}
 use Rattle.trellis.specs.Lists.{tab}
-use Rattle.expansion.proofs.Transposing.{saidFrom, rows_start, rows-turn, rows_end, pair-room}
+use Rattle.expansion.proofs.Transposing.{said_from, rows_start, rows_turn, rows_end, pair_room}
 use Rattle.expansion.proofs.expansion.rows_from.Statement.{statement}
 use Rattle.expansion.proofs.expansion.rows_from.Tie as tie
 
 abbrev invariant-loop : tie.invariant-loop
-invariant-loop t q k n at v₀ j₀ v j = (j ≤ k) × ((length v ≡ length v₀) × (v ≡ tab (saidFrom t q k n at (length v₀) j) (length v₀)))
+invariant-loop t q k n at v₀ j₀ v j = (j ≤ k) × ((length v ≡ length v₀) × (v ≡ tab (said_from t q k n at (length v₀) j) (length v₀)))
 
 abbrev decreases-loop : tie.decreases-loop
 decreases-loop t q k n at v₀ j₀ v j = j
@@ -21,7 +21,7 @@ room : (c : tie.In-loop invariant-loop decreases-loop)
     (1 + 2 * (c.before.loop.j - 1)) * start.args.q + start.args.at + start.args.q + length start.args.v.now ≤ length start.args.t.now
 room c =
     let start = c.before.before.before.before.before.before.before.before.before in
-    pair-room (c.before.loop.j - 1) start.args.k start.args.q start.args.at (length start.args.v.now) start.args.t.now (omega arith) start.requires.1.1
+    pair_room (c.before.loop.j - 1) start.args.k start.args.q start.args.at (length start.args.v.now) start.args.t.now (omega arith) start.requires.1.1
 
 sub-copy : tie.Need-overflow-sub-copy invariant-loop decreases-loop
 sub-copy c = search rules
@@ -97,7 +97,7 @@ loop-again c =
     let start = at_copy.before.before.before.before.before in
     let l : length at_copy.copy.new.1.0 ≡ length start.args.v.now = at_copy.copy.auto.1.0 in
     let o = rw at-loop.loop.invariant.1.0 at at_pair.pair.ensures in
-    (omega arith, (omega arith, rows-turn start.args.t.now start.args.q start.args.k start.args.n start.args.at (length at_copy.copy.new.1.0) at-loop.loop.j at-loop.loop.v (omega arith) (omega arith) at-loop.loop.invariant.1.1 refl refl (omega (arith, room at_pair.before.before.before.before)) o))
+    (omega arith, (omega arith, rows_turn start.args.t.now start.args.q start.args.k start.args.n start.args.at (length at_copy.copy.new.1.0) at-loop.loop.j at-loop.loop.v (omega arith) (omega arith) at-loop.loop.invariant.1.1 refl refl (omega (arith, room at_pair.before.before.before.before)) o))
 
 same_length : tie.Need-same-length invariant-loop decreases-loop
 same_length c = search rules

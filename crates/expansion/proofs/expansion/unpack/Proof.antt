@@ -9,7 +9,7 @@ use lib.ListN.{length, take, drop, length-take, length-drop}
 use Rattle.trellis.specs.Lists.{blocks}
 use Rattle.trellis.proofs.Loops.{length-tab, block_more, block-end}
 use Rattle.expansion.specs.inner.Transposed.{list_of, unpacked}
-use Rattle.expansion.proofs.Transposing.{list-room, list_inside}
+use Rattle.expansion.proofs.Transposing.{list_room, list_inside}
 use Rattle.expansion.proofs.expansion.unpack.Statement.{statement}
 use Rattle.expansion.proofs.expansion.unpack.Tie as tie
 
@@ -25,7 +25,7 @@ room : (c : tie.In-loop invariant-loop decreases-loop)
     c.before.loop.i * s.args.q + s.args.q ≤ length s.args.out.now
 room c =
     let s = c.before.before.before.before in
-    list-room s.requires c.before.loop.i (omega arith)
+    list_room s.requires c.before.loop.i (omega arith)
 
 part-full : (c : tie.In-loop invariant-loop decreases-loop)
     → let w = c.before.before.before.before.args.q in

@@ -6,14 +6,14 @@ use native.Mathlib.Omega.{arith}
 use borrow.Author.Rules.{rules}
 use lib.ListN.{length, take, drop, length-take, length-drop}
 use Rattle.trellis.specs.Lists.{tab}
-use Rattle.expansion.specs.inner.Transposed.{valueIn}
-use Rattle.field.proofs.Filling.{values-turn}
-use Rattle.expansion.proofs.Transposing.{values-end}
+use Rattle.expansion.specs.inner.Transposed.{value_in}
+use Rattle.field.proofs.Filling.{values_turn}
+use Rattle.expansion.proofs.Transposing.{values_end}
 use Rattle.expansion.proofs.expansion.values.Statement.{statement}
 use Rattle.expansion.proofs.expansion.values.Tie as tie
 
 abbrev invariant-loop : tie.invariant-loop
-invariant-loop t q k n v₀ a₀ v a = ((a % 16 ≡ 0) × (a ≤ 64)) × ((length v ≡ length v₀) × (v ≡ tab (valueIn k t q n) a ++ drop a v₀))
+invariant-loop t q k n v₀ a₀ v a = ((a % 16 ≡ 0) × (a ≤ 64)) × ((length v ≡ length v₀) × (v ≡ tab (value_in k t q n) a ++ drop a v₀))
 
 abbrev decreases-loop : tie.decreases-loop
 decreases-loop t q k n v₀ a₀ v a = 64 - a
@@ -53,7 +53,7 @@ loop-again c =
     let at-loop = at-rows-from.before.before.before in
     let start = at-loop.before.before.before in
     let l : length (take (at-loop.loop.a + 16 - at-loop.loop.a) (drop at-loop.loop.a at-loop.loop.v)) ≡ 16 = simp (length-take, length-drop) (omega (arith, start.requires.0.most)) in
-    ((omega arith, omega (arith, start.requires.0.most)), (omega arith, values-turn (valueIn start.args.k start.args.t.now start.args.q start.args.n) start.args.v.now at-loop.loop.v at-loop.loop.a (length (take (at-loop.loop.a + 16 - at-loop.loop.a) (drop at-loop.loop.a at-loop.loop.v))) (at-loop.loop.a + 16) (omega arith) at-loop.loop.invariant.1.1 at-rows-from.rows-from.ensures))
+    ((omega arith, omega (arith, start.requires.0.most)), (omega arith, values_turn (value_in start.args.k start.args.t.now start.args.q start.args.n) start.args.v.now at-loop.loop.v at-loop.loop.a (length (take (at-loop.loop.a + 16 - at-loop.loop.a) (drop at-loop.loop.a at-loop.loop.v))) (at-loop.loop.a + 16) (omega arith) at-loop.loop.invariant.1.1 at-rows-from.rows-from.ensures))
 
 same_length : tie.Need-same-length invariant-loop decreases-loop
 same_length c = search rules
@@ -62,7 +62,7 @@ returns : tie.Need-returns invariant-loop decreases-loop
 returns c =
     let at-loop = c.before in
     let start = at-loop.before.before.before in
-    values-end (valueIn start.args.k start.args.t.now start.args.q start.args.n) start.args.q at-loop.loop.a start.args.v.now (omega arith) at-loop.loop.invariant.1.1
+    values_end (value_in start.args.k start.args.t.now start.args.q start.args.n) start.args.q at-loop.loop.a start.args.v.now (omega arith) at-loop.loop.invariant.1.1
 
 pub values-spec : {M : Type 1} → statement M
 values-spec =

@@ -5,14 +5,14 @@ use native.Mathlib.Omega.{arith}
 use native.Mathlib.Numerals.{add-one}
 use borrow.Author.Rules.{rules}
 use lib.ListN.{length, get_or}
-use Rattle.trellis.specs.Lists.{allTo}
-use Rattle.trellis.specs.Record.{pairsOk}
+use Rattle.trellis.specs.Lists.{all_to}
+use Rattle.trellis.specs.Record.{pairs_ok}
 use Rattle.expansion.proofs.Forming.{group-room}
 use Rattle.expansion.proofs.form.groups_ok.Statement.{statement}
 use Rattle.expansion.proofs.form.groups_ok.Tie as tie
 
 abbrev invariant-loop : tie.invariant-loop
-invariant-loop r d n k g ok₀ b₀ ok b = (b ≤ n) × (ok ≡ allTo (λ b. pairsOk k r (d + (1 + 2 * k) * b + 1) (get_or r (d + (1 + 2 * k) * b) 0) d 0) b)
+invariant-loop r d n k g ok₀ b₀ ok b = (b ≤ n) × (ok ≡ all_to (λ b. pairs_ok k r (d + (1 + 2 * k) * b + 1) (get_or r (d + (1 + 2 * k) * b) 0) d 0) b)
 
 abbrev decreases-loop : tie.decreases-loop
 decreases-loop r d n k g ok₀ b₀ ok b = n - b

@@ -6,13 +6,13 @@ use borrow.Author.Rules.{rules}
 use lib.ListN.{get_or}
 use mathlib.Core.Bool.{false}
 use Rattle.trellis.specs.Lists.{pick}
-use Rattle.trellis.specs.Record.{pairsOk}
-use Rattle.expansion.proofs.Forming.{last-test, pairs-more, pairs-none}
+use Rattle.trellis.specs.Record.{pairs_ok}
+use Rattle.expansion.proofs.Forming.{last_test, pairs-more, pairs-none}
 use Rattle.expansion.proofs.form.pairs_ok.Statement.{statement}
 use Rattle.expansion.proofs.form.pairs_ok.Tie as tie
 
 abbrev invariant-loop : tie.invariant-loop
-invariant-loop r at d k e ok₀ low₀ next₀ j₀ ok low next j = (j ≤ k) × ((next ≡ at + 1 + 2 * j) × (pairsOk k r (at + 1) e d 0 ≡ pick ok (pairsOk (k - j) r next e d low) false))
+invariant-loop r at d k e ok₀ low₀ next₀ j₀ ok low next j = (j ≤ k) × ((next ≡ at + 1 + 2 * j) × (pairs_ok k r (at + 1) e d 0 ≡ pick ok (pairs_ok (k - j) r next e d low) false))
 
 abbrev decreases-loop : tie.decreases-loop
 decreases-loop r at d k e ok₀ low₀ next₀ j₀ ok low next j = k - j
@@ -76,7 +76,7 @@ returns : tie.Need-returns invariant-loop decreases-loop
 returns c =
     let l = c.before in
     let z : l.before.before.before.args.k - l.loop.j ≡ 0 = omega arith in
-    last-test l.loop.ok ∙ sym (l.loop.invariant.1.1 ∙ ap (λ b. pick l.loop.ok b false) (pairs-none _ _ _ _ _ _ z))
+    last_test l.loop.ok ∙ sym (l.loop.invariant.1.1 ∙ ap (λ b. pick l.loop.ok b false) (pairs-none _ _ _ _ _ _ z))
 
 pub pairs-ok-spec : {M : Type 1} → statement M
 pairs-ok-spec =

@@ -7,7 +7,7 @@ use borrow.Author.Tests.{not-true, not-false}
 use Rattle.trellis.specs.Rules.{size_of, most_of}
 use Rattle.trellis.proofs.Rules.{most-few}
 use Rattle.rules.specs.declared.Rule.{Rule}
-use Rattle.expansion.proofs.Forming.{form-length, form-shifts, form-groups}
+use Rattle.expansion.proofs.Forming.{form-length, form-shifts, form_groups}
 use Rattle.expansion.proofs.form.record_ok.Statement.{statement}
 use Rattle.expansion.proofs.form.record_ok.Tie as tie
 
@@ -77,7 +77,7 @@ returns-4 c =
     let at-if2 = at_size.before in
     let at-groups = at-if2.before.before in
     let start = at-groups.before.before in
-    form-groups start.args.first start.args.d start.args.r.now (ap (λ n. start.args.d + n) at-groups.groups.ensures) (omega (arith, at-if2.before.if1.false, at-if2.if2.false)) at_size.size.ensures.0 at-shifts-ok.shifts-ok.ensures (not-false _ at-if3.if3.false) (at-u8-to-usize.u8-to-usize.ensures.0 ∙ ap (λ (r : Rule). r.k) at-rule-of.rule-of.ensures) c.groups-ok.ensures
+    form_groups start.args.first start.args.d start.args.r.now (ap (λ n. start.args.d + n) at-groups.groups.ensures) (omega (arith, at-if2.before.if1.false, at-if2.if2.false)) at_size.size.ensures.0 at-shifts-ok.shifts-ok.ensures (not-false _ at-if3.if3.false) (at-u8-to-usize.u8-to-usize.ensures.0 ∙ ap (λ (r : Rule). r.k) at-rule-of.rule-of.ensures) c.groups-ok.ensures
 
 pub record-ok-spec : {M : Type 1} → statement M
 record-ok-spec =

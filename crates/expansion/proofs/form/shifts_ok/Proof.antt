@@ -5,13 +5,13 @@ use native.Mathlib.Omega.{arith}
 use native.Mathlib.Numerals.{add-one}
 use borrow.Author.Rules.{rules}
 use lib.ListN.{get_or}
-use Rattle.trellis.specs.Lists.{allTo}
+use Rattle.trellis.specs.Lists.{all_to}
 use lib.Dec.{ltb}
 use Rattle.expansion.proofs.form.shifts_ok.Statement.{statement}
 use Rattle.expansion.proofs.form.shifts_ok.Tie as tie
 
 abbrev invariant-loop : tie.invariant-loop
-invariant-loop r d q ok₀ n₀ ok n = (n ≤ d) × (ok ≡ allTo (λ n. ltb (get_or r n 0) q) n)
+invariant-loop r d q ok₀ n₀ ok n = (n ≤ d) × (ok ≡ all_to (λ n. ltb (get_or r n 0) q) n)
 
 abbrev decreases-loop : tie.decreases-loop
 decreases-loop r d q ok₀ n₀ ok n = d - n

@@ -1,7 +1,7 @@
 -- Bit p of the shifted factor decides between the two cases of the definition.
 use borrow.Author.Rules.{rules}
 use Rattle.trellis.proofs.Recurrence.{doubled-small}
-use Rattle.field.proofs.Arithmetic.{doubled-set, doubled-clear}
+use Rattle.field.proofs.Arithmetic.{doubled-set, doubled_clear}
 use Rattle.field.proofs.field.double.Statement.{statement}
 use Rattle.field.proofs.field.double.Tie as tie
 
@@ -20,7 +20,7 @@ returns c =
 returns-2 : tie.Need-returns-2
 returns-2 c =
     let s = c.before.before in
-    let e = doubled-clear s.args.p s.args.a s.requires.1.0 s.requires.1.1 c.if1.false in
+    let e = doubled_clear s.args.p s.args.a s.requires.1.0 s.requires.1.1 c.if1.false in
     (e, rw e (doubled-small s.args.p s.args.a s.requires.0 s.requires.1.0 s.requires.1.1))
 
 pub double-spec : {M : Type 1} → statement M

@@ -5,7 +5,7 @@ use native.Mathlib.Omega.{arith}
 use borrow.Author.Rules.{rules}
 use Rattle.trellis.specs.Field.{xor, product}
 use Rattle.trellis.proofs.Xor.{xor-zero}
-use Rattle.trellis.proofs.Recurrence.{product-turn, product-done}
+use Rattle.trellis.proofs.Recurrence.{product_turn, product-done}
 use Rattle.field.proofs.field.times.Statement.{statement}
 use Rattle.field.proofs.field.times.Tie as tie
 
@@ -37,7 +37,7 @@ loop-again c =
       c.double.ensures.1,
       (
         omega (arith, l.loop.invariant.1.0),
-        sym (product-turn s.args.p l.loop.factor l.loop.left l.loop.sum l.loop.invariant.1.0 c.double.ensures.0 c.before.plus.ensures) ∙ l.loop.invariant.1.1,
+        sym (product_turn s.args.p l.loop.factor l.loop.left l.loop.sum l.loop.invariant.1.0 c.double.ensures.0 c.before.plus.ensures) ∙ l.loop.invariant.1.1,
       ),
     )
 

@@ -8,7 +8,7 @@ use lib.ListN.{length, drop, length-set}
 use Rattle.trellis.specs.Lists.{tab}
 use Rattle.trellis.specs.Field.{product}
 use Rattle.trellis.proofs.Recurrence.{size_64}
-use Rattle.field.proofs.Filling.{products-turn, products-end}
+use Rattle.field.proofs.Filling.{products_turn, products_end}
 use Rattle.field.proofs.products.by_bits.Statement.{statement}
 use Rattle.field.proofs.products.by_bits.Tie as tie
 
@@ -67,7 +67,7 @@ loop-again c =
       omega (arith, more),
       (
         (simp length-set (omega (arith, full)), l.loop.invariant.1.0.1),
-        products-turn s.args.p s.args.h l.loop.x _ l.loop.row s.requires.0.high more l.loop.invariant.1.0.1 d1.double.ensures.0 d2.double2.ensures.0 d3.double3.ensures.0 d4.double4.ensures.0
+        products_turn s.args.p s.args.h l.loop.x _ l.loop.row s.requires.0.high more l.loop.invariant.1.0.1 d1.double.ensures.0 d2.double2.ensures.0 d3.double3.ensures.0 d4.double4.ensures.0
             d5.double5.ensures.0 l.loop.invariant.1.1 c.of-bits.ensures,
       ),
     )
@@ -79,7 +79,7 @@ returns : tie.Need-returns invariant-loop decreases-loop
 returns c =
     let l = c.before in
     let s = l.before.before.before.before.before.before.before in
-    products-end (product s.args.p s.args.h) l.loop.x (2 ^ s.args.p) _ l.loop.row (omega arith) l.loop.invariant.1.0.1 l.loop.invariant.1.1
+    products_end (product s.args.p s.args.h) l.loop.x (2 ^ s.args.p) _ l.loop.row (omega arith) l.loop.invariant.1.0.1 l.loop.invariant.1.1
 
 pub by-bits-spec : {M : Type 1} → statement M
 by-bits-spec =

@@ -10,7 +10,7 @@ use lib.Dec.{eqb}
 use lib.ListN.{length, drop, length-take, length-drop}
 use Rattle.trellis.specs.Lists.{tab}
 use Rattle.trellis.specs.Field.{product}
-use Rattle.field.proofs.Filling.{four-divides, fours-turn, products-end}
+use Rattle.field.proofs.Filling.{four_divides, fours_turn, products_end}
 use Rattle.field.proofs.products.by_fours.Statement.{statement}
 use Rattle.field.proofs.products.by_fours.Tie as tie
 
@@ -43,12 +43,12 @@ part-put-four-start c = search rules
 part-put-four-end : tie.Need-slice-bounds-put-four-end invariant-loop decreases-loop
 part-put-four-end c =
     let start = c.before.before.before.before.before in
-    omega (arith, four-divides start.args.p start.requires.0.low)
+    omega (arith, four_divides start.args.p start.requires.0.low)
 
 put-four-requires : tie.Need-put-four-requires invariant-loop decreases-loop
 put-four-requires c κs =
     let start = c.before.before.before.before.before.before in
-    simp (length-take, length-drop) (omega (arith, four-divides start.args.p start.requires.0.low))
+    simp (length-take, length-drop) (omega (arith, four_divides start.args.p start.requires.0.low))
 
 loop-less : tie.Need-loop-smaller invariant-loop decreases-loop
 loop-less c = search rules
@@ -62,12 +62,12 @@ loop-again c =
     let s = d1.before.before in
     let a = s.args in
     let x = l.loop.x in
-    let more : x + 4 ≤ 2 ^ a.p = omega (arith, four-divides a.p s.requires.0.low) in (
+    let more : x + 4 ≤ 2 ^ a.p = omega (arith, four_divides a.p s.requires.0.low) in (
       (omega arith, omega arith),
       (
         (search rules, l.loop.invariant.1.0.1),
         (
-          fours-turn a.p a.h x _ l.loop.row d1.double.ensures.0 d2.double2.ensures.0 l.loop.invariant.0.1 (omega arith)
+          fours_turn a.p a.h x _ l.loop.row d1.double.ensures.0 d2.double2.ensures.0 l.loop.invariant.0.1 (omega arith)
               more l.loop.invariant.1.1.0 l.loop.invariant.1.1.1 at_call.put_four.ensures,
           sym (simp (ne_eqb (x + 4) 0 (omega arith))),
         ),
@@ -82,7 +82,7 @@ returns c =
     let l = c.before in
     let s = l.before.before.before.before in
     let a = s.args in
-    products-end (product a.p a.h) l.loop.x (2 ^ a.p) _ l.loop.row (omega arith) l.loop.invariant.1.0.1
+    products_end (product a.p a.h) l.loop.x (2 ^ a.p) _ l.loop.row (omega arith) l.loop.invariant.1.0.1
     l.loop.invariant.1.1.0
 
 pub by-fours-spec : {M : Type 1} → statement M

@@ -8,7 +8,7 @@ use lib.ListN.{length, drop, length-take, length-drop}
 use Rattle.trellis.specs.Lists.{blocks}
 use Rattle.trellis.proofs.Loops.{block-end}
 use Rattle.field.specs.Answers.{row_of}
-use Rattle.field.proofs.Filling.{row-full, rows-turn, factor-at, rows-room}
+use Rattle.field.proofs.Filling.{row-full, rows_turn, factor_at, rows_room}
 use native.Mathlib.Nat.{zero-mul}
 use Rattle.field.proofs.products.each_row.Statement.{statement}
 use Rattle.field.proofs.products.each_row.Tie as tie
@@ -28,13 +28,13 @@ mul-a : tie.Need-overflow-mul-a invariant-loop decreases-loop
 mul-a c =
     let at-loop = c.before in
     let start = at-loop.before.before.before in
-    omega (arith, (rows-room start.requires.0 start.args.q start.requires.1.0 at-loop.loop.n (omega arith)).0)
+    omega (arith, (rows_room start.requires.0 start.args.q start.requires.1.0 at-loop.loop.n (omega arith)).0)
 
 add-e : tie.Need-overflow-add-e invariant-loop decreases-loop
 add-e c =
     let at-loop = c.before in
     let start = at-loop.before.before.before in
-    omega (arith, (rows-room start.requires.0 start.args.q start.requires.1.0 at-loop.loop.n (omega arith)).0)
+    omega (arith, (rows_room start.requires.0 start.args.q start.requires.1.0 at-loop.loop.n (omega arith)).0)
 
 shared-slice-read-row : tie.Need-shared-slice-read-row invariant-loop decreases-loop
 shared-slice-read-row c = search rules
@@ -49,13 +49,13 @@ part-row-end : tie.Need-slice-bounds-row-end invariant-loop decreases-loop
 part-row-end c =
     let at-loop = c.before.before in
     let start = at-loop.before.before.before in
-    omega (arith, (rows-room start.requires.0 start.args.q start.requires.1.0 at-loop.loop.n (omega arith)).1)
+    omega (arith, (rows_room start.requires.0 start.args.q start.requires.1.0 at-loop.loop.n (omega arith)).1)
 
 row-requires : tie.Need-row-requires invariant-loop decreases-loop
 row-requires c κs =
     let at-loop = c.before.before.before in
     let start = at-loop.before.before.before in
-    (factor-at start.requires.0 at-loop.loop.n (omega arith), simp (length-take, length-drop) (omega (arith, (rows-room start.requires.0 start.args.q start.requires.1.0 at-loop.loop.n (omega arith)).1, start.requires.1.0)))
+    (factor_at start.requires.0 at-loop.loop.n (omega arith), simp (length-take, length-drop) (omega (arith, (rows_room start.requires.0 start.args.q start.requires.1.0 at-loop.loop.n (omega arith)).1, start.requires.1.0)))
 
 add-n : tie.Need-overflow-add-n invariant-loop decreases-loop
 add-n c = search rules
@@ -68,7 +68,7 @@ loop-again c =
     let at_row = c.before.before in
     let at-loop = at_row.before.before.before.before in
     let start = at-loop.before.before.before in
-    (omega arith, (search rules, rows-turn start.args.p start.args.weights.now at-loop.loop.n start.args.q start.args.out.now at-loop.loop.out start.requires.1.0 at-loop.loop.invariant.1.1 at_row.row.ensures))
+    (omega arith, (search rules, rows_turn start.args.p start.args.weights.now at-loop.loop.n start.args.q start.args.out.now at-loop.loop.out start.requires.1.0 at-loop.loop.invariant.1.1 at_row.row.ensures))
 
 same_length : tie.Need-same-length invariant-loop decreases-loop
 same_length c = search rules

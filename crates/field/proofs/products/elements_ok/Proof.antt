@@ -6,12 +6,12 @@ use native.Mathlib.Omega.{arith}
 use borrow.Author.Rules.{rules}
 use lib.Dec.{ltb}
 use lib.ListN.{length, get_or}
-use Rattle.trellis.specs.Lists.{allTo}
+use Rattle.trellis.specs.Lists.{all_to}
 use Rattle.field.proofs.products.elements_ok.Statement.{statement}
 use Rattle.field.proofs.products.elements_ok.Tie as tie
 
 abbrev invariant-loop : tie.invariant-loop
-invariant-loop q weights ok₀ i₀ ok i = (i ≤ length weights) × (ok ≡ allTo (λ j. ltb (get_or weights j 0) q) i)
+invariant-loop q weights ok₀ i₀ ok i = (i ≤ length weights) × (ok ≡ all_to (λ j. ltb (get_or weights j 0) q) i)
 
 abbrev decreases-loop : tie.decreases-loop
 decreases-loop q weights ok₀ i₀ ok i = length weights - i

@@ -1,6 +1,6 @@
 -- Each callee's equation in turn.
 use borrow.Author.Rules.{rules}
-use Rattle.field.proofs.Filling.{bits-six}
+use Rattle.field.proofs.Filling.{bits_six}
 use Rattle.field.proofs.products.of_bits.Statement.{statement}
 use Rattle.field.proofs.products.of_bits.Tie as tie
 
@@ -27,7 +27,7 @@ returns c =
     let at_a = c.before.before in
     let at_f = at_a.before in
     let s = at_f.before.before.before.args in
-    bits-six s.a s.b s.c s.d s.e s.f s.x at_a.added4.ensures c.before.added5.ensures c.added6.ensures at_f.before.before.added.ensures at_f.before.added2.ensures at_f.added3.ensures
+    bits_six s.a s.b s.c s.d s.e s.f s.x at_a.added4.ensures c.before.added5.ensures c.added6.ensures at_f.before.before.added.ensures at_f.before.added2.ensures at_f.added3.ensures
 
 pub of-bits-spec : {M : Type 1} → statement M
 of-bits-spec =

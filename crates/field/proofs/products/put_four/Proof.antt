@@ -1,7 +1,7 @@
 -- Four stores.
 use borrow.Author.Rules.{rules}
 use Rattle.trellis.specs.Field.{xor}
-use Rattle.field.proofs.Filling.{set-four}
+use Rattle.field.proofs.Filling.{set_four}
 use Rattle.field.proofs.products.put_four.Statement.{statement}
 use Rattle.field.proofs.products.put_four.Tie as tie
 
@@ -22,7 +22,7 @@ same_length c = search rules
 
 returns : tie.Need-returns
 unfolding xor
-returns c = set-four c.args.row.now _ _ _ _ c.requires
+returns c = set_four c.args.row.now _ _ _ _ c.requires
 
 pub put-four-spec : {M : Type 1} → statement M
 put-four-spec =

@@ -5,8 +5,8 @@ use native.Mathlib.Omega.{arith}
 use borrow.Author.Rules.{rules}
 use lib.ListN.{length}
 use Rattle.field.proofs.Blocks.{mul_small}
-use Rattle.field.proofs.RowsCall.{fits_low, fits-high, fits-many, fits-room, fits_last}
-use Rattle.field.specs.Answers.{elementsOk}
+use Rattle.field.proofs.RowsCall.{fits_low, fits-high, fits_many, fits-room, fits_last}
+use Rattle.field.specs.Answers.{elements_ok}
 use Rattle.field.proofs.products.rows_fit.Statement.{statement}
 use Rattle.field.proofs.products.rows_fit.Tie as tie
 
@@ -26,7 +26,7 @@ returns-3 c =
     let at-if2 = c.before in
     let at-if1 = at-if2.before in
     let start = at-if1.before.before in
-    fits-many start.args.p start.args.weights.now start.args.room at-if1.if1.false at-if2.if2.false c.if3.true
+    fits_many start.args.p start.args.weights.now start.args.room at-if1.if1.false at-if2.if2.false c.if3.true
 
 size-requires : tie.Need-size-requires
 size-requires c κs = search rules
@@ -62,7 +62,7 @@ returns-5 c =
     let at-if2 = at-if3.before in
     let at-if1 = at-if2.before in
     let start = at-if1.before.before in
-    c.elements-ok.ensures ∙ ap (λ q. elementsOk q start.args.weights.now) at_size.size.ensures.0 ∙ fits_last start.args.p start.args.weights.now start.args.room at-if1.if1.false at-if2.if2.false at-if3.if3.false (at-if4.if4.false ∙ (ap (λ q. length start.args.weights.now * q) (at-u8-to-usize.u8-to-usize.ensures.0 ∙ at_size.size.ensures.0)))
+    c.elements-ok.ensures ∙ ap (λ q. elements_ok q start.args.weights.now) at_size.size.ensures.0 ∙ fits_last start.args.p start.args.weights.now start.args.room at-if1.if1.false at-if2.if2.false at-if3.if3.false (at-if4.if4.false ∙ (ap (λ q. length start.args.weights.now * q) (at-u8-to-usize.u8-to-usize.ensures.0 ∙ at_size.size.ensures.0)))
 
 pub rows-fit-spec : {M : Type 1} → statement M
 rows-fit-spec =

@@ -5,13 +5,13 @@ use native.Mathlib.Numerals.{add-one}
 use native.Mathlib.Omega.{arith}
 use borrow.Author.Rules.{rules}
 use lib.ListN.{length, get_or}
-use Rattle.trellis.specs.Lists.{allTo}
-use Rattle.field.specs.Answers.{weightOk}
+use Rattle.trellis.specs.Lists.{all_to}
+use Rattle.field.specs.Answers.{weight_ok}
 use Rattle.field.proofs.refusals.weights_ok.Statement.{statement}
 use Rattle.field.proofs.refusals.weights_ok.Tie as tie
 
 abbrev invariant-loop : tie.invariant-loop
-invariant-loop q weights ok₀ i₀ ok i = (i ≤ length weights) × (ok ≡ allTo (λ j. weightOk q (get_or weights j 0)) i)
+invariant-loop q weights ok₀ i₀ ok i = (i ≤ length weights) × (ok ≡ all_to (λ j. weight_ok q (get_or weights j 0)) i)
 
 abbrev decreases-loop : tie.decreases-loop
 decreases-loop q weights ok₀ i₀ ok i = length weights - i

@@ -7,8 +7,8 @@ use borrow.Author.Rules.{rules}
 use lib.ListN.{length, drop, length-set}
 use Rattle.trellis.specs.Lists.{tab}
 use Rattle.trellis.specs.Field.{product}
-use Rattle.field.proofs.Filling.{products-end}
-use Rattle.field.proofs.Tables.{table-length, row-turn}
+use Rattle.field.proofs.Filling.{products_end}
+use Rattle.field.proofs.Tables.{table-length, row_turn}
 use Rattle.field.proofs.table.row_from.Statement.{statement}
 use Rattle.field.proofs.table.row_from.Tie as tie
 
@@ -52,7 +52,7 @@ loop-again c =
       omega arith,
       (
         (simp length-set (omega arith), omega arith),
-        row-turn s.args.table.now _ at-loop.loop.out s.args.h at-loop.loop.x s.requires.0 s.requires.1.0 (omega arith) (omega arith) at-loop.before.u8-to-usize.ensures.0 at-loop.loop.invariant.1.1,
+        row_turn s.args.table.now _ at-loop.loop.out s.args.h at-loop.loop.x s.requires.0 s.requires.1.0 (omega arith) (omega arith) at-loop.before.u8-to-usize.ensures.0 at-loop.loop.invariant.1.1,
       ),
     )
 
@@ -64,7 +64,7 @@ returns c =
     let at-loop = c.before in
     let s = at-loop.before.before.before.before in
     let e : at-loop.loop.x ≡ 64 = omega arith in
-    products-end (product 6 s.args.h) at-loop.loop.x 64 _ at-loop.loop.out e at-loop.loop.invariant.1.0.1 at-loop.loop.invariant.1.1
+    products_end (product 6 s.args.h) at-loop.loop.x 64 _ at-loop.loop.out e at-loop.loop.invariant.1.0.1 at-loop.loop.invariant.1.1
 
 pub row-from-spec : {M : Type 1} → statement M
 row-from-spec = tie.close (tie.spec invariant-loop decreases-loop u8-to-usize-requires mul-base loop-holds add-out shared-slice-read-out slice-write-out add-x loop-less loop-again same_length returns)

@@ -8,7 +8,7 @@ use lib.ListN.{length, drop, length-take, length-drop}
 use Rattle.trellis.specs.Lists.{blocks}
 use Rattle.trellis.proofs.Loops.{block-end}
 use Rattle.field.specs.Answers.{row_of}
-use Rattle.field.proofs.Filling.{row-full, rows-turn, rows-room}
+use Rattle.field.proofs.Filling.{row-full, rows_turn, rows_room}
 use Rattle.field.proofs.table.rows_from.Statement.{statement}
 use Rattle.field.proofs.table.rows_from.Tie as tie
 
@@ -25,13 +25,13 @@ mul-a : tie.Need-overflow-mul-a invariant-loop decreases-loop
 mul-a c =
     let at-loop = c.before in
     let start = at-loop.before.before.before.before in
-    omega (arith, (rows-room {p = 6} start.requires.1.0 64 refl at-loop.loop.n (omega arith)).0)
+    omega (arith, (rows_room {p = 6} start.requires.1.0 64 refl at-loop.loop.n (omega arith)).0)
 
 add-e : tie.Need-overflow-add-e invariant-loop decreases-loop
 add-e c =
     let at-loop = c.before in
     let start = at-loop.before.before.before.before in
-    omega (arith, (rows-room {p = 6} start.requires.1.0 64 refl at-loop.loop.n (omega arith)).0)
+    omega (arith, (rows_room {p = 6} start.requires.1.0 64 refl at-loop.loop.n (omega arith)).0)
 
 shared-slice-read-row-from : tie.Need-shared-slice-read-row-from invariant-loop decreases-loop
 shared-slice-read-row-from c = search rules
@@ -46,13 +46,13 @@ part-row-from-end : tie.Need-slice-bounds-row-from-end invariant-loop decreases-
 part-row-from-end c =
     let at-loop = c.before.before in
     let start = at-loop.before.before.before.before in
-    omega (arith, (rows-room {p = 6} start.requires.1.0 64 refl at-loop.loop.n (omega arith)).1)
+    omega (arith, (rows_room {p = 6} start.requires.1.0 64 refl at-loop.loop.n (omega arith)).1)
 
 row-from-requires : tie.Need-row-from-requires invariant-loop decreases-loop
 row-from-requires c κs =
     let at-loop = c.before.before.before in
     let start = at-loop.before.before.before.before in
-    (start.requires.0, (start.requires.1.0.elements at-loop.loop.n (omega arith), simp (length-take, length-drop) (omega (arith, (rows-room {p = 6} start.requires.1.0 64 refl at-loop.loop.n (omega arith)).1))))
+    (start.requires.0, (start.requires.1.0.elements at-loop.loop.n (omega arith), simp (length-take, length-drop) (omega (arith, (rows_room {p = 6} start.requires.1.0 64 refl at-loop.loop.n (omega arith)).1))))
 
 add-n : tie.Need-overflow-add-n invariant-loop decreases-loop
 add-n c = search rules
@@ -65,7 +65,7 @@ loop-again c =
     let at-row-from = c.before.before in
     let at-loop = at-row-from.before.before.before.before in
     let start = at-loop.before.before.before.before in
-    (omega arith, (search rules, rows-turn 6 start.args.weights.now at-loop.loop.n 64 start.args.out.now at-loop.loop.out refl at-loop.loop.invariant.1.1 at-row-from.row_from.ensures))
+    (omega arith, (search rules, rows_turn 6 start.args.weights.now at-loop.loop.n 64 start.args.out.now at-loop.loop.out refl at-loop.loop.invariant.1.1 at-row-from.row_from.ensures))
 
 same_length : tie.Need-same-length invariant-loop decreases-loop
 same_length c = search rules

@@ -3,14 +3,14 @@ use mathlib.Core.Path.{sym}
 use Prim.Native.Nat.{◌-◌}
 use native.Mathlib.Omega.{arith}
 use borrow.Author.Rules.{rules}
-use Rattle.frame.specs.Answers.{lowCost}
-use Rattle.frame.proofs.Frames.{PassedTo, passed-all}
+use Rattle.frame.specs.Answers.{low_cost}
+use Rattle.frame.proofs.Frames.{PassedTo, passed_all}
 use Rattle.frame.proofs.Resuming.{low-more, low-not}
 use Rattle.frame.proofs.columns.low_costs.Statement.{statement}
 use Rattle.frame.proofs.columns.low_costs.Tie as tie
 
 abbrev invariant-loop : tie.invariant-loop
-invariant-loop costs w i₀ i = PassedTo (lowCost costs) w i
+invariant-loop costs w i₀ i = PassedTo (low_cost costs) w i
 
 abbrev decreases-loop : tie.decreases-loop
 decreases-loop costs w i₀ i = w - i
@@ -43,7 +43,7 @@ loop-again c =
     record { inside = omega arith; passed = low-more a.costs.now l.loop.i (omega arith) l.loop.invariant.passed }
 
 returns-2 : tie.Need-returns-2 invariant-loop decreases-loop
-returns-2 c = passed-all c.before.loop.invariant (omega arith)
+returns-2 c = passed_all c.before.loop.invariant (omega arith)
 
 pub low-costs-spec : {M : Type 1} → statement M
 low-costs-spec =

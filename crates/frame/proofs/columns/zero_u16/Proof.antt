@@ -1,6 +1,6 @@
 -- The column is the part of the list that is lent.
 use borrow.Author.Rules.{rules}
-use Rattle.frame.proofs.Frames.{zero-told}
+use Rattle.frame.proofs.Frames.{zero_told}
 use Rattle.frame.proofs.columns.zero_u16.Statement.{statement}
 use Rattle.frame.proofs.columns.zero_u16.Tie as tie
 
@@ -28,7 +28,7 @@ decide-u16-requires c κs = search rules
 returns : tie.Need-returns
 returns c =
     let a = c.before.before.before.before.args in
-    zero-told a.q a.c c.before.decide-u16.result.symbol a.costs.now c.before.decide-u16.ensures.0.0
+    zero_told a.q a.c c.before.decide-u16.result.symbol a.costs.now c.before.decide-u16.ensures.0.0
 
 pub zero-u16-spec : {M : Type 1} → statement M
 zero-u16-spec =

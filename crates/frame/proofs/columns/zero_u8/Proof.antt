@@ -1,6 +1,6 @@
 -- The column is the part of the list that is lent.
 use borrow.Author.Rules.{rules}
-use Rattle.frame.proofs.Frames.{zero-told}
+use Rattle.frame.proofs.Frames.{zero_told}
 use Rattle.frame.proofs.columns.zero_u8.Statement.{statement}
 use Rattle.frame.proofs.columns.zero_u8.Tie as tie
 
@@ -25,7 +25,7 @@ decide-u8-requires c κs = search rules
 returns : tie.Need-returns
 returns c =
     let a = c.before.before.before.before.args in
-    zero-told a.q a.c c.before.decide-u8.result.symbol a.frame.now c.before.decide-u8.ensures.0.0
+    zero_told a.q a.c c.before.decide-u8.result.symbol a.frame.now c.before.decide-u8.ensures.0.0
 
 pub zero-u8-spec : {M : Type 1} → statement M
 zero-u8-spec =

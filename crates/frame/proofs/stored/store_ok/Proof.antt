@@ -6,16 +6,16 @@ use borrow.Author.Rules.{rules}
 use borrow.Author.Tests.{not-true, not-false}
 use lib.ListN.{length}
 use mathlib.Core.Bool.{true}
-use Rattle.trellis.specs.Lists.{allTo}
-use Rattle.machine.specs.inner.Tables.{bytesBefore}
-use Rattle.frame.specs.Answers.{formedAt}
-use Rattle.frame.proofs.Resuming.{groups-small, place-more, form-short, form-more, form-not}
+use Rattle.trellis.specs.Lists.{all_to}
+use Rattle.machine.specs.inner.Tables.{bytes_before}
+use Rattle.frame.specs.Answers.{formed_at}
+use Rattle.frame.proofs.Resuming.{groups_small, place-more, form-short, form-more, form-not}
 use Rattle.frame.proofs.stored.store_ok.Statement.{statement}
 use Rattle.frame.proofs.stored.store_ok.Tie as tie
 
 abbrev invariant-loop : tie.invariant-loop
 invariant-loop first degrees count store groups m₀ place₀ m place =
-    (m ≤ count) × ((place ≡ bytesBefore first degrees m) × ((place ≤ length store) × ((groups ≤ 229369) × (allTo (formedAt first degrees store) m ≡ true))))
+    (m ≤ count) × ((place ≡ bytes_before first degrees m) × ((place ≤ length store) × ((groups ≤ 229369) × (all_to (formed_at first degrees store) m ≡ true))))
 
 abbrev decreases-loop : tie.decreases-loop
 decreases-loop first degrees count store groups m₀ place₀ m place = count - m
@@ -24,8 +24,8 @@ groups-requires : tie.Need-groups-requires invariant-loop decreases-loop
 groups-requires c κs = search rules
 
 loop-holds : tie.Need-loop-init invariant-loop decreases-loop
-unfolding bytesBefore
-loop-holds c = (omega arith, (refl, (omega arith, (omega (arith, c.groups.ensures, groups-small c.before.before.before.args.first), refl))))
+unfolding bytes_before
+loop-holds c = (omega arith, (refl, (omega arith, (omega (arith, c.groups.ensures, groups_small c.before.before.before.args.first), refl))))
 
 shared-slice-read-u8-to-usize : tie.Need-shared-slice-read-u8-to-usize invariant-loop decreases-loop
 shared-slice-read-u8-to-usize c = search rules
@@ -64,7 +64,7 @@ record-ok-requires c κs = search rules
 
 returns-2 : tie.Need-returns-2 invariant-loop decreases-loop
 returns-2 c =
-    let r = c.before.record-ok in
+    let r = c.before.record_ok_lem in
     let u = c.before.before.before.before in
     let l = u.before.before.before in
     let g = l.before in
@@ -79,7 +79,7 @@ loop-less c = search rules
 
 loop-again : tie.Need-loop-preserved invariant-loop decreases-loop
 loop-again c =
-    let r = c.before.record-ok in
+    let r = c.before.record_ok_lem in
     let u = c.before.before.before.before in
     let l = u.before.before.before in
     let g = l.before in
@@ -102,7 +102,7 @@ returns-3 c =
     let l = c.before in
     let a = l.before.before.before.before.args in
     let e : l.loop.m ≡ a.count = omega arith in
-    sym (ap (allTo (formedAt a.first a.degrees.now a.store.now)) (sym e) ∙ l.loop.invariant.1.1.1.1)
+    sym (ap (all_to (formed_at a.first a.degrees.now a.store.now)) (sym e) ∙ l.loop.invariant.1.1.1.1)
 
 pub store-ok-spec : {M : Type 1} → statement M
 store-ok-spec =

@@ -1,5 +1,5 @@
 use Rattle.trellis.specs.Lists.{tab}
-use Rattle.tables.proofs.Turns.{tab-turn, copied}
+use Rattle.tables.proofs.Turns.{tab_turn, copied}
 use mathlib.Core.Path.{◌≡◌, refl}
 use mathlib.Core.List.{◌++◌}
 use Prim.Native.Nat.{ℕ, ◌-◌, ◌≤◌}
@@ -34,7 +34,7 @@ loop-less c = search rules
 
 loop-again : tie.Need-loop-preserved invariant-loop decreases-loop
 loop-again c = let l = c.before.before in let a = l.before.args in
-    (omega arith, (simp length-set (omega arith), tab-turn (λ (k : ℕ). get_or a.t.now k 0) l.loop.e a.e.now l.loop.i (omega arith) l.loop.invariant.1.1 refl))
+    (omega arith, (simp length-set (omega arith), tab_turn (λ (k : ℕ). get_or a.t.now k 0) l.loop.e a.e.now l.loop.i (omega arith) l.loop.invariant.1.1 refl))
 
 same_length : tie.Need-same-length invariant-loop decreases-loop
 same_length c = search rules

@@ -4,7 +4,7 @@ use native.Mathlib.Omega.{arith}
 use borrow.Author.Rules.{rules}
 use lib.ListN.{length}
 use Rattle.groups.specs.inner.Pairs.{Best}
-use Rattle.groups.proofs.Listing.{best-first, best-turn}
+use Rattle.groups.proofs.Listing.{best_first, best_turn}
 use Rattle.groups.proofs.list.best.Statement.{statement}
 use Rattle.groups.proofs.list.best.Tie as tie
 
@@ -37,7 +37,7 @@ loop-holds c =
     let at-copy-block = c.before.before in
     let at-row-at = at-copy-block.before.before.before in
     let start = at-row-at.before.before.before in
-    ((omega arith, omega arith), (omega arith, best-first start.args.shape.l start.args.v _ _ start.args.sent.now at-row-at.row_at.ensures.0 refl at-copy-block.copy-block.ensures))
+    ((omega arith, omega arith), (omega arith, best_first start.args.shape.l start.args.v _ _ start.args.sent.now at-row-at.row_at.ensures.0 refl at-copy-block.copy-block.ensures))
 
 row-at-requires-2 : tie.Need-row-at-requires-2 invariant-loop decreases-loop
 row-at-requires-2 c κs = search rules
@@ -70,7 +70,7 @@ loop-again c =
     let at-loop = at-row-at2.before.before in
     let start = at-loop.before.before.before.before.before.before.before.before.before in (
       (omega arith, omega arith),
-      (omega arith, best-turn start.args.shape.l start.args.v at-loop.loop.n _ _ start.args.sent.now at-loop.loop.e at-row-at2.row-at2.ensures.0 refl at-loop.loop.invariant.1.1 at-raise-block.raise-block.ensures),
+      (omega arith, best_turn start.args.shape.l start.args.v at-loop.loop.n _ _ start.args.sent.now at-loop.loop.e at-row-at2.row-at2.ensures.0 refl at-loop.loop.invariant.1.1 at-raise-block.raise-block.ensures),
     )
 
 same_length : tie.Need-same-length invariant-loop decreases-loop

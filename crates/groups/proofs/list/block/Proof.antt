@@ -1,7 +1,7 @@
 use mathlib.Core.Path.{refl}
 use native.Mathlib.Omega.{arith}
 use borrow.Author.Rules.{rules}
-use Rattle.groups.proofs.Listing.{block-is}
+use Rattle.groups.proofs.Listing.{block_is}
 use Rattle.groups.proofs.list.block.Statement.{statement}
 use Rattle.groups.proofs.list.block.Tie as tie
 
@@ -50,7 +50,7 @@ returns c =
     let at-list = at-skipped.before.before.before in
     let at-best = at-list.before.before.before.before.before in
     let start = at-best.before.before.before.before in
-    block-is start.args.shape.k start.args.shape.l start.args.d start.args.v start.args.m _ start.args.sent.now _ _ _ at-skipped.skipped.ensures start.requires.1.1.1.0 at-best.best.ensures at-list.list.ensures
+    block_is start.args.shape.k start.args.shape.l start.args.d start.args.v start.args.m _ start.args.sent.now _ _ _ at-skipped.skipped.ensures start.requires.1.1.1.0 at-best.best.ensures at-list.list.ensures
     at-put-groups.put-groups.ensures
 
 pub block_spec : {M : Type 1} → statement M

@@ -1,5 +1,5 @@
-use Rattle.tables.proofs.Turns.{tab-turn, lanes_end}
-use Rattle.tables.specs.inner.Lanes.{lowAt}
+use Rattle.tables.proofs.Turns.{tab_turn, lanes_end}
+use Rattle.tables.specs.inner.Lanes.{low_at}
 use Rattle.trellis.specs.Lists.{tab}
 use mathlib.Core.Path.{◌≡◌}
 use mathlib.Core.List.{◌++◌}
@@ -14,7 +14,7 @@ use Rattle.groups.proofs.list.chosen.Lts as lts
 use Rattle.groups.proofs.list.low.Reads as low_reads
 
 abbrev invariant-loop : tie.invariant-loop
-invariant-loop s e x y t₀ i₀ t i = (i ≤ 16) × ((length t ≡ length t₀) × (t ≡ tab (lowAt s e x y) i ++ drop i t₀))
+invariant-loop s e x y t₀ i₀ t i = (i ≤ 16) × ((length t ≡ length t₀) × (t ≡ tab (low_at s e x y) i ++ drop i t₀))
 
 abbrev decreases-loop : tie.decreases-loop
 decreases-loop s e x y t₀ i₀ t i = 16 - i
@@ -48,14 +48,14 @@ loop-less c = search rules
 
 loop-again : tie.Need-loop-preserved invariant-loop decreases-loop
 loop-again c = let l = c.before.before.before.before.before.before in let a = c.before.before.before.before.before.before.before.before.before.before.before.before.args in
-    (omega arith, (simp length-set (omega arith), tab-turn (lowAt a.s.now a.e.now a.x.now a.y.now) l.loop.t a.t.now l.loop.i (omega arith) l.loop.invariant.1.1 c.low.ensures))
+    (omega arith, (simp length-set (omega arith), tab_turn (low_at a.s.now a.e.now a.x.now a.y.now) l.loop.t a.t.now l.loop.i (omega arith) l.loop.invariant.1.1 c.low.ensures))
 
 same_length : tie.Need-same-length invariant-loop decreases-loop
 same_length c = search rules
 
 returns : tie.Need-returns invariant-loop decreases-loop
 returns c = let l = c.before in let a = c.before.before.before.before.before.before.before.args in
-    lanes_end (lowAt a.s.now a.e.now a.x.now a.y.now) l.loop.t a.t.now l.loop.i l.loop.invariant.1.1 (omega arith) (omega arith)
+    lanes_end (low_at a.s.now a.e.now a.x.now a.y.now) l.loop.t a.t.now l.loop.i l.loop.invariant.1.1 (omega arith) (omega arith)
 
 pub chosen-spec : {M : Type 1} → statement M
 chosen-spec =

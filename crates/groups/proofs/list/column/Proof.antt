@@ -6,7 +6,7 @@ use borrow.Author.Rules.{rules}
 use lib.ListN.{drop, get_or, length-take}
 use Rattle.tables.specs.inner.Lanes.{lanes}
 use Rattle.tables.proofs.Turns.{lanes-length, lanes_at}
-use Rattle.groups.proofs.Listing.{push-in}
+use Rattle.groups.proofs.Listing.{push_in}
 use Rattle.groups.proofs.list.column.Statement.{statement}
 use Rattle.groups.proofs.list.column.Tie as tie
 
@@ -45,9 +45,9 @@ returns c =
     let at_copy = at_push.before.before.before.before.before in
     let at_fill_lem = at_copy.before.before.before.before in
     let start = at_fill_lem.before.before.before.before.before.before in (
-      push-in start.args.k start.args.s.now start.args.e.now start.args.columns.now (lanes (λ (i : ℕ). start.args.n)) (λ (i : ℕ). start.args.n) (lanes-length (λ (i : ℕ). start.args.n)) (λ i h. lanes_at (λ (i : ℕ). start.args.n) i h)
+      push_in start.args.k start.args.s.now start.args.e.now start.args.columns.now (lanes (λ (i : ℕ). start.args.n)) (λ (i : ℕ). start.args.n) (lanes-length (λ (i : ℕ). start.args.n)) (λ i h. lanes_at (λ (i : ℕ). start.args.n) i h)
           (ap (λ y. y ++ drop 16 start.args.columns.now) at_fill_lem.fill.ensures) at_push.push.ensures.0,
-      push-in start.args.k start.args.s.now start.args.e.now start.args.rests.now start.args.s.now (λ i. get_or start.args.s.now i 0) start.requires.0.0 (λ i h. refl)
+      push_in start.args.k start.args.s.now start.args.e.now start.args.rests.now start.args.s.now (λ i. get_or start.args.s.now i 0) start.requires.0.0 (λ i h. refl)
           (ap (λ y. y ++ drop 16 start.args.rests.now) at_copy.copy.ensures) at_push.push.ensures.1,
     )
 

@@ -5,7 +5,7 @@ use native.Mathlib.Omega.{arith}
 use borrow.Author.Rules.{rules}
 use lib.ListN.{length, drop, length-set}
 use Rattle.trellis.specs.Lists.{tab}
-use Rattle.tables.proofs.Turns.{tab-turn, lanes_end}
+use Rattle.tables.proofs.Turns.{tab_turn, lanes_end}
 use Rattle.groups.proofs.list.fill.Statement.{statement}
 use Rattle.groups.proofs.list.fill.Tie as tie
 
@@ -32,7 +32,7 @@ loop-again c =
     let at-loop = c.before in
     let start = at-loop.before in
     let a = start.args in
-    (omega arith, (simp length-set (omega arith), tab-turn (λ (j : ℕ). a.x) at-loop.loop.t a.t.now at-loop.loop.i (omega arith) at-loop.loop.invariant.1.1 refl))
+    (omega arith, (simp length-set (omega arith), tab_turn (λ (j : ℕ). a.x) at-loop.loop.t a.t.now at-loop.loop.i (omega arith) at-loop.loop.invariant.1.1 refl))
 
 same_length : tie.Need-same-length invariant-loop decreases-loop
 same_length c = search rules

@@ -9,7 +9,7 @@ use Rattle.tables.proofs.Ranges.{fewer-left}
 use Rattle.trellis.specs.Lists.{blocks}
 use Rattle.groups.specs.inner.Pairs.{group_of}
 use Rattle.tables.proofs.Parts.{fill_start, fill_end}
-use Rattle.groups.proofs.Listing.{group-length, span-length, groups-turn, rows_of}
+use Rattle.groups.proofs.Listing.{group-length, span_length, groups_turn, rows_of}
 use Rattle.groups.proofs.list.groups_in.Statement.{statement}
 use Rattle.groups.proofs.list.groups_in.Tie as tie
 
@@ -91,7 +91,7 @@ block-requires c κs =
           start.requires.1.0.1.1,
           (
             omega (arith, at-written.written.ensures, at-written2.written2.ensures, at-loop.loop.invariant.0),
-            span-length at-written.written.result at-written2.written2.result (start.args.shape.k * 2 + 1) _ _ at-loop.loop.out (omega (arith, at-written.written.ensures, at-written2.written2.ensures)) at_Edge.edge.ensures.0 at-edge2.edge2.ensures.0 (omega (arith, at-edge2.edge2.ensures, start.requires.1.1, at-loop.loop.invariant.1.0)),
+            span_length at-written.written.result at-written2.written2.result (start.args.shape.k * 2 + 1) _ _ at-loop.loop.out (omega (arith, at-written.written.ensures, at-written2.written2.ensures)) at_Edge.edge.ensures.0 at-edge2.edge2.ensures.0 (omega (arith, at-edge2.edge2.ensures, start.requires.1.1, at-loop.loop.invariant.1.0)),
           ),
         ),
       ),
@@ -117,7 +117,7 @@ loop-again c =
     let at-loop = at-written.before.before in
     let start = at-loop.before.before.before.before in (
       (omega arith, omega arith),
-      groups-turn (group_of start.args.shape.l start.args.shape.k start.args.sent.now start.args.d) (start.args.shape.k * 2 + 1) (group-length start.args.shape.k start.args.shape.l start.args.d start.args.sent.now) _ at-loop.loop.out start.args.shape.q at-loop.loop.v at-written.written.result at-written2.written2.result _ _ (omega arith) at-written.written.ensures at-written2.written2.ensures at_Edge.edge.ensures.0 at-edge2.edge2.ensures.0 start.requires.1.1 at-loop.loop.invariant.1.1 at_block.block.ensures,
+      groups_turn (group_of start.args.shape.l start.args.shape.k start.args.sent.now start.args.d) (start.args.shape.k * 2 + 1) (group-length start.args.shape.k start.args.shape.l start.args.d start.args.sent.now) _ at-loop.loop.out start.args.shape.q at-loop.loop.v at-written.written.result at-written2.written2.result _ _ (omega arith) at-written.written.ensures at-written2.written2.ensures at_Edge.edge.ensures.0 at-edge2.edge2.ensures.0 start.requires.1.1 at-loop.loop.invariant.1.1 at_block.block.ensures,
     )
 
 same_length : tie.Need-same-length invariant-loop decreases-loop

@@ -4,7 +4,7 @@ use native.Mathlib.Omega.{arith}
 use borrow.Author.Rules.{rules}
 use lib.ListN.{length}
 use Rattle.groups.specs.inner.Pairs.{Listed}
-use Rattle.groups.proofs.Listing.{listed-none, listed-turn}
+use Rattle.groups.proofs.Listing.{listed_none, listed_turn}
 use Rattle.groups.proofs.list.list.Statement.{statement}
 use Rattle.groups.proofs.list.list.Tie as tie
 
@@ -21,7 +21,7 @@ loop-holds c =
       omega arith,
       (
         (ap length start.requires.1.1.1.0, ap length start.requires.1.1.1.1),
-        rw z (listed-none start.args.shape.k start.args.shape.l start.args.d start.args.v start.args.sent.now start.args.e.now start.args.columns.now start.args.rests.now start.requires.0.few start.requires.1.1.1.0 start.requires.1.1.1.1),
+        rw z (listed_none start.args.shape.k start.args.shape.l start.args.d start.args.v start.args.sent.now start.args.e.now start.args.columns.now start.args.rests.now start.requires.0.few start.requires.1.1.1.0 start.requires.1.1.1.1),
       ),
     )
 
@@ -62,7 +62,7 @@ loop-again c =
       omega arith,
       (
         (omega arith, omega arith),
-        listed-turn start.args.shape.k start.args.shape.l start.args.d start.args.v (at-loop.loop.n - 1) _ _ start.args.sent.now start.args.e.now at-loop.loop.columns at-loop.loop.rests (omega arith) at-row-at.row_at.ensures.0 refl (rw z at at-loop.loop.invariant.1.1)
+        listed_turn start.args.shape.k start.args.shape.l start.args.d start.args.v (at-loop.loop.n - 1) _ _ start.args.sent.now start.args.e.now at-loop.loop.columns at-loop.loop.rests (omega arith) at-row-at.row_at.ensures.0 refl (rw z at at-loop.loop.invariant.1.1)
             at-column.column.ensures.0 at-column.column.ensures.1,
       ),
     )

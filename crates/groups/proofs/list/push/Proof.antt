@@ -3,7 +3,7 @@ use Prim.Native.Nat.{◌≤◌}
 use native.Mathlib.Omega.{arith}
 use borrow.Author.Rules.{rules}
 use lib.ListN.{length}
-use Rattle.groups.proofs.Listing.{Pushing, pushing-none, pushing-turn, pushing-end}
+use Rattle.groups.proofs.Listing.{Pushing, pushing_none, pushing_turn, pushing_end}
 use Rattle.groups.proofs.list.push.Statement.{statement}
 use Rattle.groups.proofs.list.push.Tie as tie
 
@@ -17,7 +17,7 @@ loop-holds : tie.Need-loop-init invariant-loop decreases-loop
 loop-holds c =
     let start = c.before.before.before.before in
     let a = start.args in
-    (omega arith, ((refl, refl), (pushing-none a.k a.s.now a.e.now a.columns.now, pushing-none a.k a.s.now a.e.now a.rests.now)))
+    (omega arith, ((refl, refl), (pushing_none a.k a.s.now a.e.now a.columns.now, pushing_none a.k a.s.now a.e.now a.rests.now)))
 
 shift-requires : tie.Need-shift-requires invariant-loop decreases-loop
 shift-requires c κs = search rules
@@ -43,8 +43,8 @@ loop-again c =
       (
         (omega arith, omega arith),
         (
-          pushing-turn a.k l.j a.s.now a.e.now a.columns.now l.columns (omega arith) (omega arith) (omega arith) l.invariant.1.1.0 at-shift.shift.ensures,
-          pushing-turn a.k l.j a.s.now a.e.now a.rests.now l.rests (omega arith) (omega arith) (omega arith) l.invariant.1.1.1 at-shift2.shift2.ensures,
+          pushing_turn a.k l.j a.s.now a.e.now a.columns.now l.columns (omega arith) (omega arith) (omega arith) l.invariant.1.1.0 at-shift.shift.ensures,
+          pushing_turn a.k l.j a.s.now a.e.now a.rests.now l.rests (omega arith) (omega arith) (omega arith) l.invariant.1.1.1 at-shift2.shift2.ensures,
         ),
       ),
     )
@@ -62,8 +62,8 @@ returns c =
     let a = start.args in
     let l = at-loop.loop in
     let z : l.j ≡ 0 = omega arith in (
-      pushing-end a.k a.s.now a.e.now a.columns.now l.columns (rw z at l.invariant.1.1.0),
-      pushing-end a.k a.s.now a.e.now a.rests.now l.rests (rw z at l.invariant.1.1.1),
+      pushing_end a.k a.s.now a.e.now a.columns.now l.columns (rw z at l.invariant.1.1.0),
+      pushing_end a.k a.s.now a.e.now a.rests.now l.rests (rw z at l.invariant.1.1.1),
     )
 
 pub push_spec : {M : Type 1} → statement M

@@ -6,7 +6,7 @@ use borrow.Author.Rules.{rules}
 use lib.ListN.{length, drop}
 use Rattle.trellis.specs.Lists.{blocks}
 use Rattle.groups.specs.inner.Pairs.{bytes_at}
-use Rattle.tables.proofs.Parts.{fill_start, fill-turn, fill_end}
+use Rattle.tables.proofs.Parts.{fill_start, fill_turn, fill_end}
 use Rattle.groups.proofs.Listing.{bytes-length}
 use Rattle.groups.proofs.list.put_groups.Statement.{statement}
 use Rattle.groups.proofs.list.put_groups.Tie as tie
@@ -63,7 +63,7 @@ loop-again c =
     let start = at-loop.before.before.before.before.before in
     let x = at-part-at.part_at.ensures in (
       omega arith,
-      fill-turn (λ b. bytes_at start.args.k start.args.e.now start.args.columns.now start.args.rests.now (start.args.i + b)) (start.args.k * 2 + 1) (λ b. bytes-length start.args.k start.args.e.now start.args.columns.now start.args.rests.now (start.args.i + b)) start.args.out.now at-loop.loop.out at-loop.loop.b _ _ x.0 refl (omega (arith, x, start.requires.1)) at-loop.loop.invariant.1.1 at-put-group.put-group.ensures,
+      fill_turn (λ b. bytes_at start.args.k start.args.e.now start.args.columns.now start.args.rests.now (start.args.i + b)) (start.args.k * 2 + 1) (λ b. bytes-length start.args.k start.args.e.now start.args.columns.now start.args.rests.now (start.args.i + b)) start.args.out.now at-loop.loop.out at-loop.loop.b _ _ x.0 refl (omega (arith, x, start.requires.1)) at-loop.loop.invariant.1.1 at-put-group.put-group.ensures,
     )
 
 same_length : tie.Need-same-length invariant-loop decreases-loop

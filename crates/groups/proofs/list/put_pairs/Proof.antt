@@ -5,14 +5,14 @@ use native.Mathlib.Omega.{arith}
 use borrow.Author.Rules.{rules}
 use lib.ListN.{length, drop, length-set}
 use Rattle.trellis.specs.Lists.{blocks}
-use Rattle.groups.specs.inner.Pairs.{pairBytes}
+use Rattle.groups.specs.inner.Pairs.{pair_bytes}
 use Rattle.tables.proofs.Parts.{fill_start, fill_end}
-use Rattle.groups.proofs.Listing.{pair_turn, pair-bytes}
+use Rattle.groups.proofs.Listing.{pair_turn, pair_bytes_lem}
 use Rattle.groups.proofs.list.put_pairs.Statement.{statement}
 use Rattle.groups.proofs.list.put_pairs.Tie as tie
 
 abbrev invariant-loop : tie.invariant-loop
-invariant-loop k i columns rests out₀ j₀ out j = (j ≤ k) × ((length out ≡ length out₀) × (out ≡ blocks (pairBytes columns rests i) j ++ drop (j * 2) out₀))
+invariant-loop k i columns rests out₀ j₀ out j = (j ≤ k) × ((length out ≡ length out₀) × (out ≡ blocks (pair_bytes columns rests i) j ++ drop (j * 2) out₀))
 
 abbrev decreases-loop : tie.decreases-loop
 decreases-loop k i columns rests out₀ j₀ out j = k - j
@@ -20,7 +20,7 @@ decreases-loop k i columns rests out₀ j₀ out j = k - j
 loop-holds : tie.Need-loop-init invariant-loop decreases-loop
 loop-holds c =
     let start = c.before.before.before in
-    (omega arith, (refl, fill_start (pairBytes start.args.columns.now start.args.rests.now start.args.i) 2 start.args.out.now))
+    (omega arith, (refl, fill_start (pair_bytes start.args.columns.now start.args.rests.now start.args.i) 2 start.args.out.now))
 
 mul-a : tie.Need-overflow-mul-a invariant-loop decreases-loop
 mul-a c = search rules
@@ -68,8 +68,8 @@ loop-again c =
       omega arith,
       (
         simp length-set (omega arith),
-        pair_turn (pairBytes start.args.columns.now start.args.rests.now start.args.i) start.args.out.now at-loop.loop.out at-loop.loop.j _ _ (omega arith) (λ (i : ℕ). refl)
-            (pair-bytes start.args.columns.now start.args.rests.now start.args.i at-loop.loop.j (omega arith) c.cost.ensures) at-loop.loop.invariant.1.1,
+        pair_turn (pair_bytes start.args.columns.now start.args.rests.now start.args.i) start.args.out.now at-loop.loop.out at-loop.loop.j _ _ (omega arith) (λ (i : ℕ). refl)
+            (pair_bytes_lem start.args.columns.now start.args.rests.now start.args.i at-loop.loop.j (omega arith) c.cost.ensures) at-loop.loop.invariant.1.1,
       ),
     )
 
@@ -80,7 +80,7 @@ returns : tie.Need-returns invariant-loop decreases-loop
 returns c =
     let at-loop = c.before in
     let start = at-loop.before.before.before.before in
-    fill_end (pairBytes start.args.columns.now start.args.rests.now start.args.i) 2 (λ (i : ℕ). refl) start.args.out.now at-loop.loop.out at-loop.loop.j start.args.k (omega arith) (omega arith) at-loop.loop.invariant.1.1
+    fill_end (pair_bytes start.args.columns.now start.args.rests.now start.args.i) 2 (λ (i : ℕ). refl) start.args.out.now at-loop.loop.out at-loop.loop.j start.args.k (omega arith) (omega arith) at-loop.loop.invariant.1.1
 
 pub put-pairs-spec : {M : Type 1} → statement M
 put-pairs-spec =

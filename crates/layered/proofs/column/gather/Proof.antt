@@ -7,7 +7,7 @@ use native.Mathlib.Omega.{arith}
 use borrow.Author.Rules.{rules}
 use lib.ListN.{length, length-take, length-drop}
 use Rattle.layered.specs.inner.Columns.{gathered}
-use Rattle.layered.proofs.Columns.{room_at, below-part, gather-turn, gather-start, length-gathered}
+use Rattle.layered.proofs.Columns.{room_at, below-part, gather_turn, gather_start, length-gathered}
 use Rattle.layered.proofs.column.gather.Statement.{statement}
 use Rattle.layered.proofs.column.gather.Tie as tie
 
@@ -28,7 +28,7 @@ room c =
     room_at s.args.costs.now s.args.cols.now s.args.old.now s.args.g s.args.q s.args.out.now s.requires c.before.before.before.loop.k (omega arith) c.u16-to-usize.result c.u16-to-usize.ensures.0
 
 loop-holds : tie.Need-loop-init invariant-loop decreases-loop
-loop-holds c = (omega arith, (refl, gather-start _ _ _ _ _ _))
+loop-holds c = (omega arith, (refl, gather_start _ _ _ _ _ _))
 
 mul-u16-to-usize : tie.Need-overflow-mul-u16-to-usize invariant-loop decreases-loop
 mul-u16-to-usize c = omega arith
@@ -101,7 +101,7 @@ loop-again c =
     let l = w.before.before.before in
     let i = c.before.before.incoming-column in
     let a = s.args in
-    let t = gather-turn a.costs.now a.cols.now a.old.now a.g a.q a.out.now s.requires l.loop.k (omega arith) w.u16-to-usize.result w.u16-to-usize.ensures.0 l.loop.out i.new.1.1.1.0 l.loop.invariant.1.1 i.ensures in
+    let t = gather_turn a.costs.now a.cols.now a.old.now a.g a.q a.out.now s.requires l.loop.k (omega arith) w.u16-to-usize.result w.u16-to-usize.ensures.0 l.loop.out i.new.1.1.1.0 l.loop.invariant.1.1 i.ensures in
     let e : (l.loop.k + 1) * a.q ≤ length a.out.now = rw (add-one l.loop.k, suc-mul l.loop.k a.q) (room w).1.1 in
     (omega arith, (ap length t ∙ length-gathered a.costs.now a.cols.now a.old.now a.g a.q a.out.now (l.loop.k + 1) s.requires.some e, t))
 

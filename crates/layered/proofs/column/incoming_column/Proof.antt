@@ -9,7 +9,7 @@ use Prim.Native.Nat.{min}
 use Rattle.trellis.specs.Lists.{tab}
 use Rattle.trellis.proofs.Loops.{tab-more}
 use Rattle.layered.specs.inner.Columns.{raised}
-use Rattle.layered.proofs.Columns.{incoming-done, least-raised-le}
+use Rattle.layered.proofs.Columns.{incoming-done, least-raised_le}
 use Rattle.layered.proofs.column.incoming_column.Statement.{statement}
 use Rattle.layered.proofs.column.incoming_column.Tie as tie
 
@@ -44,7 +44,7 @@ sub-cap-u8 c =
     let at-loop = c.before.before.before.before in
     let s = c.before.before.before.before.before.before.before.before.before in
     let a = s.args in
-    omega (arith, least-raised-le a.g (length a.costs.now) a.costs.now a.old.now at-loop.loop.i (omega arith))
+    omega (arith, least-raised_le a.g (length a.costs.now) a.costs.now a.old.now at-loop.loop.i (omega arith))
 
 cap-u8-requires : tie.Need-cap-u8-requires invariant-loop decreases-loop
 cap-u8-requires c κs = search rules

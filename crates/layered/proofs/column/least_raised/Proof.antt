@@ -5,18 +5,18 @@ use native.Mathlib.Numerals.{add-one}
 use native.Mathlib.Omega.{arith}
 use borrow.Author.Rules.{rules}
 use lib.ListN.{length}
-use Rattle.layered.specs.inner.Columns.{leastRaised}
+use Rattle.layered.specs.inner.Columns.{least_raised}
 use Rattle.layered.proofs.column.least_raised.Statement.{statement}
 use Rattle.layered.proofs.column.least_raised.Tie as tie
 
 abbrev invariant-loop : tie.invariant-loop
-invariant-loop costs old g least₀ i₀ least i = (i ≤ length costs) × ((least ≡ leastRaised g costs old i) × (least ≤ 1000))
+invariant-loop costs old g least₀ i₀ least i = (i ≤ length costs) × ((least ≡ least_raised g costs old i) × (least ≤ 1000))
 
 abbrev decreases-loop : tie.decreases-loop
 decreases-loop costs old g least₀ i₀ least i = length costs - i
 
 loop-holds : tie.Need-loop-init invariant-loop decreases-loop
-unfolding leastRaised
+unfolding least_raised
 loop-holds c = (omega arith, (refl, omega arith))
 
 mul-raise : tie.Need-overflow-mul-raise invariant-loop decreases-loop
@@ -43,7 +43,7 @@ loop-less : tie.Need-loop-smaller invariant-loop decreases-loop
 loop-less c = omega arith
 
 loop-again : tie.Need-loop-preserved invariant-loop decreases-loop
-unfolding leastRaised
+unfolding least_raised
 loop-again c = (omega arith, (rw add-one (cc), omega arith))
 
 returns : tie.Need-returns invariant-loop decreases-loop

@@ -5,18 +5,18 @@ use native.Mathlib.Numerals.{add-one}
 use native.Mathlib.Omega.{arith}
 use borrow.Author.Rules.{rules}
 use lib.ListN.{length}
-use Rattle.layered.specs.inner.Columns.{leastSummed}
+use Rattle.layered.specs.inner.Columns.{least_summed}
 use Rattle.layered.proofs.column.least_summed.Statement.{statement}
 use Rattle.layered.proofs.column.least_summed.Tie as tie
 
 abbrev invariant-loop : tie.invariant-loop
-invariant-loop qs new g least₀ i₀ least i = (i ≤ length qs) × ((least ≡ leastSummed g qs new i) × (least ≤ 1000))
+invariant-loop qs new g least₀ i₀ least i = (i ≤ length qs) × ((least ≡ least_summed g qs new i) × (least ≤ 1000))
 
 abbrev decreases-loop : tie.decreases-loop
 decreases-loop qs new g least₀ i₀ least i = length qs - i
 
 loop-holds : tie.Need-loop-init invariant-loop decreases-loop
-unfolding leastSummed
+unfolding least_summed
 loop-holds c = (omega arith, (refl, omega arith))
 
 shared-slice-read-sum : tie.Need-shared-slice-read-sum invariant-loop decreases-loop
@@ -38,7 +38,7 @@ loop-less : tie.Need-loop-smaller invariant-loop decreases-loop
 loop-less c = omega arith
 
 loop-again : tie.Need-loop-preserved invariant-loop decreases-loop
-unfolding leastSummed
+unfolding least_summed
 loop-again c = (omega arith, (rw add-one (cc), omega arith))
 
 returns : tie.Need-returns invariant-loop decreases-loop

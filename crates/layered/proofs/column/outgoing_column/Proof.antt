@@ -8,7 +8,7 @@ use lib.ListN.{length, drop, get_or}
 use Rattle.trellis.specs.Lists.{tab}
 use Rattle.trellis.proofs.Loops.{tab-more}
 use Rattle.layered.specs.inner.Columns.{summed}
-use Rattle.layered.proofs.Columns.{mul_small, outgoing-done, least-summed-le}
+use Rattle.layered.proofs.Columns.{mul_small, outgoing-done, least-summed_le}
 use Rattle.layered.proofs.column.outgoing_column.Statement.{statement}
 use Rattle.layered.proofs.column.outgoing_column.Tie as tie
 
@@ -38,7 +38,7 @@ sub-costs c =
     let at-loop = c.before.before.before.before in
     let start = at-loop.before.before.before.before.before in
     let a = start.args in
-    omega (arith, least-summed-le a.g (length a.qs.now) a.qs.now a.new.now at-loop.loop.i (omega arith))
+    omega (arith, least-summed_le a.g (length a.qs.now) a.qs.now a.new.now at-loop.loop.i (omega arith))
 
 mul-costs : tie.Need-overflow-mul-costs invariant-loop decreases-loop
 mul-costs c = search rules

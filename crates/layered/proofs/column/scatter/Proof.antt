@@ -5,7 +5,7 @@ use native.Mathlib.Omega.{arith}
 use borrow.Author.Rules.{rules}
 use lib.ListN.{length, length-take, length-drop}
 use Rattle.layered.specs.inner.Columns.{scattered}
-use Rattle.layered.proofs.Columns.{scatter-room, scatter-turn, length-turn}
+use Rattle.layered.proofs.Columns.{scatter_room, scatter_turn, length_turn}
 use Rattle.layered.proofs.column.scatter.Statement.{statement}
 use Rattle.layered.proofs.column.scatter.Tie as tie
 
@@ -23,7 +23,7 @@ room : (c : tie.After-u16-to-usize invariant-loop decreases-loop)
     (c.u16-to-usize.result * q + q ≤ length a.costs.now) × ((l.loop.k * q + q ≤ length a.qs.now) × (l.loop.k * q + q ≤ length a.new.now))
 room c =
     let s = c.before.before.before.before.before.before.before.before in
-    scatter-room s.args.qs.now s.args.new.now s.args.cols.now s.args.g s.args.q s.args.costs.now s.requires c.before.before.before.loop.k (omega arith) c.u16-to-usize.result c.u16-to-usize.ensures.0
+    scatter_room s.args.qs.now s.args.new.now s.args.cols.now s.args.g s.args.q s.args.costs.now s.requires c.before.before.before.loop.k (omega arith) c.u16-to-usize.result c.u16-to-usize.ensures.0
 
 loop-holds : tie.Need-loop-init invariant-loop decreases-loop
 unfolding scattered
@@ -101,8 +101,8 @@ loop-again c =
     let a = s.args in (
       search rules,
       (
-        length-turn a.qs.now a.new.now a.cols.now a.g a.q a.costs.now s.requires l.k (omega arith) w.u16-to-usize.result w.u16-to-usize.ensures.0 l.costs i.new.1.1.1.0 l.invariant.1.0 i.ensures,
-        scatter-turn a.qs.now a.new.now a.cols.now a.g a.q a.costs.now s.requires l.k (omega arith) w.u16-to-usize.result w.u16-to-usize.ensures.0 l.costs i.new.1.1.1.0 l.invariant.1.1 i.ensures,
+        length_turn a.qs.now a.new.now a.cols.now a.g a.q a.costs.now s.requires l.k (omega arith) w.u16-to-usize.result w.u16-to-usize.ensures.0 l.costs i.new.1.1.1.0 l.invariant.1.0 i.ensures,
+        scatter_turn a.qs.now a.new.now a.cols.now a.g a.q a.costs.now s.requires l.k (omega arith) w.u16-to-usize.result w.u16-to-usize.ensures.0 l.costs i.new.1.1.1.0 l.invariant.1.1 i.ensures,
       ),
     )
 

@@ -4,9 +4,9 @@ use native.Mathlib.Omega.{arith}
 use borrow.Author.Rules.{rules}
 use Rattle.codeline.specs.inner.Coding.{code_of}
 use Rattle.machine.specs.Machine.{symbols, margins}
-use Rattle.machine.specs.CodeLine.{columnsRead}
+use Rattle.machine.specs.CodeLine.{columns_read}
 use Rattle.machine.specs.Decoding.{lending}
-use Rattle.codeline.proofs.Says.{line-says, line-coded}
+use Rattle.codeline.proofs.Says.{line_says, line-coded}
 use Rattle.layered.proofs.Decoded.{refused-calls, said-calls}
 use Rattle.machine.proofs.Lines.{columns-small}
 use Rattle.layered.proofs.decoding.decode_in.Statement.{statement}
@@ -36,7 +36,7 @@ returns c =
     let at-k = c.before in
     let at-code-tables = at-k.before.before in
     let start = at-code-tables.before.before.before.before.before.before.before.before.before.before in
-    (refused-calls start.args.code.now start.args.frame.now (lending start.args.symbols.now start.args.costs.now start.args.store.now start.args.margins.now) start.args.early at-code-tables.code-tables.result at-code-tables.code-tables.ensures.0 _ at-k.k.given.1, (ap columnsRead (rw at-k.k.given.1 at at-code-tables.code-tables.ensures.0), omega arith))
+    (refused-calls start.args.code.now start.args.frame.now (lending start.args.symbols.now start.args.costs.now start.args.store.now start.args.margins.now) start.args.early at-code-tables.code-tables.result at-code-tables.code-tables.ensures.0 _ at-k.k.given.1, (ap columns_read (rw at-k.k.given.1 at at-code-tables.code-tables.ensures.0), omega arith))
 
 same_length : tie.Need-same-length
 same_length c = search rules
@@ -56,7 +56,7 @@ returns-2 c =
     let at-numbers = at-under-code.before.before.before.before.before.before.before.before.before.before.before.before.before.before in
     let at-code-tables = at-numbers.before.before in
     let start = at-code-tables.before.before.before.before.before.before.before.before.before.before in
-    let e = rw at-numbers.numbers.given.1 at at-code-tables.code-tables.ensures.0 in (said-calls start.args.code.now start.args.frame.now (lending start.args.symbols.now start.args.costs.now start.args.store.now start.args.margins.now) start.args.early (code_of at-numbers.numbers.given.0.0 at-code-tables.code-tables.new.1.0 at-code-tables.code-tables.new.1.1.0 at-code-tables.code-tables.new.1.1.1.0) (line-says start.args.code.now at-code-tables.code-tables.result at-code-tables.code-tables.ensures.0 at-numbers.numbers.given.0.0 at-numbers.numbers.given.1 _ _ _ at-code-tables.code-tables.new.1.0 at-code-tables.code-tables.new.1.1.0 at-code-tables.code-tables.new.1.1.1.0 at-code-tables.code-tables.ensures.1.0 at-code-tables.code-tables.ensures.1.1.0 at-code-tables.code-tables.ensures.1.1.1) _ _ at-under-code.under-code.ensures, (c.u16-to-usize.ensures.0 ∙ ap columnsRead e, rw c.u16-to-usize.ensures.0 (columns-small start.args.code.now _ e)))
+    let e = rw at-numbers.numbers.given.1 at at-code-tables.code-tables.ensures.0 in (said-calls start.args.code.now start.args.frame.now (lending start.args.symbols.now start.args.costs.now start.args.store.now start.args.margins.now) start.args.early (code_of at-numbers.numbers.given.0.0 at-code-tables.code-tables.new.1.0 at-code-tables.code-tables.new.1.1.0 at-code-tables.code-tables.new.1.1.1.0) (line_says start.args.code.now at-code-tables.code-tables.result at-code-tables.code-tables.ensures.0 at-numbers.numbers.given.0.0 at-numbers.numbers.given.1 _ _ _ at-code-tables.code-tables.new.1.0 at-code-tables.code-tables.new.1.1.0 at-code-tables.code-tables.new.1.1.1.0 at-code-tables.code-tables.ensures.1.0 at-code-tables.code-tables.ensures.1.1.0 at-code-tables.code-tables.ensures.1.1.1) _ _ at-under-code.under-code.ensures, (c.u16-to-usize.ensures.0 ∙ ap columns_read e, rw c.u16-to-usize.ensures.0 (columns-small start.args.code.now _ e)))
 
 pub decode-in-spec : {M : Type 1} → statement M
 decode-in-spec =

@@ -7,8 +7,8 @@ use Rattle.machine.specs.Machine.{margins}
 use Rattle.trellis.specs.Lists.{tab}
 use Rattle.trellis.specs.Check.{decide}
 use Rattle.trellis.specs.Rules.{size_of}
-use Rattle.machine.specs.CodeLine.{columnOf}
-use Rattle.layered.proofs.Satisfied.{margins-are}
+use Rattle.machine.specs.CodeLine.{column_of}
+use Rattle.layered.proofs.Satisfied.{margins_are}
 use Rattle.layered.proofs.decoding.run_to_margins.Statement.{statement}
 use Rattle.layered.proofs.decoding.run_to_margins.Tie as tie
 
@@ -49,7 +49,7 @@ returns c =
     let at_size = at-margins.before.before in
     let at-run = at_size.before.before.before.before.before.before.before.before.before.before.before.before in
     let start = at-run.before.before.before.before.before.before.before.before.before.before.before.before.before.before.before in
-    (at-run.run.ensures.0, (at-run.run.ensures.1, at-margins.margins.ensures ∙ ap₂ (λ q n. tab (λ c. (decide (columnOf q at-run.run.new.1.1.1.1.1.1.0 c)).margin) n) at_size.size.ensures.0 start.requires.1 ∙ margins-are start.args.numbers start.args.degrees.now start.args.columns.now start.args.weights.now at-run.run.new.1.1.1.1.1.1.0))
+    (at-run.run.ensures.0, (at-run.run.ensures.1, at-margins.margins.ensures ∙ ap₂ (λ q n. tab (λ c. (decide (column_of q at-run.run.new.1.1.1.1.1.1.0 c)).margin) n) at_size.size.ensures.0 start.requires.1 ∙ margins_are start.args.numbers start.args.degrees.now start.args.columns.now start.args.weights.now at-run.run.new.1.1.1.1.1.1.0))
 
 pub run-to-margins-spec : {M : Type 1} → statement M
 run-to-margins-spec =

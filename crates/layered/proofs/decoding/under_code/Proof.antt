@@ -7,7 +7,7 @@ use lib.Seq.{length-take-le}
 use Rattle.machine.specs.Machine.{symbols, margins}
 use Rattle.layered.proofs.Columns.{front-room}
 use Rattle.slices.proofs.Copies.{copied_is}
-use Rattle.layered.proofs.Decoded.{fits, refused-leaves, copied-room, copied-leaves}
+use Rattle.layered.proofs.Decoded.{fits, refused-leaves, copied_room, copied_leaves}
 use Rattle.layered.proofs.decoding.under_code.Statement.{statement}
 use Rattle.layered.proofs.decoding.under_code.Tie as tie
 
@@ -112,7 +112,7 @@ run-to-margins-requires c κs =
     let at-u16-to-usize = at-fault.before.before.before.before.before in
     let at-shared-slice-known4 = at-u16-to-usize.before.before.before.before.before.before.before in
     let start = at-shared-slice-known4.before.before.before.before in
-    (copied-room start.args.numbers start.args.degrees.now start.args.columns.now start.args.weights.now start.requires.coded at-u16-to-usize.u16-to-usize.result at-u16-to-usize.u16-to-usize.ensures.0 start.args.frame.now start.args.symbols.now start.args.costs.now start.args.store.now start.args.margins.now at-fault.fault.result at-fault.fault.ensures at-if1.if1.false at_copy.copy.new.1.0 (copied_is start.args.frame.now (take (length start.args.frame.now) start.args.costs.now) at_copy.copy.new.1.0 (sym (length-take-le (length start.args.frame.now) start.args.costs.now (omega (arith, (fits start.args.numbers start.args.degrees.now start.args.columns.now start.args.weights.now start.requires.coded at-u16-to-usize.u16-to-usize.result at-u16-to-usize.u16-to-usize.ensures.0 start.args.frame.now start.args.symbols.now start.args.costs.now start.args.store.now start.args.margins.now at-fault.fault.result at-fault.fault.ensures at-if1.if1.false))))) at_copy.copy.ensures) (λ x. omega (arith, at-shared-slice-known4.shared-slice-known4.given x)) (take at-u16-to-usize.u16-to-usize.result start.args.symbols.now) start.args.arrived.now start.args.sent.now (length-take-le at-u16-to-usize.u16-to-usize.result start.args.symbols.now (omega (arith, (fits start.args.numbers start.args.degrees.now start.args.columns.now start.args.weights.now start.requires.coded at-u16-to-usize.u16-to-usize.result at-u16-to-usize.u16-to-usize.ensures.0 start.args.frame.now start.args.symbols.now start.args.costs.now start.args.store.now start.args.margins.now at-fault.fault.result at-fault.fault.ensures at-if1.if1.false)))) start.requires.arrived start.requires.sent, (length-take-le at-u16-to-usize.u16-to-usize.result start.args.margins.now (omega (arith, (fits start.args.numbers start.args.degrees.now start.args.columns.now start.args.weights.now start.requires.coded at-u16-to-usize.u16-to-usize.result at-u16-to-usize.u16-to-usize.ensures.0 start.args.frame.now start.args.symbols.now start.args.costs.now start.args.store.now start.args.margins.now at-fault.fault.result at-fault.fault.ensures at-if1.if1.false)))) ∙ at-u16-to-usize.u16-to-usize.ensures.0)
+    (copied_room start.args.numbers start.args.degrees.now start.args.columns.now start.args.weights.now start.requires.coded at-u16-to-usize.u16-to-usize.result at-u16-to-usize.u16-to-usize.ensures.0 start.args.frame.now start.args.symbols.now start.args.costs.now start.args.store.now start.args.margins.now at-fault.fault.result at-fault.fault.ensures at-if1.if1.false at_copy.copy.new.1.0 (copied_is start.args.frame.now (take (length start.args.frame.now) start.args.costs.now) at_copy.copy.new.1.0 (sym (length-take-le (length start.args.frame.now) start.args.costs.now (omega (arith, (fits start.args.numbers start.args.degrees.now start.args.columns.now start.args.weights.now start.requires.coded at-u16-to-usize.u16-to-usize.result at-u16-to-usize.u16-to-usize.ensures.0 start.args.frame.now start.args.symbols.now start.args.costs.now start.args.store.now start.args.margins.now at-fault.fault.result at-fault.fault.ensures at-if1.if1.false))))) at_copy.copy.ensures) (λ x. omega (arith, at-shared-slice-known4.shared-slice-known4.given x)) (take at-u16-to-usize.u16-to-usize.result start.args.symbols.now) start.args.arrived.now start.args.sent.now (length-take-le at-u16-to-usize.u16-to-usize.result start.args.symbols.now (omega (arith, (fits start.args.numbers start.args.degrees.now start.args.columns.now start.args.weights.now start.requires.coded at-u16-to-usize.u16-to-usize.result at-u16-to-usize.u16-to-usize.ensures.0 start.args.frame.now start.args.symbols.now start.args.costs.now start.args.store.now start.args.margins.now at-fault.fault.result at-fault.fault.ensures at-if1.if1.false)))) start.requires.arrived start.requires.sent, (length-take-le at-u16-to-usize.u16-to-usize.result start.args.margins.now (omega (arith, (fits start.args.numbers start.args.degrees.now start.args.columns.now start.args.weights.now start.requires.coded at-u16-to-usize.u16-to-usize.result at-u16-to-usize.u16-to-usize.ensures.0 start.args.frame.now start.args.symbols.now start.args.costs.now start.args.store.now start.args.margins.now at-fault.fault.result at-fault.fault.ensures at-if1.if1.false)))) ∙ at-u16-to-usize.u16-to-usize.ensures.0)
 
 same-length-5 : tie.Need-same-length-5
 same-length-5 c = search rules
@@ -140,7 +140,7 @@ returns-2 c =
     let at-fault = at-if1.before in
     let at-u16-to-usize = at-fault.before.before.before.before.before in
     let start = at-u16-to-usize.before.before.before.before.before.before.before.before.before.before.before in
-    copied-leaves start.args.numbers start.args.degrees.now start.args.columns.now start.args.weights.now start.requires.coded at-u16-to-usize.u16-to-usize.result at-u16-to-usize.u16-to-usize.ensures.0 start.args.frame.now start.args.symbols.now start.args.costs.now start.args.store.now start.args.margins.now at-fault.fault.result at-fault.fault.ensures at-if1.if1.false at_copy.copy.new.1.0 (copied_is start.args.frame.now (take (length start.args.frame.now) start.args.costs.now) at_copy.copy.new.1.0 (sym (length-take-le (length start.args.frame.now) start.args.costs.now (omega (arith, (fits start.args.numbers start.args.degrees.now start.args.columns.now start.args.weights.now start.requires.coded at-u16-to-usize.u16-to-usize.result at-u16-to-usize.u16-to-usize.ensures.0 start.args.frame.now start.args.symbols.now start.args.costs.now start.args.store.now start.args.margins.now at-fault.fault.result at-fault.fault.ensures at-if1.if1.false))))) at_copy.copy.ensures) start.args.early at-run-to-margins.run-to-margins.result _ _ _ _ at-run-to-margins.run-to-margins.ensures.0 at-run-to-margins.run-to-margins.ensures.1.0 at-run-to-margins.run-to-margins.ensures.1.1
+    copied_leaves start.args.numbers start.args.degrees.now start.args.columns.now start.args.weights.now start.requires.coded at-u16-to-usize.u16-to-usize.result at-u16-to-usize.u16-to-usize.ensures.0 start.args.frame.now start.args.symbols.now start.args.costs.now start.args.store.now start.args.margins.now at-fault.fault.result at-fault.fault.ensures at-if1.if1.false at_copy.copy.new.1.0 (copied_is start.args.frame.now (take (length start.args.frame.now) start.args.costs.now) at_copy.copy.new.1.0 (sym (length-take-le (length start.args.frame.now) start.args.costs.now (omega (arith, (fits start.args.numbers start.args.degrees.now start.args.columns.now start.args.weights.now start.requires.coded at-u16-to-usize.u16-to-usize.result at-u16-to-usize.u16-to-usize.ensures.0 start.args.frame.now start.args.symbols.now start.args.costs.now start.args.store.now start.args.margins.now at-fault.fault.result at-fault.fault.ensures at-if1.if1.false))))) at_copy.copy.ensures) start.args.early at-run-to-margins.run-to-margins.result _ _ _ _ at-run-to-margins.run-to-margins.ensures.0 at-run-to-margins.run-to-margins.ensures.1.0 at-run-to-margins.run-to-margins.ensures.1.1
 
 pub under-code-spec : {M : Type 1} → statement M
 under-code-spec =

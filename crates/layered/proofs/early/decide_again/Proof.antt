@@ -4,13 +4,13 @@ use Prim.Native.Nat.{◌+◌, ◌-◌, ◌≤◌, ◌<◌}
 use native.Mathlib.Omega.{arith}
 use borrow.Author.Rules.{rules}
 use lib.ListN.{length}
-use Rattle.layered.specs.inner.Early.{decidedAgain}
+use Rattle.layered.specs.inner.Early.{decided_again}
 use Rattle.layered.proofs.Retests.{again-start, again-more}
 use Rattle.layered.proofs.early.decide_again.Statement.{statement}
 use Rattle.layered.proofs.early.decide_again.Tie as tie
 
 abbrev invariant-loop : tie.invariant-loop
-invariant-loop costs q columns symbols₀ changed₀ k₀ symbols changed k = (k ≤ length columns) × ((length symbols ≡ length symbols₀) × ((symbols ≡ decidedAgain q costs columns k symbols₀) × ((changed ≤ k) × (changed ≡ 0 → symbols ≡ symbols₀))))
+invariant-loop costs q columns symbols₀ changed₀ k₀ symbols changed k = (k ≤ length columns) × ((length symbols ≡ length symbols₀) × ((symbols ≡ decided_again q costs columns k symbols₀) × ((changed ≤ k) × (changed ≡ 0 → symbols ≡ symbols₀))))
 
 abbrev decreases-loop : tie.decreases-loop
 decreases-loop costs q columns symbols₀ changed₀ k₀ symbols changed k = length columns - k
@@ -34,7 +34,7 @@ decide-at-requires c κs =
     let at-u16-to-usize = c.before in
     let at-loop = at-u16-to-usize.before.before.before in
     let start = at-loop.before.before.before.before in
-    let i : at-loop.loop.k < length start.args.columns.now = omega arith in let e = at-u16-to-usize.u16-to-usize.ensures.0 in (rw e (start.requires.in-costs at-loop.loop.k i), (omega (arith, e, start.requires.in-symbols at-loop.loop.k i, at-loop.loop.invariant.1.0), start.requires.small))
+    let i : at-loop.loop.k < length start.args.columns.now = omega arith in let e = at-u16-to-usize.u16-to-usize.ensures.0 in (rw e (start.requires.in_costs at-loop.loop.k i), (omega (arith, e, start.requires.in_symbols at-loop.loop.k i, at-loop.loop.invariant.1.0), start.requires.small))
 
 add-changed : tie.Need-overflow-add-changed invariant-loop decreases-loop
 add-changed c =

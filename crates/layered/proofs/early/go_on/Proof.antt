@@ -8,7 +8,7 @@ use lib.ListN.{length}
 use Rattle.machine.specs.Lent.{lent}
 use Rattle.machine.specs.Machine.{symbols}
 use Rattle.layered.specs.inner.Early.{Going}
-use Rattle.layered.proofs.Advances.{going_start, going_end, going-updatable, going-retest, going-found, going_next}
+use Rattle.layered.proofs.Advances.{going_start, going_end, going_updatable, going_retest, going_found, going_next}
 use Rattle.layered.proofs.early.go_on.Statement.{statement}
 use Rattle.layered.proofs.early.go_on.Tie as tie
 
@@ -56,7 +56,7 @@ update-at-requires c κs =
     let at-loop = at-u16-to-usize.before.before in
     let at-u8-to-usize = at-loop.before in
     let start = at-u8-to-usize.before.before.before.before.before.before.before.before.before in
-    record { updatable = going-updatable start.args.numbers start.args.degrees.now start.args.columns.now start.args.weights.now start.args.most (lent start.args.costs.now start.args.store.now) at-loop.loop.u at-loop.loop.here at-loop.loop.from at-loop.loop.costs at-loop.loop.store at-loop.loop.symbols at-loop.loop.invariant.0 _ (ap₂ ltb at-u16-to-usize.u16-to-usize.ensures.0 at-u8-to-usize.u8-to-usize.ensures.0); stands = at-loop.loop.invariant.0.stands; arrived = omega (arith, start.requires.arrived, at-loop.loop.invariant.1.1.1.1.0); sent = omega (arith, start.requires.sent, at-loop.loop.invariant.1.1.1.1.1) }
+    record { updatable = going_updatable start.args.numbers start.args.degrees.now start.args.columns.now start.args.weights.now start.args.most (lent start.args.costs.now start.args.store.now) at-loop.loop.u at-loop.loop.here at-loop.loop.from at-loop.loop.costs at-loop.loop.store at-loop.loop.symbols at-loop.loop.invariant.0 _ (ap₂ ltb at-u16-to-usize.u16-to-usize.ensures.0 at-u8-to-usize.u8-to-usize.ensures.0); stands = at-loop.loop.invariant.0.stands; arrived = omega (arith, start.requires.arrived, at-loop.loop.invariant.1.1.1.1.0); sent = omega (arith, start.requires.sent, at-loop.loop.invariant.1.1.1.1.1) }
 
 add-u : tie.Need-overflow-add-u invariant-loop decreases-loop
 add-u c =
@@ -72,7 +72,7 @@ tested-again-requires c κs =
     let at-loop = at-u16-to-usize.before.before in
     let at-u8-to-usize = at-loop.before in
     let start = at-u8-to-usize.before.before.before.before.before.before.before.before.before in
-    going-retest start.args.numbers start.args.degrees.now start.args.columns.now start.args.weights.now start.args.most (lent start.args.costs.now start.args.store.now) at-loop.loop.u at-loop.loop.here at-loop.loop.from at-loop.loop.costs at-loop.loop.store at-loop.loop.symbols at-loop.loop.invariant.0 _ (ap₂ ltb at-u16-to-usize.u16-to-usize.ensures.0 at-u8-to-usize.u8-to-usize.ensures.0) _ _ at-update-at.update-at.ensures.0
+    going_retest start.args.numbers start.args.degrees.now start.args.columns.now start.args.weights.now start.args.most (lent start.args.costs.now start.args.store.now) at-loop.loop.u at-loop.loop.here at-loop.loop.from at-loop.loop.costs at-loop.loop.store at-loop.loop.symbols at-loop.loop.invariant.0 _ (ap₂ ltb at-u16-to-usize.u16-to-usize.ensures.0 at-u8-to-usize.u8-to-usize.ensures.0) _ _ at-update-at.update-at.ensures.0
 
 same-length-6 : tie.Need-same-length-6 invariant-loop decreases-loop
 same-length-6 c =
@@ -113,7 +113,7 @@ returns-2 c =
     let at-loop = at-if1.before in
     let at-u8-to-usize = at-loop.before in
     let start = at-u8-to-usize.before.before.before.before.before.before.before.before.before in
-    (going-found start.args.numbers start.args.degrees.now start.args.columns.now start.args.weights.now start.args.most (lent start.args.costs.now start.args.store.now) at-loop.loop.u at-loop.loop.here at-loop.loop.from at-loop.loop.costs at-loop.loop.store at-loop.loop.symbols at-loop.loop.invariant.0 _ (ap₂ ltb at-u16-to-usize.u16-to-usize.ensures.0 at-u8-to-usize.u8-to-usize.ensures.0) _ _ at-update-at.update-at.ensures.0 (omega (arith, at-loop.loop.invariant.0.at_most, at-if1.if1.false)) at-tested-again.tested-again.result at-tested-again.tested-again.ensures.0 at-u8-to-usize.u8-to-usize.result at-u8-to-usize.u8-to-usize.ensures.0 c.if2.true, at-tested-again.tested-again.ensures.1)
+    (going_found start.args.numbers start.args.degrees.now start.args.columns.now start.args.weights.now start.args.most (lent start.args.costs.now start.args.store.now) at-loop.loop.u at-loop.loop.here at-loop.loop.from at-loop.loop.costs at-loop.loop.store at-loop.loop.symbols at-loop.loop.invariant.0 _ (ap₂ ltb at-u16-to-usize.u16-to-usize.ensures.0 at-u8-to-usize.u8-to-usize.ensures.0) _ _ at-update-at.update-at.ensures.0 (omega (arith, at-loop.loop.invariant.0.at_most, at-if1.if1.false)) at-tested-again.tested-again.result at-tested-again.tested-again.ensures.0 at-u8-to-usize.u8-to-usize.result at-u8-to-usize.u8-to-usize.ensures.0 c.if2.true, at-tested-again.tested-again.ensures.1)
 
 around-requires : tie.Need-around-requires invariant-loop decreases-loop
 around-requires c κs = search rules

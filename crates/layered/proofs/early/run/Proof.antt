@@ -5,8 +5,8 @@ use borrow.Author.Rules.{rules}
 use Rattle.codeline.specs.inner.Coding.{code_of}
 use Rattle.machine.specs.Lent.{lent}
 use Rattle.machine.specs.Machine.{symbols}
-use Rattle.machine.specs.inner.LentEarly.{stopLent}
-use Rattle.layered.proofs.Advances.{stop-first, first-unsettled}
+use Rattle.machine.specs.inner.LentEarly.{stop_lent}
+use Rattle.layered.proofs.Advances.{stop_first, first-unsettled}
 use Rattle.layered.proofs.early.run.Statement.{statement}
 use Rattle.layered.proofs.early.run.Tie as tie
 
@@ -25,7 +25,7 @@ returns : tie.Need-returns
 returns c =
     let at-settled = c.before.before.before in
     let start = at-settled.before.before.before.before.before.before.before.before.before.before.before in
-    (stop-first (code_of start.args.numbers start.args.degrees.now start.args.columns.now start.args.weights.now) (start.args.numbers.checks * start.args.numbers.limit) 0 (lent start.args.costs.now start.args.store.now) (sym at-settled.settled.ensures.0 ∙ c.if1.true), at-settled.settled.ensures.1)
+    (stop_first (code_of start.args.numbers start.args.degrees.now start.args.columns.now start.args.weights.now) (start.args.numbers.checks * start.args.numbers.limit) 0 (lent start.args.costs.now start.args.store.now) (sym at-settled.settled.ensures.0 ∙ c.if1.true), at-settled.settled.ensures.1)
 
 most-updates-requires : tie.Need-most-updates-requires
 most-updates-requires c κs = search rules
@@ -57,7 +57,7 @@ returns-2 c =
     let at-go-on = c.before.before.before.before.before.before.before.before.before.before in
     let at-most-updates = at-go-on.before.before.before.before.before.before in
     let start = at-most-updates.before.before.before.before.before.before.before.before.before.before.before.before.before.before.before in
-    (at-go-on.go_on.ensures.0 ∙ ap (λ n. stopLent (code_of start.args.numbers start.args.degrees.now start.args.columns.now start.args.weights.now) n 0 (lent start.args.costs.now start.args.store.now)) at-most-updates.most-updates.ensures, at-go-on.go_on.ensures.1)
+    (at-go-on.go_on.ensures.0 ∙ ap (λ n. stop_lent (code_of start.args.numbers start.args.degrees.now start.args.columns.now start.args.weights.now) n 0 (lent start.args.costs.now start.args.store.now)) at-most-updates.most-updates.ensures, at-go-on.go_on.ensures.1)
 
 pub run_spec : {M : Type 1} → statement M
 run_spec =

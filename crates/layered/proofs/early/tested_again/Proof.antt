@@ -2,7 +2,7 @@
 use native.Mathlib.Omega.{arith}
 use borrow.Author.Rules.{rules}
 use Rattle.machine.specs.Machine.{symbols}
-use Rattle.layered.proofs.Retests.{edges-inside, check-there as check-in, again-asks, again-decided, again-same, again-room, again-tested}
+use Rattle.layered.proofs.Retests.{edges-inside, check_there as check-in, again_asks, again-decided, again-same, again-room, again_tested}
 use Rattle.layered.proofs.early.tested_again.Statement.{statement}
 use Rattle.layered.proofs.early.tested_again.Tie as tie
 
@@ -45,7 +45,7 @@ decide-again-requires c κs =
     let at_size = c.before.before in
     let at-u8-to-usize = at_size.before in
     let start = at-u8-to-usize.before.before.before.before.before.before.before in
-    again-asks start.args.numbers start.args.degrees.now start.args.columns.now start.args.weights.now start.args.here start.args.from start.args.costs.now start.args.symbols.now start.requires at-u8-to-usize.u8-to-usize.result at-u8-to-usize.u8-to-usize.ensures.0 at_size.size.result at_size.size.ensures.0
+    again_asks start.args.numbers start.args.degrees.now start.args.columns.now start.args.weights.now start.args.here start.args.from start.args.costs.now start.args.symbols.now start.requires at-u8-to-usize.u8-to-usize.result at-u8-to-usize.u8-to-usize.ensures.0 at_size.size.result at_size.size.ensures.0
 
 same_length : tie.Need-same-length
 same_length c = search rules
@@ -75,7 +75,7 @@ returns-2 c =
     let at_size = at-decide-again.before.before.before in
     let at-u8-to-usize = at_size.before in
     let start = at-u8-to-usize.before.before.before.before.before.before.before in
-    (again-tested start.args.numbers start.args.degrees.now start.args.columns.now start.args.weights.now start.args.here start.args.from start.args.costs.now start.args.symbols.now start.requires at-u8-to-usize.u8-to-usize.result at-u8-to-usize.u8-to-usize.ensures.0 at_size.size.result at_size.size.ensures.0 _ at-decide-again.decide-again.ensures.0 c.unsatisfied-from.result c.unsatisfied-from.ensures, again-decided start.args.numbers start.args.degrees.now start.args.columns.now start.args.weights.now start.args.here start.args.from start.args.costs.now start.args.symbols.now start.requires at-u8-to-usize.u8-to-usize.result at-u8-to-usize.u8-to-usize.ensures.0 at_size.size.result at_size.size.ensures.0 _ at-decide-again.decide-again.ensures.0)
+    (again_tested start.args.numbers start.args.degrees.now start.args.columns.now start.args.weights.now start.args.here start.args.from start.args.costs.now start.args.symbols.now start.requires at-u8-to-usize.u8-to-usize.result at-u8-to-usize.u8-to-usize.ensures.0 at_size.size.result at_size.size.ensures.0 _ at-decide-again.decide-again.ensures.0 c.unsatisfied-from.result c.unsatisfied-from.ensures, again-decided start.args.numbers start.args.degrees.now start.args.columns.now start.args.weights.now start.args.here start.args.from start.args.costs.now start.args.symbols.now start.requires at-u8-to-usize.u8-to-usize.result at-u8-to-usize.u8-to-usize.ensures.0 at_size.size.result at_size.size.ensures.0 _ at-decide-again.decide-again.ensures.0)
 
 pub tested-again-spec : {M : Type 1} → statement M
 tested-again-spec =

@@ -15,7 +15,7 @@ u8-to-usize-requires c κs = search rules
 unsatisfied-requires : tie.Need-unsatisfied-requires
 unsatisfied-requires c κs =
     let start = c.before.before.before.before.before in
-    (start.requires.0, record { edge-is = start.requires.1.edge-is; ordered = omega (arith, start.requires.1.ordered, c.u8-to-usize.ensures.0); inside = omega (arith, c.u8-to-usize.ensures.0) })
+    (start.requires.0, record { edge_is = start.requires.1.edge_is; ordered = omega (arith, start.requires.1.ordered, c.u8-to-usize.ensures.0); inside = omega (arith, c.u8-to-usize.ensures.0) })
 
 returns : tie.Need-returns
 returns c =
@@ -27,7 +27,7 @@ returns c =
 unsatisfied-requires-2 : tie.Need-unsatisfied-requires-2
 unsatisfied-requires-2 c κs =
     let start = c.before.before.before.before.before.before.before.before in
-    (start.requires.0, record { edge-is = refl; ordered = omega arith; inside = omega (arith, start.requires.1.ordered) })
+    (start.requires.0, record { edge_is = refl; ordered = omega arith; inside = omega (arith, start.requires.1.ordered) })
 
 returns-2 : tie.Need-returns-2
 returns-2 c =

@@ -5,18 +5,18 @@ use native.Mathlib.Omega.{arith}
 use borrow.Author.Rules.{rules}
 use lib.ListN.{length}
 use Rattle.codeline.specs.inner.Coding.{code_of}
-use Rattle.machine.specs.Lent.{lent, updateLent}
-use Rattle.machine.specs.inner.Tables.{bytesBefore}
+use Rattle.machine.specs.Lent.{lent, update_lent}
+use Rattle.machine.specs.inner.Tables.{bytes_before}
 use Rattle.trellis.specs.Lists.{upto}
 use Rattle.layered.specs.inner.Places.{Stands}
-use Rattle.layered.proofs.Places.{stands-own}
+use Rattle.layered.proofs.Places.{stands_own}
 use Rattle.layered.proofs.Iterations.{updates-more, iteration-done}
 use Rattle.layered.proofs.Runs.{checks-count, update-updatable}
 use Rattle.layered.proofs.iterate.iterate.Statement.{statement}
 use Rattle.layered.proofs.iterate.iterate.Tie as tie
 
 abbrev invariant-loop : tie.invariant-loop
-invariant-loop numbers start degrees columns weights costs₀ store₀ arrived₀ sent₀ count here₀ costs store arrived sent here = (here.check ≤ count) × (Stands numbers.first degrees here.check here × ((lent costs store ≡ upto (updateLent (code_of numbers degrees columns weights) start) here.check (lent costs₀ store₀)) × ((length costs ≡ length costs₀) × ((length store ≡ length store₀) × ((length arrived ≡ length arrived₀) × (length sent ≡ length sent₀))))))
+invariant-loop numbers start degrees columns weights costs₀ store₀ arrived₀ sent₀ count here₀ costs store arrived sent here = (here.check ≤ count) × (Stands numbers.first degrees here.check here × ((lent costs store ≡ upto (update_lent (code_of numbers degrees columns weights) start) here.check (lent costs₀ store₀)) × ((length costs ≡ length costs₀) × ((length store ≡ length store₀) × ((length arrived ≡ length arrived₀) × (length sent ≡ length sent₀))))))
 
 abbrev decreases-loop : tie.decreases-loop
 decreases-loop numbers start degrees columns weights costs₀ store₀ arrived₀ sent₀ count here₀ costs store arrived sent here = count - here.check
@@ -25,8 +25,8 @@ u8-to-usize-requires : tie.Need-u8-to-usize-requires invariant-loop decreases-lo
 u8-to-usize-requires c κs = search rules
 
 loop-holds : tie.Need-loop-init invariant-loop decreases-loop
-unfolding bytesBefore
-loop-holds c = (omega arith, (record { check-is = refl; edge-is = refl; byte-is = refl }, (refl, (refl, (refl, (refl, refl))))))
+unfolding bytes_before
+loop-holds c = (omega arith, (record { check_is = refl; edge_is = refl; byte_is = refl }, (refl, (refl, (refl, (refl, refl))))))
 
 update-at-requires : tie.Need-update-at-requires invariant-loop decreases-loop
 update-at-requires c κs =
@@ -38,14 +38,14 @@ update-at-requires c κs =
 loop-less : tie.Need-loop-smaller invariant-loop decreases-loop
 loop-less c =
     let at-update-at = c.before.before.before.before.before.before.before.before in
-    omega (arith, at-update-at.update-at.ensures.1.check-is)
+    omega (arith, at-update-at.update-at.ensures.1.check_is)
 
 loop-again : tie.Need-loop-preserved invariant-loop decreases-loop
 loop-again c =
     let at-update-at = c.before.before.before.before.before.before.before.before in
     let at-loop = at-update-at.before.before.before.before.before.before.before in
     let start = at-loop.before.before.before.before.before.before.before.before.before in
-    let e = at-update-at.update-at.ensures.1.check-is in (omega (arith, e), (stands-own start.args.numbers.first start.args.degrees.now _ _ at-update-at.update-at.ensures.1, (updates-more (code_of start.args.numbers start.args.degrees.now start.args.columns.now start.args.weights.now) start.args.start _ _ _ at-loop.loop.here.check _ e at-loop.loop.invariant.1.1.0 at-update-at.update-at.ensures.0, (omega (arith, at-update-at.update-at.auto, at-loop.loop.invariant.1.1.1.0), (omega (arith, at-update-at.update-at.auto, at-loop.loop.invariant.1.1.1.1.0), (omega (arith, at-update-at.update-at.auto, at-loop.loop.invariant.1.1.1.1.1.0), omega (arith, at-update-at.update-at.auto, at-loop.loop.invariant.1.1.1.1.1.1)))))))
+    let e = at-update-at.update-at.ensures.1.check_is in (omega (arith, e), (stands_own start.args.numbers.first start.args.degrees.now _ _ at-update-at.update-at.ensures.1, (updates-more (code_of start.args.numbers start.args.degrees.now start.args.columns.now start.args.weights.now) start.args.start _ _ _ at-loop.loop.here.check _ e at-loop.loop.invariant.1.1.0 at-update-at.update-at.ensures.0, (omega (arith, at-update-at.update-at.auto, at-loop.loop.invariant.1.1.1.0), (omega (arith, at-update-at.update-at.auto, at-loop.loop.invariant.1.1.1.1.0), (omega (arith, at-update-at.update-at.auto, at-loop.loop.invariant.1.1.1.1.1.0), omega (arith, at-update-at.update-at.auto, at-loop.loop.invariant.1.1.1.1.1.1)))))))
 
 same_length : tie.Need-same-length invariant-loop decreases-loop
 same_length c = search rules

@@ -6,16 +6,16 @@ use borrow.Author.Rules.{rules}
 use lib.Dec.{eqb}
 use lib.ListN.{length}
 use Rattle.codeline.specs.inner.Coding.{code_of}
-use Rattle.machine.specs.Lent.{lent, goLent}
+use Rattle.machine.specs.Lent.{lent, go_lent}
 use Rattle.machine.specs.Machine.{symbols}
 use Rattle.layered.specs.inner.Iterations.{Running}
-use Rattle.layered.proofs.Iterations.{run-found, run_end, run_more}
-use Rattle.layered.proofs.Runs.{next-running, test-room}
+use Rattle.layered.proofs.Iterations.{run_found, run_end, run_more}
+use Rattle.layered.proofs.Runs.{next-running, test_room}
 use Rattle.layered.proofs.iterate.run.Statement.{statement}
 use Rattle.layered.proofs.iterate.run.Tie as tie
 
 abbrev invariant-loop : tie.invariant-loop
-invariant-loop numbers degrees columns weights symbols₀ costs₀ store₀ arrived₀ sent₀ limit t₀ symbols costs store arrived sent t = (t ≤ numbers.limit) × (Running numbers degrees columns weights (eqb t 0) costs store × ((goLent (code_of numbers degrees columns weights) (numbers.limit - t) t (lent costs store) ≡ goLent (code_of numbers degrees columns weights) numbers.limit 0 (lent costs₀ store₀)) × ((length symbols ≡ length symbols₀) × ((length costs ≡ length costs₀) × ((length store ≡ length store₀) × ((length arrived ≡ length arrived₀) × (length sent ≡ length sent₀)))))))
+invariant-loop numbers degrees columns weights symbols₀ costs₀ store₀ arrived₀ sent₀ limit t₀ symbols costs store arrived sent t = (t ≤ numbers.limit) × (Running numbers degrees columns weights (eqb t 0) costs store × ((go_lent (code_of numbers degrees columns weights) (numbers.limit - t) t (lent costs store) ≡ go_lent (code_of numbers degrees columns weights) numbers.limit 0 (lent costs₀ store₀)) × ((length symbols ≡ length symbols₀) × ((length costs ≡ length costs₀) × ((length store ≡ length store₀) × ((length arrived ≡ length arrived₀) × (length sent ≡ length sent₀)))))))
 
 abbrev decreases-loop : tie.decreases-loop
 decreases-loop numbers degrees columns weights symbols₀ costs₀ store₀ arrived₀ sent₀ limit t₀ symbols costs store arrived sent t = numbers.limit - t
@@ -32,7 +32,7 @@ settled-requires : tie.Need-settled-requires invariant-loop decreases-loop
 settled-requires c κs =
     let at-loop = c.before.before in
     let start = at-loop.before.before.before.before.before.before.before.before.before.before in
-    test-room start.args.numbers start.args.degrees.now start.args.columns.now start.args.weights.now at-loop.loop.costs at-loop.loop.store (eqb at-loop.loop.t 0) at-loop.loop.invariant.1.0 at-loop.loop.symbols (at-loop.loop.invariant.1.1.1.0 ∙ start.requires.symbols)
+    test_room start.args.numbers start.args.degrees.now start.args.columns.now start.args.weights.now at-loop.loop.costs at-loop.loop.store (eqb at-loop.loop.t 0) at-loop.loop.invariant.1.0 at-loop.loop.symbols (at-loop.loop.invariant.1.1.1.0 ∙ start.requires.symbols)
 
 same_length : tie.Need-same-length invariant-loop decreases-loop
 same_length c = search rules
@@ -54,7 +54,7 @@ returns c =
     let at-settled = c.before.before.before in
     let at-loop = at-settled.before.before.before in
     let start = at-loop.before.before.before.before.before.before.before.before.before.before in
-    (run-found (code_of start.args.numbers start.args.degrees.now start.args.columns.now start.args.weights.now) start.args.numbers.limit at-loop.loop.t (lent at-loop.loop.costs at-loop.loop.store) (lent start.args.costs.now start.args.store.now) at-settled.settled.result at-settled.settled.ensures.0 at-loop.loop.invariant.1.1.0 c.if1.true, at-settled.settled.ensures.1)
+    (run_found (code_of start.args.numbers start.args.degrees.now start.args.columns.now start.args.weights.now) start.args.numbers.limit at-loop.loop.t (lent at-loop.loop.costs at-loop.loop.store) (lent start.args.costs.now start.args.store.now) at-settled.settled.result at-settled.settled.ensures.0 at-loop.loop.invariant.1.1.0 c.if1.true, at-settled.settled.ensures.1)
 
 same-length-6 : tie.Need-same-length-6 invariant-loop decreases-loop
 same-length-6 c = search rules

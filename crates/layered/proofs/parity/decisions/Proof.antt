@@ -6,15 +6,15 @@ use native.Mathlib.Omega.{arith}
 use borrow.Author.Rules.{rules}
 use lib.ListN.{length, drop}
 use Rattle.trellis.specs.Lists.{tab}
-use Rattle.trellis.specs.Check.{firstZero}
-use Rattle.machine.specs.CodeLine.{columnOf}
+use Rattle.trellis.specs.Check.{first_zero}
+use Rattle.machine.specs.CodeLine.{column_of}
 use Rattle.machine.proofs.Ranges.{column-room}
 use Rattle.layered.proofs.Satisfied.{each_turn, each-done}
 use Rattle.layered.proofs.parity.decisions.Statement.{statement}
 use Rattle.layered.proofs.parity.decisions.Tie as tie
 
 abbrev invariant-loop : tie.invariant-loop
-invariant-loop costs q symbols₀ c₀ symbols c = (c ≤ length symbols₀) × ((length symbols ≡ length symbols₀) × (symbols ≡ tab (λ (k : ℕ). firstZero (columnOf q costs k)) c ++ drop c symbols₀))
+invariant-loop costs q symbols₀ c₀ symbols c = (c ≤ length symbols₀) × ((length symbols ≡ length symbols₀) × (symbols ≡ tab (λ (k : ℕ). first_zero (column_of q costs k)) c ++ drop c symbols₀))
 
 abbrev decreases-loop : tie.decreases-loop
 decreases-loop costs q symbols₀ c₀ symbols c = length symbols₀ - c
@@ -45,7 +45,7 @@ loop-again c =
     let d = c.before in
     let l = d.before.before in
     let a = l.before.before.before.args in
-    (omega arith, (search rules, each_turn firstZero a.q a.costs.now a.symbols.now l.loop.symbols l.loop.c d.decided.result.symbol (omega arith) l.loop.invariant.1.1 d.decided.ensures.0.0))
+    (omega arith, (search rules, each_turn first_zero a.q a.costs.now a.symbols.now l.loop.symbols l.loop.c d.decided.result.symbol (omega arith) l.loop.invariant.1.1 d.decided.ensures.0.0))
 
 same_length : tie.Need-same-length invariant-loop decreases-loop
 same_length c = search rules
@@ -54,7 +54,7 @@ returns : tie.Need-returns invariant-loop decreases-loop
 returns c =
     let l = c.before in
     let a = l.before.before.before.args in
-    each-done firstZero a.q a.costs.now a.symbols.now l.loop.symbols l.loop.c (omega arith) l.loop.invariant.1.1
+    each-done first_zero a.q a.costs.now a.symbols.now l.loop.symbols l.loop.c (omega arith) l.loop.invariant.1.1
 
 pub decisions-spec : {M : Type 1} → statement M
 decisions-spec =

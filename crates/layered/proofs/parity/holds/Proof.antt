@@ -15,7 +15,7 @@ u8-to-usize-requires c κs = search rules
 unsatisfied-requires : tie.Need-unsatisfied-requires
 unsatisfied-requires c κs =
     let start = c.before.before.before.before.before in
-    (start.requires, record { edge-is = refl; ordered = omega arith; inside = omega (arith, c.u8-to-usize.ensures.0) })
+    (start.requires, record { edge_is = refl; ordered = omega arith; inside = omega (arith, c.u8-to-usize.ensures.0) })
 
 returns : tie.Need-returns
 returns c =

@@ -6,15 +6,15 @@ use native.Mathlib.Omega.{arith}
 use borrow.Author.Rules.{rules}
 use lib.ListN.{length, drop}
 use Rattle.trellis.specs.Lists.{tab}
-use Rattle.trellis.specs.Check.{marginOf}
-use Rattle.machine.specs.CodeLine.{columnOf}
+use Rattle.trellis.specs.Check.{margin_of}
+use Rattle.machine.specs.CodeLine.{column_of}
 use Rattle.machine.proofs.Ranges.{column-room}
 use Rattle.layered.proofs.Satisfied.{each_turn, each-done}
 use Rattle.layered.proofs.parity.margins.Statement.{statement}
 use Rattle.layered.proofs.parity.margins.Tie as tie
 
 abbrev invariant-loop : tie.invariant-loop
-invariant-loop costs q margins₀ c₀ margins c = (c ≤ length margins₀) × ((length margins ≡ length margins₀) × (margins ≡ tab (λ (k : ℕ). marginOf (columnOf q costs k)) c ++ drop c margins₀))
+invariant-loop costs q margins₀ c₀ margins c = (c ≤ length margins₀) × ((length margins ≡ length margins₀) × (margins ≡ tab (λ (k : ℕ). margin_of (column_of q costs k)) c ++ drop c margins₀))
 
 abbrev decreases-loop : tie.decreases-loop
 decreases-loop costs q margins₀ c₀ margins c = length margins₀ - c
@@ -44,7 +44,7 @@ loop-again : tie.Need-loop-preserved invariant-loop decreases-loop
 loop-again c =
     let l = c.before.before in
     let a = l.before.before.before.args in
-    (omega arith, (search rules, each_turn marginOf a.q a.costs.now a.margins.now l.loop.margins l.loop.c c.decided.result.margin (omega arith) l.loop.invariant.1.1 c.decided.ensures.1))
+    (omega arith, (search rules, each_turn margin_of a.q a.costs.now a.margins.now l.loop.margins l.loop.c c.decided.result.margin (omega arith) l.loop.invariant.1.1 c.decided.ensures.1))
 
 same_length : tie.Need-same-length invariant-loop decreases-loop
 same_length c = search rules
@@ -53,7 +53,7 @@ returns : tie.Need-returns invariant-loop decreases-loop
 returns c =
     let l = c.before in
     let a = l.before.before.before.args in
-    each-done marginOf a.q a.costs.now a.margins.now l.loop.margins l.loop.c (omega arith) l.loop.invariant.1.1
+    each-done margin_of a.q a.costs.now a.margins.now l.loop.margins l.loop.c (omega arith) l.loop.invariant.1.1
 
 pub margins-spec : {M : Type 1} → statement M
 margins-spec =

@@ -7,11 +7,11 @@ use Rattle.codeline.specs.inner.Coding.{code_of}
 use Rattle.machine.specs.Machine.{symbols}
 use Rattle.trellis.specs.Lists.{tab}
 use Rattle.trellis.specs.Check.{decide}
-use Rattle.trellis.specs.Rules.{powerOf, size_of}
+use Rattle.trellis.specs.Rules.{power_of, size_of}
 use Rattle.trellis.proofs.Recurrence.{size_64}
-use Rattle.machine.specs.CodeLine.{columnOf}
-use Rattle.layered.specs.inner.Parity.{allHold}
-use Rattle.layered.proofs.Satisfied.{symbols-are, settled-by, decided-room}
+use Rattle.machine.specs.CodeLine.{column_of}
+use Rattle.layered.specs.inner.Parity.{all_hold}
+use Rattle.layered.proofs.Satisfied.{symbols_are, settled-by, decided-room}
 use Rattle.layered.proofs.parity.settled.Statement.{statement}
 use Rattle.layered.proofs.parity.settled.Tie as tie
 
@@ -22,14 +22,14 @@ decisions-requires : tie.Need-decisions-requires
 decisions-requires c κs =
     let at_size = c.before in
     let start = at_size.before.before.before.before.before.before in
-    let e : at_size.size.result ≡ size_of start.args.numbers.first = at_size.size.ensures.0 in (omega (arith, start.requires.ranged.full, ap₂ (λ a b. a * b) start.requires.symbols e), rw e (size_64 (powerOf start.args.numbers.first) start.requires.coded.good.p-high))
+    let e : at_size.size.result ≡ size_of start.args.numbers.first = at_size.size.ensures.0 in (omega (arith, start.requires.ranged.full, ap₂ (λ a b. a * b) start.requires.symbols e), rw e (size_64 (power_of start.args.numbers.first) start.requires.coded.good.p-high))
 
 holds-requires : tie.Need-holds-requires
 holds-requires c κs =
     let at-decisions = c.before.before.before in
     let at_size = at-decisions.before.before in
     let start = at_size.before.before.before.before.before.before in
-    decided-room start.args.numbers start.args.degrees.now start.args.columns.now start.args.weights.now start.args.costs.now start.args.symbols.now _ start.requires (at-decisions.decisions.ensures ∙ ap₂ (λ q n. tab (λ c. (decide (columnOf q start.args.costs.now c)).symbol) n) at_size.size.ensures.0 start.requires.symbols ∙ symbols-are start.args.numbers start.args.degrees.now start.args.columns.now start.args.weights.now start.args.costs.now)
+    decided-room start.args.numbers start.args.degrees.now start.args.columns.now start.args.weights.now start.args.costs.now start.args.symbols.now _ start.requires (at-decisions.decisions.ensures ∙ ap₂ (λ q n. tab (λ c. (decide (column_of q start.args.costs.now c)).symbol) n) at_size.size.ensures.0 start.requires.symbols ∙ symbols_are start.args.numbers start.args.degrees.now start.args.columns.now start.args.weights.now start.args.costs.now)
 
 same_length : tie.Need-same-length
 same_length c = search rules
@@ -39,7 +39,7 @@ returns c =
     let at-decisions = c.before.before.before.before in
     let at_size = at-decisions.before.before in
     let start = at_size.before.before.before.before.before.before in
-    (c.holds.ensures ∙ ap (allHold (code_of start.args.numbers start.args.degrees.now start.args.columns.now start.args.weights.now)) (at-decisions.decisions.ensures ∙ ap₂ (λ q n. tab (λ c. (decide (columnOf q start.args.costs.now c)).symbol) n) at_size.size.ensures.0 start.requires.symbols ∙ symbols-are start.args.numbers start.args.degrees.now start.args.columns.now start.args.weights.now start.args.costs.now) ∙ settled-by start.args.numbers start.args.degrees.now start.args.columns.now start.args.weights.now start.args.costs.now, (at-decisions.decisions.ensures ∙ ap₂ (λ q n. tab (λ c. (decide (columnOf q start.args.costs.now c)).symbol) n) at_size.size.ensures.0 start.requires.symbols ∙ symbols-are start.args.numbers start.args.degrees.now start.args.columns.now start.args.weights.now start.args.costs.now))
+    (c.holds.ensures ∙ ap (all_hold (code_of start.args.numbers start.args.degrees.now start.args.columns.now start.args.weights.now)) (at-decisions.decisions.ensures ∙ ap₂ (λ q n. tab (λ c. (decide (column_of q start.args.costs.now c)).symbol) n) at_size.size.ensures.0 start.requires.symbols ∙ symbols_are start.args.numbers start.args.degrees.now start.args.columns.now start.args.weights.now start.args.costs.now) ∙ settled-by start.args.numbers start.args.degrees.now start.args.columns.now start.args.weights.now start.args.costs.now, (at-decisions.decisions.ensures ∙ ap₂ (λ q n. tab (λ c. (decide (column_of q start.args.costs.now c)).symbol) n) at_size.size.ensures.0 start.requires.symbols ∙ symbols_are start.args.numbers start.args.degrees.now start.args.columns.now start.args.weights.now start.args.costs.now))
 
 pub settled-spec : {M : Type 1} → statement M
 settled-spec =

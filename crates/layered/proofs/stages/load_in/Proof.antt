@@ -3,8 +3,8 @@ use borrow.Author.Rules.{rules}
 use Rattle.codeline.specs.inner.Coding.{code_of}
 use Rattle.machine.specs.Machine.{symbols, margins}
 use Rattle.machine.specs.Decoding.{lending}
-use Rattle.codeline.proofs.Says.{line-says, line-coded}
-use Rattle.layered.proofs.Steps.{refused-loads, said-loads}
+use Rattle.codeline.proofs.Says.{line_says, line-coded}
+use Rattle.layered.proofs.Steps.{refused_loads, said_loads}
 use Rattle.layered.proofs.stages.load_in.Statement.{statement}
 use Rattle.layered.proofs.stages.load_in.Tie as tie
 
@@ -29,7 +29,7 @@ returns c =
     let at-k = c.before in
     let at-code-tables = at-k.before.before in
     let start = at-code-tables.before.before.before.before.before.before.before.before.before.before in
-    refused-loads start.args.code.now start.args.frame.now (lending start.args.symbols.now start.args.costs.now start.args.store.now start.args.margins.now) at-code-tables.code-tables.result at-code-tables.code-tables.ensures.0 _ at-k.k.given.1
+    refused_loads start.args.code.now start.args.frame.now (lending start.args.symbols.now start.args.costs.now start.args.store.now start.args.margins.now) at-code-tables.code-tables.result at-code-tables.code-tables.ensures.0 _ at-k.k.given.1
 
 same_length : tie.Need-same-length
 same_length c = search rules
@@ -46,7 +46,7 @@ returns-2 c =
     let at-numbers = at-load-under.before.before.before.before.before.before.before.before.before.before.before in
     let at-code-tables = at-numbers.before.before in
     let start = at-code-tables.before.before.before.before.before.before.before.before.before.before in
-    said-loads start.args.code.now start.args.frame.now (lending start.args.symbols.now start.args.costs.now start.args.store.now start.args.margins.now) (code_of at-numbers.numbers.given.0.0 at-code-tables.code-tables.new.1.0 at-code-tables.code-tables.new.1.1.0 at-code-tables.code-tables.new.1.1.1.0) (line-says start.args.code.now at-code-tables.code-tables.result at-code-tables.code-tables.ensures.0 at-numbers.numbers.given.0.0 at-numbers.numbers.given.1 _ _ _ at-code-tables.code-tables.new.1.0 at-code-tables.code-tables.new.1.1.0 at-code-tables.code-tables.new.1.1.1.0 at-code-tables.code-tables.ensures.1.0 at-code-tables.code-tables.ensures.1.1.0 at-code-tables.code-tables.ensures.1.1.1) _ _ at-load-under.load-under.ensures
+    said_loads start.args.code.now start.args.frame.now (lending start.args.symbols.now start.args.costs.now start.args.store.now start.args.margins.now) (code_of at-numbers.numbers.given.0.0 at-code-tables.code-tables.new.1.0 at-code-tables.code-tables.new.1.1.0 at-code-tables.code-tables.new.1.1.1.0) (line_says start.args.code.now at-code-tables.code-tables.result at-code-tables.code-tables.ensures.0 at-numbers.numbers.given.0.0 at-numbers.numbers.given.1 _ _ _ at-code-tables.code-tables.new.1.0 at-code-tables.code-tables.new.1.1.0 at-code-tables.code-tables.new.1.1.1.0 at-code-tables.code-tables.ensures.1.0 at-code-tables.code-tables.ensures.1.1.0 at-code-tables.code-tables.ensures.1.1.1) _ _ at-load-under.load-under.ensures
 
 pub load_in_spec : {M : Type 1} → statement M
 load_in_spec =

@@ -3,14 +3,14 @@ use mathlib.Core.Bool.{true, false}
 use borrow.Author.Rules.{rules}
 use borrow.Author.Tests.{le-leb, lt-leb}
 use native.Mathlib.Omega.{arith}
-use Rattle.layered.proofs.Steps.{stage-found, stage-by}
+use Rattle.layered.proofs.Steps.{stage_found, stage-by}
 use Rattle.layered.proofs.stages.stage_after.Statement.{statement}
 use Rattle.layered.proofs.stages.stage_after.Tie as tie
 
 returns : tie.Need-returns
 returns c =
     let a = c.before.args in
-    stage-found a.t a.limit a.found c.if1.true
+    stage_found a.t a.limit a.found c.if1.true
 
 u8-to-u16-requires : tie.Need-u8-to-u16-requires
 u8-to-u16-requires c κs = search rules

@@ -6,7 +6,7 @@ use lib.ListN.{length, take}
 use lib.Seq.{length-take-le}
 use Rattle.machine.specs.Machine.{symbols, margins}
 use Rattle.layered.proofs.Decoded.{fits}
-use Rattle.layered.proofs.Steps.{step-refused, resume-refused, step_room, step-leaves}
+use Rattle.layered.proofs.Steps.{step-refused, resume_refused, step_room, step-leaves}
 use Rattle.layered.proofs.stages.step_under.Statement.{statement}
 use Rattle.layered.proofs.stages.step_under.Tie as tie
 
@@ -57,7 +57,7 @@ returns-2 c =
     let at-fault = at-if1.before in
     let at-u16-to-usize = at-fault.before.before.before.before.before in
     let start = at-u16-to-usize.before.before.before.before.before.before.before.before.before.before.before in
-    resume-refused start.args.numbers start.args.degrees.now start.args.columns.now start.args.weights.now start.requires.coded at-u16-to-usize.u16-to-usize.result at-u16-to-usize.u16-to-usize.ensures.0 start.args.frame.now start.args.symbols.now start.args.costs.now start.args.store.now start.args.margins.now at-fault.fault.result at-fault.fault.ensures at-if1.if1.false start.args.t at-resume-fault.resume-fault.result at-resume-fault.resume-fault.ensures c.if2.true
+    resume_refused start.args.numbers start.args.degrees.now start.args.columns.now start.args.weights.now start.requires.coded at-u16-to-usize.u16-to-usize.result at-u16-to-usize.u16-to-usize.ensures.0 start.args.frame.now start.args.symbols.now start.args.costs.now start.args.store.now start.args.margins.now at-fault.fault.result at-fault.fault.ensures at-if1.if1.false start.args.t at-resume-fault.resume-fault.result at-resume-fault.resume-fault.ensures c.if2.true
 
 slice-relend-prefix-iterated : tie.Need-slice-relend-prefix-iterated
 slice-relend-prefix-iterated c =

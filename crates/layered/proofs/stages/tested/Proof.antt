@@ -7,8 +7,8 @@ use Rattle.machine.specs.Machine.{margins}
 use Rattle.trellis.specs.Lists.{tab}
 use Rattle.trellis.specs.Check.{decide}
 use Rattle.trellis.specs.Rules.{size_of}
-use Rattle.machine.specs.CodeLine.{columnOf}
-use Rattle.layered.proofs.Satisfied.{margins-are}
+use Rattle.machine.specs.CodeLine.{column_of}
+use Rattle.layered.proofs.Satisfied.{margins_are}
 use Rattle.layered.proofs.stages.tested.Statement.{statement}
 use Rattle.layered.proofs.stages.tested.Tie as tie
 
@@ -38,7 +38,7 @@ returns c =
     let at-margins = at-settled.before.before.before.before in
     let at_size = at-margins.before.before in
     let start = at_size.before.before.before.before.before.before.before in
-    (at-settled.settled.ensures.0, (at-settled.settled.ensures.1, at-margins.margins.ensures ∙ ap₂ (λ q n. tab (λ c. (decide (columnOf q start.args.costs.now c)).margin) n) at_size.size.ensures.0 start.requires.margins ∙ margins-are start.args.numbers start.args.degrees.now start.args.columns.now start.args.weights.now start.args.costs.now))
+    (at-settled.settled.ensures.0, (at-settled.settled.ensures.1, at-margins.margins.ensures ∙ ap₂ (λ q n. tab (λ c. (decide (column_of q start.args.costs.now c)).margin) n) at_size.size.ensures.0 start.requires.margins ∙ margins_are start.args.numbers start.args.degrees.now start.args.columns.now start.args.weights.now start.args.costs.now))
 
 pub tested-spec : {M : Type 1} → statement M
 tested-spec =

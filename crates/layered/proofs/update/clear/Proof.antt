@@ -6,7 +6,7 @@ use native.Mathlib.Omega.{arith}
 use borrow.Author.Rules.{rules}
 use lib.ListN.{length, drop}
 use Rattle.trellis.specs.Lists.{tab}
-use Rattle.trellis.proofs.Loops.{tab-more, tab-whole}
+use Rattle.trellis.proofs.Loops.{tab-more, tab_whole}
 use Rattle.layered.proofs.update.clear.Statement.{statement}
 use Rattle.layered.proofs.update.clear.Tie as tie
 
@@ -42,7 +42,7 @@ returns c =
     let l = c.before in
     let d = l.before.args.out.now in
     let e : l.loop.i ≡ length d = omega arith in
-    l.loop.invariant.1.1 ∙ rw e (tab-whole (λ x. 0) d)
+    l.loop.invariant.1.1 ∙ rw e (tab_whole (λ x. 0) d)
 
 pub clear_spec : {M : Type 1} → statement M
 clear_spec =

@@ -18,7 +18,7 @@ returns c =
     let m = c.before.before.before.before in
     let s = m.before.before.before.before.before.before.before in
     let a = s.args in
-    sent_is a.first a.weights.now a.costs.now s.requires.ready a.bytes.now a.out.now _ _ s.requires.for-record s.requires.full m.messages.ensures.1.0 m.messages.ensures.1.1
+    sent_is a.first a.weights.now a.costs.now s.requires.ready a.bytes.now a.out.now _ _ s.requires.for_record s.requires.full m.messages.ensures.1.0 m.messages.ensures.1.1
 
 pub send-spec : {M : Type 1} → statement M
 send-spec = tie.close (tie.spec messages-requires same_length same-length-2 returns)

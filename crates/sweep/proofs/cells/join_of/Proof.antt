@@ -1,6 +1,6 @@
 -- The test decides between the two cases of the definition.
 use borrow.Author.Rules.{rules}
-use Rattle.sweep.proofs.Laws.{join-greatest, join-sum}
+use Rattle.sweep.proofs.Laws.{join_greatest, join-sum}
 use Rattle.sweep.proofs.cells.join_of.Statement.{statement}
 use Rattle.sweep.proofs.cells.join_of.Tie as tie
 
@@ -17,7 +17,7 @@ returns : tie.Need-returns
 returns c =
     let at-if1 = c.before.before.before in
     let start = at-if1.before in
-    join-greatest start.args.a start.args.b at-if1.if1.true (cc)
+    join_greatest start.args.a start.args.b at-if1.if1.true (cc)
 
 u16-to-u32-requires-3 : tie.Need-u16-to-u32-requires-3
 u16-to-u32-requires-3 c κs = search rules

@@ -3,7 +3,7 @@ use mathlib.Core.Path.{ap, ◌∙◌, sym, subst}
 use Prim.Native.Nat.{◌^◌}
 use borrow.Author.Rules.{rules}
 use Rattle.rules.specs.declared.Rule.{Rule}
-use Rattle.sweep.proofs.Laws.{step-asks, step-done}
+use Rattle.sweep.proofs.Laws.{step_asks, step-done}
 use Rattle.checknode.specs.inner.Asks.{Times}
 use Rattle.sweep.specs.inner.Cells.{Sized}
 use Rattle.sweep.proofs.columns.advance.Statement.{statement}
@@ -35,7 +35,7 @@ step-requires c κs =
     let at-column = at-u8-to-usize.before.before.before.before.before in
     let at-rule-of = at-column.before.before.before in
     let start = at-rule-of.before.before.before.before.before.before in
-    step-asks start.args.first start.args.h start.args.costs.now start.requires.0 (ap (λ (r : Rule). r.p) at-rule-of.rule-of.ensures) at-column.column.ensures.0 at-column.column.ensures.1.0 at-column.column.ensures.1.1 at-u8-to-usize.u8-to-usize.ensures.0 at_size.size.ensures.0 (at-u8-to-usize2.u8-to-usize2.ensures.0 ∙ ap (λ (r : Rule). r.k) at-rule-of.rule-of.ensures) (ap (λ (r : Rule). r.greatest) at-rule-of.rule-of.ensures) start.args.cells.now start.args.out.now start.requires.1.0.zero_in start.requires.1.1.0 start.requires.1.1.1
+    step_asks start.args.first start.args.h start.args.costs.now start.requires.0 (ap (λ (r : Rule). r.p) at-rule-of.rule-of.ensures) at-column.column.ensures.0 at-column.column.ensures.1.0 at-column.column.ensures.1.1 at-u8-to-usize.u8-to-usize.ensures.0 at_size.size.ensures.0 (at-u8-to-usize2.u8-to-usize2.ensures.0 ∙ ap (λ (r : Rule). r.k) at-rule-of.rule-of.ensures) (ap (λ (r : Rule). r.greatest) at-rule-of.rule-of.ensures) start.args.cells.now start.args.out.now start.requires.1.0.has_zero start.requires.1.1.0 start.requires.1.1.1
 
 same_length : tie.Need-same-length
 same_length c = search rules

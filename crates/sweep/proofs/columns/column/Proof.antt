@@ -3,7 +3,7 @@ use mathlib.Core.Path.{ap₂, ◌∙◌}
 use native.Mathlib.Omega.{arith}
 use borrow.Author.Rules.{rules}
 use Rattle.trellis.specs.Lists.{tab}
-use Rattle.sweep.specs.inner.Cells.{moveCost}
+use Rattle.sweep.specs.inner.Cells.{move_cost}
 use Rattle.checknode.proofs.Lining.{column-term}
 use Rattle.sweep.proofs.columns.column.Statement.{statement}
 use Rattle.sweep.proofs.columns.column.Tie as tie
@@ -19,14 +19,14 @@ decide-u8-requires c κs = search rules
 move-costs-requires : tie.Need-move-costs-requires
 move-costs-requires c κs =
     let start = c.before.before.before.before.before.before.before.before.before in
-    omega (arith, start.requires.1.of-costs, start.requires.1.of-moves)
+    omega (arith, start.requires.1.of_costs, start.requires.1.of_moves)
 
 slice-read-result : tie.Need-slice-read-result
 slice-read-result c =
     let at-decide = c.before.before.before.before.before in
     let at-products = at-decide.before.before.before in
     let start = at-products.before.before.before.before.before in
-    omega (arith, at-decide.decide-u8.ensures.0.0, start.requires.1.zero_in, start.requires.1.of_row, at-products.products.auto)
+    omega (arith, at-decide.decide-u8.ensures.0.0, start.requires.1.has_zero, start.requires.1.of_row, at-products.products.auto)
 
 same_length : tie.Need-same-length
 same_length c = search rules
@@ -41,7 +41,7 @@ returns c =
     let at-products = at-decide.before.before.before in
     let start = at-products.before.before.before.before.before in
     let costs = start.args.costs.now in
-    (column-term start.args.p start.args.h costs at-products.products.ensures at-decide.decide-u8.ensures.0.0 start.requires.1.zero_in, (at-products.products.ensures, at-move-costs.move-costs.ensures ∙ ap₂ (λ z n. tab (moveCost costs z) n) at-decide.decide-u8.ensures.0.0 start.requires.1.of-moves))
+    (column-term start.args.p start.args.h costs at-products.products.ensures at-decide.decide-u8.ensures.0.0 start.requires.1.has_zero, (at-products.products.ensures, at-move-costs.move-costs.ensures ∙ ap₂ (λ z n. tab (move_cost costs z) n) at-decide.decide-u8.ensures.0.0 start.requires.1.of_moves))
 
 pub column-spec : {M : Type 1} → statement M
 column-spec =

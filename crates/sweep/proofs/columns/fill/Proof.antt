@@ -7,18 +7,18 @@ use native.Mathlib.Omega.{arith}
 use borrow.Author.Rules.{rules}
 use lib.ListN.{length, drop, length-take}
 use Rattle.trellis.specs.Lists.{blocks}
-use Rattle.trellis.specs.Rules.{ruleFor, size_of, columnsOf}
+use Rattle.trellis.specs.Rules.{rule_for, size_of, columns_of}
 use Rattle.trellis.specs.Ready.{Ready}
-use Rattle.sweep.specs.Kept.{cellCount}
-use Rattle.sweep.specs.inner.Cells.{order_of, cellsAfter}
+use Rattle.sweep.specs.Kept.{cell_count}
+use Rattle.sweep.specs.inner.Cells.{order_of, cells_after}
 use Rattle.field.proofs.Blocks.{part_room}
 use Rattle.sweep.proofs.Laws.{past_first, part_length, below_length}
-use Rattle.sweep.proofs.Swept.{ready-sizes, cells-some, table-start, start-length, table-turn, table-copied, table-next, next-length, table-end}
+use Rattle.sweep.proofs.Swept.{ready_sizes, cells_some, table-start, start-length, table_turn, table_copied, table-next, next-length, table-end}
 use Rattle.sweep.proofs.columns.fill.Statement.{statement}
 use Rattle.sweep.proofs.columns.fill.Tie as tie
 
 abbrev invariant-loop : tie.invariant-loop
-invariant-loop first weights costs back cells₀ table₀ d w i₀ cells table i = (1 ≤ i) × ((i ≤ length weights) × (((d ≡ length weights) × (w ≡ cellCount first)) × ((length cells ≡ cellCount first) × ((length table ≡ length weights * w) × (table ≡ blocks (cellsAfter (ruleFor first) back (columnsOf (size_of first) weights costs)) i ++ drop (i * w) table)))))
+invariant-loop first weights costs back cells₀ table₀ d w i₀ cells table i = (1 ≤ i) × ((i ≤ length weights) × (((d ≡ length weights) × (w ≡ cell_count first)) × ((length cells ≡ cell_count first) × ((length table ≡ length weights * w) × (table ≡ blocks (cells_after (rule_for first) back (columns_of (size_of first) weights costs)) i ++ drop (i * w) table)))))
 
 abbrev decreases-loop : tie.decreases-loop
 decreases-loop first weights costs back cells₀ table₀ d w i₀ cells table i = length weights - i
@@ -41,7 +41,7 @@ begin-requires : tie.Need-begin-requires invariant-loop decreases-loop
 begin-requires c κs =
     let at-cell-count = c.before in
     let start = at-cell-count.before.before.before.before.before in
-    simp length-take (omega (arith, part_room 0 (length start.args.weights.now) at-cell-count.cell-count.result (omega (arith, start.requires.0.two)), ap (λ y. (length start.args.weights.now) * y) at-cell-count.cell-count.ensures.0, start.requires.1.1, at-cell-count.cell-count.ensures.0, cells-some start.args.first start.args.weights.now start.args.costs.now start.requires.0))
+    simp length-take (omega (arith, part_room 0 (length start.args.weights.now) at-cell-count.cell-count.result (omega (arith, start.requires.0.two)), ap (λ y. (length start.args.weights.now) * y) at-cell-count.cell-count.ensures.0, start.requires.1.1, at-cell-count.cell-count.ensures.0, cells_some start.args.first start.args.weights.now start.args.costs.now start.requires.0))
 
 loop-holds : tie.Need-loop-init invariant-loop decreases-loop
 loop-holds c =
@@ -53,8 +53,8 @@ loop-holds c =
     let cs : List ℕ = start.args.costs.now in
     let D = start.requires.0 in
     let w : ℕ = at-cell-count.cell-count.result in
-    let we : w ≡ cellCount f = at-cell-count.cell-count.ensures.0 in
-    let wt : length ws * w ≡ length ws * cellCount f = ap (λ y. length ws * y) we in
+    let we : w ≡ cell_count f = at-cell-count.cell-count.ensures.0 in
+    let wt : length ws * w ≡ length ws * cell_count f = ap (λ y. length ws * y) we in
     let t : List ℕ = start.args.table.now in
     let h : w ≤ length t = omega (arith, part_room 0 (length ws) w (omega (arith, D.two)), wt, start.requires.1.1) in
     let n = start-length f ws cs D start.args.back t w h at-begin.begin.ensures in
@@ -77,7 +77,7 @@ module _ (o : tie.In-loop invariant-loop decreases-loop) where
   abbrev w : ℕ
   w = o.before.before.before.before.before.before.cell-count.result
 
-  count : w ≡ cellCount first
+  count : w ≡ cell_count first
   count = o.before.before.before.before.before.before.cell-count.ensures.0
 
   abbrev i : ℕ
@@ -92,23 +92,23 @@ module _ (o : tie.In-loop invariant-loop decreases-loop) where
   past : w ≤ i * w
   past = past_first i w (λ (z : i ≡ 0). omega (arith, o.before.loop.inv.0))
 
-  whole : length ws * w ≡ length ws * cellCount first
+  whole : length ws * w ≡ length ws * cell_count first
   whole = ap (λ y. length ws * y) count
 
   in_table : i * w + w ≤ length o.before.loop.table
   in_table = omega (arith, within, o.before.loop.inv.1.1.1.1.0)
 
 mul-b : tie.Need-overflow-mul-b invariant-loop decreases-loop
-mul-b c = omega (arith, within c, whole c, ready-sizes (first c) (ws c) (cs c) (ready c))
+mul-b c = omega (arith, within c, whole c, ready_sizes (first c) (ws c) (cs c) (ready c))
 
 sub-a : tie.Need-overflow-sub-a invariant-loop decreases-loop
 sub-a c = omega (arith, past c)
 
 add-e : tie.Need-overflow-add-e invariant-loop decreases-loop
-add-e c = omega (arith, within c, whole c, ready-sizes (first c) (ws c) (cs c) (ready c))
+add-e c = omega (arith, within c, whole c, ready_sizes (first c) (ws c) (cs c) (ready c))
 
 mul-copy : tie.Need-overflow-mul-copy invariant-loop decreases-loop
-mul-copy c = omega (arith, within c, whole c, ready-sizes (first c) (ws c) (cs c) (ready c), past c)
+mul-copy c = omega (arith, within c, whole c, ready_sizes (first c) (ws c) (cs c) (ready c), past c)
 
 sub-copy : tie.Need-overflow-sub-copy invariant-loop decreases-loop
 sub-copy c = search rules
@@ -137,7 +137,7 @@ order-requires c κs =
 mul-turn : tie.Need-overflow-mul-turn invariant-loop decreases-loop
 mul-turn c =
     let o = c.before.before.before.before.before.before.before.before in
-    omega (arith, within o, whole o, ready-sizes (first o) (ws o) (cs o) (ready o))
+    omega (arith, within o, whole o, ready_sizes (first o) (ws o) (cs o) (ready o))
 
 sub-turn : tie.Need-overflow-sub-turn invariant-loop decreases-loop
 sub-turn c = search rules
@@ -176,9 +176,9 @@ loop-again c =
     let t : List ℕ = o.before.loop.table in
     let inv = o.before.loop.invariant.1.1 in
     let back : Bool = o.before.before.before.before.before.before.before.before.before.before.before.args.back in
-    let copied = table-copied (first o) (ws o) (cs o) (ready o) back (i o) some (w o) (count o) t inv.1.1.1 at_copy.copy.ensures in
+    let copied = table_copied (first o) (ws o) (cs o) (ready o) back (i o) some (w o) (count o) t inv.1.1.1 at_copy.copy.ensures in
     let n = at-order.order.ensures.0 ∙ ap (λ y. order_of back y (i o - 1)) inv.0.0 in
-    let k = table-turn (first o) (ws o) (cs o) (ready o) back (i o) some (w o) (count o) at-order.order.result (below o) n (omega (arith, at-order.order.ensures.1, inv.0.0)) copied at_turn.turn.ensures in
+    let k = table_turn (first o) (ws o) (cs o) (ready o) back (i o) some (w o) (count o) at-order.order.result (below o) n (omega (arith, at-order.order.ensures.1, inv.0.0)) copied at_turn.turn.ensures in
     let m = next-length (first o) (ws o) (cs o) (ready o) back (i o) some (w o) (count o) t (in_table o) k in
     (omega arith, (omega (arith, below o), (inv.0, (omega (arith, at_copy.copy.auto, inv.1.0), (m ∙ inv.1.1.0, table-next (first o) (ws o) (cs o) (ready o) back (i o) some (w o) (count o) t inv.1.1.1 k)))))
 
@@ -202,7 +202,7 @@ returns c =
     let cs : List ℕ = start.args.costs.now in
     let D = start.requires.0 in
     let w : ℕ = at-cell-count.cell-count.result in
-    let we : w ≡ cellCount f = at-cell-count.cell-count.ensures.0 in
+    let we : w ≡ cell_count f = at-cell-count.cell-count.ensures.0 in
     let i : ℕ = at-loop.loop.i in
     let inv = at-loop.loop.invariant.1.1 in
     let e : i ≡ length ws = omega (arith, c.loop-test.false, at-loop.loop.invariant.1.0, inv.0.0) in

@@ -7,7 +7,7 @@ use borrow.Author.Rules.{rules}
 use lib.ListN.{length, drop, length-set}
 use Rattle.trellis.specs.Lists.{tab}
 use Rattle.trellis.specs.Field.{product}
-use Rattle.sweep.proofs.Laws.{tab-turn, tab-end}
+use Rattle.sweep.proofs.Laws.{tab_turn, tab-end}
 use Rattle.sweep.proofs.columns.products.Statement.{statement}
 use Rattle.sweep.proofs.columns.products.Tie as tie
 
@@ -45,7 +45,7 @@ loop-again : tie.Need-loop-preserved invariant-loop decreases-loop
 loop-again c =
     let at-loop = c.before.before in
     let start = at-loop.before.before in
-    (omega arith, (simp length-set (omega arith), tab-turn (product start.args.p start.args.h) at-loop.loop.row start.args.row.now at-loop.loop.x (omega arith) at-loop.loop.invariant.1.1 c.times.ensures))
+    (omega arith, (simp length-set (omega arith), tab_turn (product start.args.p start.args.h) at-loop.loop.row start.args.row.now at-loop.loop.x (omega arith) at-loop.loop.invariant.1.1 c.times.ensures))
 
 same_length : tie.Need-same-length invariant-loop decreases-loop
 same_length c = search rules

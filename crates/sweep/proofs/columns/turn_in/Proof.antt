@@ -3,9 +3,9 @@ use mathlib.Core.Path.{ap, ◌∙◌}
 use native.Mathlib.Omega.{arith}
 use borrow.Author.Rules.{rules}
 use lib.ListN.{get_or, length-take}
-use Rattle.trellis.specs.Rules.{powerOf, most_of, greatestOf}
-use Rattle.sweep.specs.inner.Cells.{stepBy}
-use Rattle.checknode.proofs.Turns.{part-is as costs-part, ready-times}
+use Rattle.trellis.specs.Rules.{power_of, most_of, greatest_of}
+use Rattle.sweep.specs.inner.Cells.{step_by}
+use Rattle.checknode.proofs.Turns.{part_is as costs-part, ready-times}
 use Rattle.sweep.proofs.Swept.{costs-room, sized_of, size-limit}
 use Rattle.sweep.proofs.columns.turn_in.Statement.{statement}
 use Rattle.sweep.proofs.columns.turn_in.Tie as tie
@@ -89,7 +89,7 @@ returns c =
     let weights = start.args.weights.now in
     let first = start.args.first in
     let n = start.args.n in
-    at-advance.advance.ensures ∙ ap (λ l. stepBy (powerOf first) (greatestOf first) (most_of first) (get_or weights n 0) l start.args.cells.now) (costs-part first weights start.args.costs.now start.requires.0 n start.requires.1.0.0 at_size.size.result at_size.size.ensures.0)
+    at-advance.advance.ensures ∙ ap (λ l. step_by (power_of first) (greatest_of first) (most_of first) (get_or weights n 0) l start.args.cells.now) (costs-part first weights start.args.costs.now start.requires.0 n start.requires.1.0.0 at_size.size.result at_size.size.ensures.0)
 
 pub turn-in-spec : {M : Type 1} → statement M
 turn-in-spec =

@@ -4,8 +4,8 @@ use Prim.Native.Nat.{◌≤◌}
 use native.Mathlib.Omega.{arith}
 use borrow.Author.Rules.{rules}
 use lib.ListN.{length, set, length-set, length-take, length-drop}
-use Rattle.sweep.specs.inner.Groups.{sentOf, pairCount}
-use Rattle.sweep.proofs.Grouping.{pair-length, group-full, group-done, group-rest}
+use Rattle.sweep.specs.inner.Groups.{sent_of, pair_count}
+use Rattle.sweep.proofs.Grouping.{pair_length, group-full, group-done, group-rest}
 use Rattle.sweep.proofs.group.group.Statement.{statement}
 use Rattle.sweep.proofs.group.group.Tie as tie
 
@@ -40,35 +40,35 @@ pairs-requires c κs =
     let d = start.args.d in
     let q = start.args.q in
     let a = start.args.a in
-    ((start.requires.0.0, (start.requires.0.1.0, start.requires.0.1.1.0)), (let f : (pairCount at-lowest.lowest.result (sentOf sent q a) d) ≤ start.args.k = (rw (← at-lowest.lowest.ensures) at start.requires.1.1) in simp (length-take, length-drop, length-set) (omega (arith, f, start.requires.1.0, pair-length at-lowest.lowest.result (sentOf sent q a) d))))
+    ((start.requires.0.0, (start.requires.0.1.0, start.requires.0.1.1.0)), (let f : (pair_count at-lowest.lowest.result (sent_of sent q a) d) ≤ start.args.k = (rw (← at-lowest.lowest.ensures) at start.requires.1.1) in simp (length-take, length-drop, length-set) (omega (arith, f, start.requires.1.0, pair_length at-lowest.lowest.result (sent_of sent q a) d))))
 
 mul-b : tie.Need-overflow-mul-b
 mul-b c =
     let at-pairs = c.before.before in
     let at-lowest = at-pairs.before.before in
     let start = at-lowest.before.before.before in
-    let f : (pairCount at-lowest.lowest.result (sentOf start.args.sent.now start.args.q start.args.a) start.args.d) ≤ start.args.k = (rw (← at-lowest.lowest.ensures) at start.requires.1.1) in omega (arith, f, at-pairs.pairs.ensures.0, start.requires.0.1.1.1)
+    let f : (pair_count at-lowest.lowest.result (sent_of start.args.sent.now start.args.q start.args.a) start.args.d) ≤ start.args.k = (rw (← at-lowest.lowest.ensures) at start.requires.1.1) in omega (arith, f, at-pairs.pairs.ensures.0, start.requires.0.1.1.1)
 
 add-b : tie.Need-overflow-add-b
 add-b c =
     let at-pairs = c.before.before in
     let at-lowest = at-pairs.before.before in
     let start = at-lowest.before.before.before in
-    let f : (pairCount at-lowest.lowest.result (sentOf start.args.sent.now start.args.q start.args.a) start.args.d) ≤ start.args.k = (rw (← at-lowest.lowest.ensures) at start.requires.1.1) in omega (arith, f, at-pairs.pairs.ensures.0, start.requires.0.1.1.1)
+    let f : (pair_count at-lowest.lowest.result (sent_of start.args.sent.now start.args.q start.args.a) start.args.d) ≤ start.args.k = (rw (← at-lowest.lowest.ensures) at start.requires.1.1) in omega (arith, f, at-pairs.pairs.ensures.0, start.requires.0.1.1.1)
 
 sub-pads : tie.Need-overflow-sub-pads
 sub-pads c =
     let at-pairs = c.before.before in
     let at-lowest = at-pairs.before.before in
     let start = at-lowest.before.before.before in
-    let f : (pairCount at-lowest.lowest.result (sentOf start.args.sent.now start.args.q start.args.a) start.args.d) ≤ start.args.k = (rw (← at-lowest.lowest.ensures) at start.requires.1.1) in simp length-set (omega (arith, f, at-pairs.pairs.ensures.0, start.requires.1.0))
+    let f : (pair_count at-lowest.lowest.result (sent_of start.args.sent.now start.args.q start.args.a) start.args.d) ≤ start.args.k = (rw (← at-lowest.lowest.ensures) at start.requires.1.1) in simp length-set (omega (arith, f, at-pairs.pairs.ensures.0, start.requires.1.0))
 
 part-pads-start : tie.Need-slice-bounds-pads-start
 part-pads-start c =
     let at-pairs = c.before.before in
     let at-lowest = at-pairs.before.before in
     let start = at-lowest.before.before.before in
-    let f : (pairCount at-lowest.lowest.result (sentOf start.args.sent.now start.args.q start.args.a) start.args.d) ≤ start.args.k = (rw (← at-lowest.lowest.ensures) at start.requires.1.1) in simp length-set (omega (arith, f, at-pairs.pairs.ensures.0, start.requires.1.0))
+    let f : (pair_count at-lowest.lowest.result (sent_of start.args.sent.now start.args.q start.args.a) start.args.d) ≤ start.args.k = (rw (← at-lowest.lowest.ensures) at start.requires.1.1) in simp length-set (omega (arith, f, at-pairs.pairs.ensures.0, start.requires.1.0))
 
 part-pads-end : tie.Need-slice-bounds-pads-end
 part-pads-end c = search rules
@@ -78,7 +78,7 @@ sub-pads-2 c =
     let at-pairs = c.before.before.before in
     let at-lowest = at-pairs.before.before in
     let start = at-lowest.before.before.before in
-    let f : (pairCount at-lowest.lowest.result (sentOf start.args.sent.now start.args.q start.args.a) start.args.d) ≤ start.args.k = (rw (← at-lowest.lowest.ensures) at start.requires.1.1) in omega (arith, f, at-pairs.pairs.ensures.0)
+    let f : (pair_count at-lowest.lowest.result (sent_of start.args.sent.now start.args.q start.args.a) start.args.d) ≤ start.args.k = (rw (← at-lowest.lowest.ensures) at start.requires.1.1) in omega (arith, f, at-pairs.pairs.ensures.0)
 
 pads-requires : tie.Need-pads-requires
 pads-requires c κs =
@@ -91,7 +91,7 @@ pads-requires c κs =
     let d = start.args.d in
     let q = start.args.q in
     let a = start.args.a in
-    (group-rest k d (sentOf sent q a) out at-lowest.lowest.result (length (set out 0 at-lowest.lowest.result)) at-pairs.pairs.result start.requires.1.0 (let z : (length (set out 0 at-lowest.lowest.result)) ≡ length out = simp length-set in z) at-pairs.pairs.ensures.0 (let f : (pairCount at-lowest.lowest.result (sentOf sent q a) d) ≤ k = (rw (← at-lowest.lowest.ensures) at start.requires.1.1) in omega (arith, f, at-pairs.pairs.ensures.0)) at-pairs.pairs.ensures.1, omega (arith, start.requires.0.1.1.1))
+    (group-rest k d (sent_of sent q a) out at-lowest.lowest.result (length (set out 0 at-lowest.lowest.result)) at-pairs.pairs.result start.requires.1.0 (let z : (length (set out 0 at-lowest.lowest.result)) ≡ length out = simp length-set in z) at-pairs.pairs.ensures.0 (let f : (pair_count at-lowest.lowest.result (sent_of sent q a) d) ≤ k = (rw (← at-lowest.lowest.ensures) at start.requires.1.1) in omega (arith, f, at-pairs.pairs.ensures.0)) at-pairs.pairs.ensures.1, omega (arith, start.requires.0.1.1.1))
 
 same_length : tie.Need-same-length
 same_length c =
@@ -105,7 +105,7 @@ same_length c =
     let d = start.args.d in
     let q = start.args.q in
     let a = start.args.a in
-    ap length (group-done k d (sentOf sent q a) out at-lowest.lowest.result (length (set out 0 at-lowest.lowest.result)) at-pairs.pairs.result start.requires.1.0 (let z : (length (set out 0 at-lowest.lowest.result)) ≡ length out = simp length-set in z) at-lowest.lowest.ensures at-pairs.pairs.ensures.0 (let f : (pairCount at-lowest.lowest.result (sentOf sent q a) d) ≤ k = (rw (← at-lowest.lowest.ensures) at start.requires.1.1) in omega (arith, f, at-pairs.pairs.ensures.0)) at-pairs.pairs.ensures.1 at-pads.pads.ensures) ∙ group-full k d (sentOf sent q a) start.requires.1.1 ∙ sym start.requires.1.0
+    ap length (group-done k d (sent_of sent q a) out at-lowest.lowest.result (length (set out 0 at-lowest.lowest.result)) at-pairs.pairs.result start.requires.1.0 (let z : (length (set out 0 at-lowest.lowest.result)) ≡ length out = simp length-set in z) at-lowest.lowest.ensures at-pairs.pairs.ensures.0 (let f : (pair_count at-lowest.lowest.result (sent_of sent q a) d) ≤ k = (rw (← at-lowest.lowest.ensures) at start.requires.1.1) in omega (arith, f, at-pairs.pairs.ensures.0)) at-pairs.pairs.ensures.1 at-pads.pads.ensures) ∙ group-full k d (sent_of sent q a) start.requires.1.1 ∙ sym start.requires.1.0
 
 returns : tie.Need-returns
 returns c =
@@ -119,7 +119,7 @@ returns c =
     let d = start.args.d in
     let q = start.args.q in
     let a = start.args.a in
-    group-done k d (sentOf sent q a) out at-lowest.lowest.result (length (set out 0 at-lowest.lowest.result)) at-pairs.pairs.result start.requires.1.0 (let z : (length (set out 0 at-lowest.lowest.result)) ≡ length out = simp length-set in z) at-lowest.lowest.ensures at-pairs.pairs.ensures.0 (let f : (pairCount at-lowest.lowest.result (sentOf sent q a) d) ≤ k = (rw (← at-lowest.lowest.ensures) at start.requires.1.1) in omega (arith, f, at-pairs.pairs.ensures.0)) at-pairs.pairs.ensures.1 at-pads.pads.ensures
+    group-done k d (sent_of sent q a) out at-lowest.lowest.result (length (set out 0 at-lowest.lowest.result)) at-pairs.pairs.result start.requires.1.0 (let z : (length (set out 0 at-lowest.lowest.result)) ≡ length out = simp length-set in z) at-lowest.lowest.ensures at-pairs.pairs.ensures.0 (let f : (pair_count at-lowest.lowest.result (sent_of sent q a) d) ≤ k = (rw (← at-lowest.lowest.ensures) at start.requires.1.1) in omega (arith, f, at-pairs.pairs.ensures.0)) at-pairs.pairs.ensures.1 at-pads.pads.ensures
 
 pub group-spec : {M : Type 1} → statement M
 group-spec =

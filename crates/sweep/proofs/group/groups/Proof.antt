@@ -6,15 +6,15 @@ use native.Mathlib.Omega.{arith}
 use borrow.Author.Rules.{rules}
 use lib.ListN.{length, drop}
 use Rattle.trellis.specs.Lists.{blocks}
-use Rattle.sweep.specs.inner.Groups.{sentOf, groupBy}
+use Rattle.sweep.specs.inner.Groups.{sent_of, group_by}
 use Rattle.field.proofs.Blocks.{part_room}
 use Rattle.sweep.proofs.Laws.{part_length, drop-none}
-use Rattle.sweep.proofs.Grouping.{length-blocks-to, block-turn, block_last, group-full}
+use Rattle.sweep.proofs.Grouping.{length-blocks_to, block_turn, block_last, group-full}
 use Rattle.sweep.proofs.group.groups.Statement.{statement}
 use Rattle.sweep.proofs.group.groups.Tie as tie
 
 abbrev invariant-loop : tie.invariant-loop
-invariant-loop sent q d k out₀ w i₀ out i = (i ≤ q - 1) × ((length out ≡ length out₀) × (out ≡ blocks (λ i. groupBy k d (sentOf sent q (i + 1))) i ++ drop (i * w) out₀))
+invariant-loop sent q d k out₀ w i₀ out i = (i ≤ q - 1) × ((length out ≡ length out₀) × (out ≡ blocks (λ i. group_by k d (sent_of sent q (i + 1))) i ++ drop (i * w) out₀))
 
 abbrev decreases-loop : tie.decreases-loop
 decreases-loop sent q d k out₀ w i₀ out i = q - 1 - i
@@ -90,7 +90,7 @@ loop-again c =
     let k = start.args.k in
     let d = start.args.d in
     let q = start.args.q in
-    let l : at-loop.loop.i < q - 1 = at-loop-test.loop-test.true in (omega (arith, l), (omega (arith, at-loop.loop.invariant.1.0), block-turn (λ i. groupBy k d (sentOf sent q (i + 1))) (1 + 2 * k) start.args.out.now at-loop.loop.out at-loop.loop.i (length-blocks-to (λ i. groupBy k d (sentOf sent q (i + 1))) (1 + 2 * k) at-loop.loop.i (λ j l. group-full k d (sentOf sent q (j + 1)) (start.requires.1.0.few (j + 1) (omega arith) (omega (arith, l))))) at-loop.loop.invariant.1.1 at-group.group.ensures))
+    let l : at-loop.loop.i < q - 1 = at-loop-test.loop-test.true in (omega (arith, l), (omega (arith, at-loop.loop.invariant.1.0), block_turn (λ i. group_by k d (sent_of sent q (i + 1))) (1 + 2 * k) start.args.out.now at-loop.loop.out at-loop.loop.i (length-blocks_to (λ i. group_by k d (sent_of sent q (i + 1))) (1 + 2 * k) at-loop.loop.i (λ j l. group-full k d (sent_of sent q (j + 1)) (start.requires.1.0.few (j + 1) (omega arith) (omega (arith, l))))) at-loop.loop.invariant.1.1 at-group.group.ensures))
 
 same_length : tie.Need-same-length invariant-loop decreases-loop
 same_length c = search rules
@@ -103,7 +103,7 @@ returns c =
     let k = start.args.k in
     let d = start.args.d in
     let q = start.args.q in
-    let e : at-loop.loop.i ≡ q - 1 = omega arith in block_last (λ i. groupBy k d (sentOf sent q (i + 1))) (1 + 2 * k) start.args.out.now at-loop.loop.out at-loop.loop.i at-loop.loop.invariant.1.1 (rw e start.requires.1.1) ∙ ap (blocks (λ i. groupBy k d (sentOf sent q (i + 1)))) e
+    let e : at-loop.loop.i ≡ q - 1 = omega arith in block_last (λ i. group_by k d (sent_of sent q (i + 1))) (1 + 2 * k) start.args.out.now at-loop.loop.out at-loop.loop.i at-loop.loop.invariant.1.1 (rw e start.requires.1.1) ∙ ap (blocks (λ i. group_by k d (sent_of sent q (i + 1)))) e
 
 pub groups-spec : {M : Type 1} → statement M
 groups-spec =

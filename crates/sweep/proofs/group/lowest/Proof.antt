@@ -3,14 +3,14 @@ use mathlib.Core.Path.{◌≡◌, refl, ap, ◌∙◌}
 use Prim.Native.Nat.{◌-◌, ◌≤◌}
 use native.Mathlib.Omega.{arith}
 use borrow.Author.Rules.{rules}
-use Rattle.sweep.specs.inner.Groups.{lowestTo, sentOf}
+use Rattle.sweep.specs.inner.Groups.{lowest_to, sent_of}
 use Rattle.field.proofs.Blocks.{part_room}
-use Rattle.sweep.proofs.Grouping.{lowest-turn}
+use Rattle.sweep.proofs.Grouping.{lowest_turn}
 use Rattle.sweep.proofs.group.lowest.Statement.{statement}
 use Rattle.sweep.proofs.group.lowest.Tie as tie
 
 abbrev invariant-loop : tie.invariant-loop
-invariant-loop sent q d a e₀ n₀ e n = (n ≤ d) × (e ≡ lowestTo (sentOf sent q a) n)
+invariant-loop sent q d a e₀ n₀ e n = (n ≤ d) × (e ≡ lowest_to (sent_of sent q a) n)
 
 abbrev decreases-loop : tie.decreases-loop
 decreases-loop sent q d a e₀ n₀ e n = d - n
@@ -50,13 +50,13 @@ loop-again : tie.Need-loop-preserved invariant-loop decreases-loop
 loop-again c =
     let at-loop = c.before.before.before in
     let start = at-loop.before.before in
-    (omega arith, lowest-turn (sentOf start.args.sent.now start.args.q start.args.a) at-loop.loop.n at-loop.loop.invariant.1 refl c.min-u8.ensures)
+    (omega arith, lowest_turn (sent_of start.args.sent.now start.args.q start.args.a) at-loop.loop.n at-loop.loop.invariant.1 refl c.min-u8.ensures)
 
 returns : tie.Need-returns invariant-loop decreases-loop
 returns c =
     let at-loop = c.before in
     let start = at-loop.before.before in
-    let e : at-loop.loop.n ≡ start.args.d = omega arith in at-loop.loop.invariant.1 ∙ ap (lowestTo (sentOf start.args.sent.now start.args.q start.args.a)) e
+    let e : at-loop.loop.n ≡ start.args.d = omega arith in at-loop.loop.invariant.1 ∙ ap (lowest_to (sent_of start.args.sent.now start.args.q start.args.a)) e
 
 pub lowest-spec : {M : Type 1} → statement M
 lowest-spec =

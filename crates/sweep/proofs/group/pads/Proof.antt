@@ -6,14 +6,14 @@ use native.Mathlib.Omega.{arith}
 use borrow.Author.Rules.{rules}
 use lib.ListN.{length, take, drop}
 use Rattle.trellis.specs.Lists.{blocks}
-use Rattle.sweep.specs.inner.Groups.{unusedPair}
+use Rattle.sweep.specs.inner.Groups.{unused_pair}
 use Rattle.sweep.proofs.Laws.{part_length, drop-none}
-use Rattle.sweep.proofs.Grouping.{two-of, length-blocks-to, block-turn, block_last}
+use Rattle.sweep.proofs.Grouping.{two_of_lem, length-blocks_to, block_turn, block_last}
 use Rattle.sweep.proofs.group.pads.Statement.{statement}
 use Rattle.sweep.proofs.group.pads.Tie as tie
 
 abbrev invariant-loop : tie.invariant-loop
-invariant-loop out₀ m i₀ out i = (i ≤ m) × ((length out ≡ length out₀) × (out ≡ blocks unusedPair i ++ drop (i * 2) out₀))
+invariant-loop out₀ m i₀ out i = (i ≤ m) × ((length out ≡ length out₀) × (out ≡ blocks unused_pair i ++ drop (i * 2) out₀))
 
 abbrev decreases-loop : tie.decreases-loop
 decreases-loop out₀ m i₀ out i = m - i
@@ -57,7 +57,7 @@ loop-again c =
     let at-loop-test = at-put-pair.before.before in
     let at-loop = at-loop-test.before in
     let start = at-loop.before.before in
-    (omega arith, (omega arith, block-turn unusedPair 2 start.args.out.now at-loop.loop.out at-loop.loop.i (length-blocks-to unusedPair 2 at-loop.loop.i (λ j l. refl)) at-loop.loop.invariant.1.1 (at-put-pair.put-pair.ensures ∙ two-of (take (at-loop.loop.i * 2 + 2 - at-loop.loop.i * 2) (drop (at-loop.loop.i * 2) at-loop.loop.out)) 255 0 (part_length at-loop.loop.out (at-loop.loop.i * 2) 2 (omega (arith, start.requires.0, at-loop.loop.invariant.1.0, at-loop-test.loop-test.true))))))
+    (omega arith, (omega arith, block_turn unused_pair 2 start.args.out.now at-loop.loop.out at-loop.loop.i (length-blocks_to unused_pair 2 at-loop.loop.i (λ j l. refl)) at-loop.loop.invariant.1.1 (at-put-pair.put-pair.ensures ∙ two_of_lem (take (at-loop.loop.i * 2 + 2 - at-loop.loop.i * 2) (drop (at-loop.loop.i * 2) at-loop.loop.out)) 255 0 (part_length at-loop.loop.out (at-loop.loop.i * 2) 2 (omega (arith, start.requires.0, at-loop.loop.invariant.1.0, at-loop-test.loop-test.true))))))
 
 same_length : tie.Need-same-length invariant-loop decreases-loop
 same_length c = search rules
@@ -66,7 +66,7 @@ returns : tie.Need-returns invariant-loop decreases-loop
 returns c =
     let at-loop = c.before in
     let start = at-loop.before.before in
-    let e : at-loop.loop.i ≡ start.args.m = omega arith in block_last unusedPair 2 start.args.out.now at-loop.loop.out at-loop.loop.i at-loop.loop.invariant.1.1 (omega (arith, start.requires.0, e)) ∙ ap (blocks unusedPair) e
+    let e : at-loop.loop.i ≡ start.args.m = omega arith in block_last unused_pair 2 start.args.out.now at-loop.loop.out at-loop.loop.i at-loop.loop.invariant.1.1 (omega (arith, start.requires.0, e)) ∙ ap (blocks unused_pair) e
 
 pub pads-spec : {M : Type 1} → statement M
 pads-spec =

@@ -6,14 +6,14 @@ use native.Mathlib.Omega.{arith}
 use borrow.Author.Rules.{rules}
 use lib.ListN.{length, drop}
 use Rattle.trellis.specs.Lists.{blocks}
-use Rattle.sweep.specs.inner.Groups.{sentOf, pairAbove, pairCount}
+use Rattle.sweep.specs.inner.Groups.{sent_of, pair_above, pair_count}
 use Rattle.field.proofs.Blocks.{part_room}
-use Rattle.sweep.proofs.Grouping.{pair-length, pair-room, count_small, count_turn, pair_turn}
+use Rattle.sweep.proofs.Grouping.{pair_length, pair_room, count_small, count_turn, pair_turn}
 use Rattle.sweep.proofs.group.pairs.Statement.{statement}
 use Rattle.sweep.proofs.group.pairs.Tie as tie
 
 abbrev invariant-loop : tie.invariant-loop
-invariant-loop sent q d a e out₀ c₀ n₀ out c n = (n ≤ d) × ((length out ≡ length out₀) × ((c ≡ pairCount e (sentOf sent q a) n) × (out ≡ blocks (pairAbove e (sentOf sent q a)) n ++ drop (pairCount e (sentOf sent q a) n * 2) out₀)))
+invariant-loop sent q d a e out₀ c₀ n₀ out c n = (n ≤ d) × ((length out ≡ length out₀) × ((c ≡ pair_count e (sent_of sent q a) n) × (out ≡ blocks (pair_above e (sent_of sent q a)) n ++ drop (pair_count e (sent_of sent q a) n * 2) out₀)))
 
 abbrev decreases-loop : tie.decreases-loop
 decreases-loop sent q d a e out₀ c₀ n₀ out c n = d - n
@@ -58,7 +58,7 @@ put-above-requires c κs =
     let q = start.args.q in
     let a = start.args.a in
     let e = start.args.e in
-    (omega (arith, at-loop.loop.invariant.1.1.0, count_small e (sentOf sent q a) at-loop.loop.n, start.requires.0, at-loop-test.loop-test.true), (let h : pairCount e (sentOf sent q a) d * 2 ≤ length start.args.out.now = (omega (arith, start.requires.1, pair-length e (sentOf sent q a) d)) in rw at-loop.loop.invariant.1.1.0 (omega (arith, pair-room e (sentOf sent q a) d at-loop.loop.n at-loop-test.loop-test.true, h, at-loop.loop.invariant.1.0))))
+    (omega (arith, at-loop.loop.invariant.1.1.0, count_small e (sent_of sent q a) at-loop.loop.n, start.requires.0, at-loop-test.loop-test.true), (let h : pair_count e (sent_of sent q a) d * 2 ≤ length start.args.out.now = (omega (arith, start.requires.1, pair_length e (sent_of sent q a) d)) in rw at-loop.loop.invariant.1.1.0 (omega (arith, pair_room e (sent_of sent q a) d at-loop.loop.n at-loop-test.loop-test.true, h, at-loop.loop.invariant.1.0))))
 
 add-n : tie.Need-overflow-add-n invariant-loop decreases-loop
 add-n c = search rules
@@ -77,7 +77,7 @@ loop-again c =
     let q = start.args.q in
     let a = start.args.a in
     let e = start.args.e in
-    (omega arith, (omega (arith, at-put-above.put-above.auto, at-loop.loop.invariant.1.0), (count_turn e (sentOf sent q a) at-loop.loop.n at-loop.loop.c at-loop.loop.invariant.1.1.0 refl at-put-above.put-above.ensures.0, pair_turn e (sentOf sent q a) d at-loop.loop.n at-loop.loop.c start.args.out.now at-loop.loop.out at-loop-test.loop-test.true (omega (arith, start.requires.1, pair-length e (sentOf sent q a) d)) at-loop.loop.invariant.1.1.0 (cc) refl at-loop.loop.invariant.1.1.1 at-put-above.put-above.ensures.1)))
+    (omega arith, (omega (arith, at-put-above.put-above.auto, at-loop.loop.invariant.1.0), (count_turn e (sent_of sent q a) at-loop.loop.n at-loop.loop.c at-loop.loop.invariant.1.1.0 refl at-put-above.put-above.ensures.0, pair_turn e (sent_of sent q a) d at-loop.loop.n at-loop.loop.c start.args.out.now at-loop.loop.out at-loop-test.loop-test.true (omega (arith, start.requires.1, pair_length e (sent_of sent q a) d)) at-loop.loop.invariant.1.1.0 (cc) refl at-loop.loop.invariant.1.1.1 at-put-above.put-above.ensures.1)))
 
 same_length : tie.Need-same-length invariant-loop decreases-loop
 same_length c = search rules
@@ -90,7 +90,7 @@ returns c =
     let q = start.args.q in
     let a = start.args.a in
     let e = start.args.e in
-    let n : at-loop.loop.n ≡ start.args.d = omega arith in (at-loop.loop.invariant.1.1.0 ∙ ap (pairCount e (sentOf sent q a)) n, at-loop.loop.invariant.1.1.1 ∙ ap (λ n. blocks (pairAbove e (sentOf sent q a)) n ++ drop (pairCount e (sentOf sent q a) n * 2) start.args.out.now) n)
+    let n : at-loop.loop.n ≡ start.args.d = omega arith in (at-loop.loop.invariant.1.1.0 ∙ ap (pair_count e (sent_of sent q a)) n, at-loop.loop.invariant.1.1.1 ∙ ap (λ n. blocks (pair_above e (sent_of sent q a)) n ++ drop (pair_count e (sent_of sent q a) n * 2) start.args.out.now) n)
 
 pub pairs-spec : {M : Type 1} → statement M
 pairs-spec =

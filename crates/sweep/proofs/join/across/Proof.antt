@@ -6,15 +6,15 @@ use borrow.Author.Rules.{rules}
 use lib.ListN.{length, get_or}
 use Rattle.trellis.specs.Field.{xor}
 use Rattle.trellis.specs.Rules.{join_of}
-use Rattle.trellis.specs.Sweep.{leastTo}
-use Rattle.sweep.specs.inner.Joins.{acrossAt}
-use Rattle.trellis.proofs.Sweep.{leastTo-mark}
-use Rattle.sweep.proofs.Laws.{least-turn}
+use Rattle.trellis.specs.Sweep.{least_to}
+use Rattle.sweep.specs.inner.Joins.{across_at}
+use Rattle.trellis.proofs.Sweep.{least_to-mark}
+use Rattle.sweep.proofs.Laws.{least_turn}
 use Rattle.sweep.proofs.join.across.Statement.{statement}
 use Rattle.sweep.proofs.join.across.Tie as tie
 
 abbrev invariant-loop : tie.invariant-loop
-invariant-loop f g t greatest e₀ s₀ e s = (s ≤ length f) × (e ≡ leastTo (λ s. join_of greatest (get_or f s 0) (get_or g (xor s t) 0)) s)
+invariant-loop f g t greatest e₀ s₀ e s = (s ≤ length f) × (e ≡ least_to (λ s. join_of greatest (get_or f s 0) (get_or g (xor s t) 0)) s)
 
 abbrev decreases-loop : tie.decreases-loop
 decreases-loop f g t greatest e₀ s₀ e s = length f - s
@@ -61,10 +61,10 @@ loop-again : tie.Need-loop-preserved invariant-loop decreases-loop
 loop-again c =
     let at-loop = c.before.before.before.before.before.before in
     let start = at-loop.before.before.before in
-    (omega arith, least-turn (λ s. join_of start.args.greatest (get_or start.args.f.now s 0) (get_or start.args.g.now (xor s start.args.t) 0)) at-loop.loop.s at-loop.loop.invariant.1 (cc) c.min-u32.ensures)
+    (omega arith, least_turn (λ s. join_of start.args.greatest (get_or start.args.f.now s 0) (get_or start.args.g.now (xor s start.args.t) 0)) at-loop.loop.s at-loop.loop.invariant.1 (cc) c.min-u32.ensures)
 
 returns : tie.Need-returns invariant-loop decreases-loop
-unfolding acrossAt
+unfolding across_at
 returns c =
     let at-loop = c.before in
     let start = at-loop.before.before.before in
@@ -72,7 +72,7 @@ returns c =
     let f = start.args.f.now in
     let g = start.args.g.now in
     let t = start.args.t in
-    let e : at-loop.loop.s ≡ length f = omega arith in (at-loop.loop.invariant.1 ∙ ap (leastTo (λ s. join_of greatest (get_or f s 0) (get_or g (xor s t) 0))) e, omega (arith, at-loop.loop.invariant.1, leastTo-mark (λ s. join_of greatest (get_or f s 0) (get_or g (xor s t) 0)) at-loop.loop.s))
+    let e : at-loop.loop.s ≡ length f = omega arith in (at-loop.loop.invariant.1 ∙ ap (least_to (λ s. join_of greatest (get_or f s 0) (get_or g (xor s t) 0))) e, omega (arith, at-loop.loop.invariant.1, least_to-mark (λ s. join_of greatest (get_or f s 0) (get_or g (xor s t) 0)) at-loop.loop.s))
 
 pub across-spec : {M : Type 1} → statement M
 across-spec =

@@ -4,16 +4,16 @@ use Prim.Native.Nat.{◌-◌, ◌*◌, ◌≤◌}
 use native.Mathlib.Omega.{arith}
 use borrow.Author.Rules.{rules}
 use Rattle.trellis.specs.Lists.{part}
-use Rattle.trellis.specs.Sweep.{leastTo}
-use Rattle.sweep.specs.inner.Joins.{acrossAt, besideAt}
-use Rattle.trellis.proofs.Sweep.{leastTo-mark}
+use Rattle.trellis.specs.Sweep.{least_to}
+use Rattle.sweep.specs.inner.Joins.{across_at, beside_at}
+use Rattle.trellis.proofs.Sweep.{least_to-mark}
 use Rattle.field.proofs.Blocks.{part_room}
-use Rattle.sweep.proofs.Laws.{least-turn, cut-is, part_length}
+use Rattle.sweep.proofs.Laws.{least_turn, cut_is, part_length}
 use Rattle.sweep.proofs.join.beside.Statement.{statement}
 use Rattle.sweep.proofs.join.beside.Tie as tie
 
 abbrev invariant-loop : tie.invariant-loop
-invariant-loop f after q n t greatest e₀ j₀ e j = (j ≤ n) × (e ≡ leastTo (λ j. acrossAt greatest f (part after (j * q) q) t) j)
+invariant-loop f after q n t greatest e₀ j₀ e j = (j ≤ n) × (e ≡ least_to (λ j. across_at greatest f (part after (j * q) q) t) j)
 
 abbrev decreases-loop : tie.decreases-loop
 decreases-loop f after q n t greatest e₀ j₀ e j = n - j
@@ -78,10 +78,10 @@ loop-again c =
     let f = start.args.f.now in
     let t = start.args.t in
     let q = start.args.q in
-    (omega arith, least-turn (λ j. acrossAt greatest f (part after (j * q) q) t) at-loop.loop.j at-loop.loop.invariant.1 (at-across.across.ensures.0 ∙ ap (λ l. acrossAt greatest f l t) (cut-is after (at-loop.loop.j * q) q)) c.min-u32.ensures)
+    (omega arith, least_turn (λ j. across_at greatest f (part after (j * q) q) t) at-loop.loop.j at-loop.loop.invariant.1 (at-across.across.ensures.0 ∙ ap (λ l. across_at greatest f l t) (cut_is after (at-loop.loop.j * q) q)) c.min-u32.ensures)
 
 returns : tie.Need-returns invariant-loop decreases-loop
-unfolding besideAt
+unfolding beside_at
 returns c =
     let at-loop = c.before in
     let start = at-loop.before.before.before in
@@ -90,7 +90,7 @@ returns c =
     let f = start.args.f.now in
     let t = start.args.t in
     let q = start.args.q in
-    let e : at-loop.loop.j ≡ start.args.n = omega arith in (at-loop.loop.invariant.1 ∙ ap (leastTo (λ j. acrossAt greatest f (part after (j * q) q) t)) e, omega (arith, at-loop.loop.invariant.1, leastTo-mark (λ j. acrossAt greatest f (part after (j * q) q) t) at-loop.loop.j))
+    let e : at-loop.loop.j ≡ start.args.n = omega arith in (at-loop.loop.invariant.1 ∙ ap (least_to (λ j. across_at greatest f (part after (j * q) q) t)) e, omega (arith, at-loop.loop.invariant.1, least_to-mark (λ j. across_at greatest f (part after (j * q) q) t) at-loop.loop.j))
 
 pub beside-spec : {M : Type 1} → statement M
 beside-spec =

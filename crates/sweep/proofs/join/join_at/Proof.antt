@@ -5,16 +5,16 @@ use native.Mathlib.Nat.{mul-le-mul_right}
 use native.Mathlib.Omega.{arith}
 use borrow.Author.Rules.{rules}
 use Rattle.trellis.specs.Lists.{part}
-use Rattle.trellis.specs.Sweep.{leastTo}
-use Rattle.sweep.specs.inner.Joins.{besideAt, joinAt}
-use Rattle.trellis.proofs.Sweep.{leastTo-mark}
+use Rattle.trellis.specs.Sweep.{least_to}
+use Rattle.sweep.specs.inner.Joins.{beside_at, join_at}
+use Rattle.trellis.proofs.Sweep.{least_to-mark}
 use Rattle.field.proofs.Blocks.{part_room}
-use Rattle.sweep.proofs.Laws.{least-turn, sums_same, cut-is, part_length}
+use Rattle.sweep.proofs.Laws.{least_turn, sums_same, cut_is, part_length}
 use Rattle.sweep.proofs.join.join_at.Statement.{statement}
 use Rattle.sweep.proofs.join.join_at.Tie as tie
 
 abbrev invariant-loop : tie.invariant-loop
-invariant-loop before after q k t greatest e₀ i₀ e i = (i ≤ k + 1) × (e ≡ leastTo (λ i. besideAt greatest q (part before (i * q) q) after (k - i + 1) t) i)
+invariant-loop before after q k t greatest e₀ i₀ e i = (i ≤ k + 1) × (e ≡ least_to (λ i. beside_at greatest q (part before (i * q) q) after (k - i + 1) t) i)
 
 abbrev decreases-loop : tie.decreases-loop
 decreases-loop before after q k t greatest e₀ i₀ e i = k + 1 - i
@@ -87,10 +87,10 @@ loop-again c =
     let t = start.args.t in
     let k = start.args.k in
     let q = start.args.q in
-    (omega arith, least-turn (λ i. besideAt greatest q (part before (i * q) q) after (k - i + 1) t) at-loop.loop.i at-loop.loop.invariant.1 (at-beside.beside.ensures.0 ∙ ap (λ l. besideAt greatest q l after (k - at-loop.loop.i + 1) t) (cut-is before (at-loop.loop.i * q) q)) c.min-u32.ensures)
+    (omega arith, least_turn (λ i. beside_at greatest q (part before (i * q) q) after (k - i + 1) t) at-loop.loop.i at-loop.loop.invariant.1 (at-beside.beside.ensures.0 ∙ ap (λ l. beside_at greatest q l after (k - at-loop.loop.i + 1) t) (cut_is before (at-loop.loop.i * q) q)) c.min-u32.ensures)
 
 returns : tie.Need-returns invariant-loop decreases-loop
-unfolding joinAt
+unfolding join_at
 returns c =
     let at-loop = c.before in
     let start = at-loop.before.before.before in
@@ -100,7 +100,7 @@ returns c =
     let t = start.args.t in
     let k = start.args.k in
     let q = start.args.q in
-    let e : at-loop.loop.i ≡ k + 1 = omega arith in (at-loop.loop.invariant.1 ∙ ap (leastTo (λ i. besideAt greatest q (part before (i * q) q) after (k - i + 1) t)) e, omega (arith, at-loop.loop.invariant.1, leastTo-mark (λ i. besideAt greatest q (part before (i * q) q) after (k - i + 1) t) at-loop.loop.i))
+    let e : at-loop.loop.i ≡ k + 1 = omega arith in (at-loop.loop.invariant.1 ∙ ap (least_to (λ i. beside_at greatest q (part before (i * q) q) after (k - i + 1) t)) e, omega (arith, at-loop.loop.invariant.1, least_to-mark (λ i. beside_at greatest q (part before (i * q) q) after (k - i + 1) t) at-loop.loop.i))
 
 pub join-at-spec : {M : Type 1} → statement M
 join-at-spec =

@@ -6,16 +6,16 @@ use native.Mathlib.Omega.{arith}
 use borrow.Author.Rules.{rules}
 use lib.ListN.{length, drop}
 use Rattle.trellis.specs.Lists.{blocks}
-use Rattle.sweep.specs.inner.Joins.{columnSent}
+use Rattle.sweep.specs.inner.Joins.{column_sent}
 use Rattle.trellis.proofs.Loops.{block_more, block-end, length-tab}
 use Rattle.field.proofs.Blocks.{part_room}
 use Rattle.sweep.proofs.Laws.{part_length, drop-none}
-use Rattle.sweep.proofs.Rows.{both-rooms, row-sizes, row-bytes, row_is}
+use Rattle.sweep.proofs.Rows.{both-rooms, row_sizes, row-bytes, row_is}
 use Rattle.sweep.proofs.join.sent_all.Statement.{statement}
 use Rattle.sweep.proofs.join.sent_all.Tie as tie
 
 abbrev invariant-loop : tie.invariant-loop
-invariant-loop before after shifts q k greatest out₀ w d n₀ out n = (n ≤ length shifts) × ((length out ≡ length out₀) × (out ≡ blocks (columnSent greatest q k before after shifts) n ++ drop (n * q) out₀))
+invariant-loop before after shifts q k greatest out₀ w d n₀ out n = (n ≤ length shifts) × ((length out ≡ length out₀) × (out ≡ blocks (column_sent greatest q k before after shifts) n ++ drop (n * q) out₀))
 
 abbrev decreases-loop : tie.decreases-loop
 decreases-loop before after shifts q k greatest out₀ w d n₀ out n = length shifts - n
@@ -28,7 +28,7 @@ add-w c =
 mul-w : tie.Need-overflow-mul-w invariant-loop decreases-loop
 mul-w c =
     let start = c.before.before.before.before in
-    omega (arith, row-sizes start.args.q start.args.k (length start.args.shifts.now) start.requires.limit start.requires.counts start.requires.few)
+    omega (arith, row_sizes start.args.q start.args.k (length start.args.shifts.now) start.requires.limit start.requires.counts start.requires.few)
 
 loop-holds : tie.Need-loop-init invariant-loop decreases-loop
 loop-holds c =
@@ -39,13 +39,13 @@ mul-a : tie.Need-overflow-mul-a invariant-loop decreases-loop
 mul-a c =
     let at-loop = c.before in
     let start = at-loop.before.before.before.before.before in
-    omega (arith, both-rooms at-loop.loop.n (length start.args.shifts.now) ((start.args.k + 1) * start.args.q) c.loop-test.true, start.requires.of-before)
+    omega (arith, both-rooms at-loop.loop.n (length start.args.shifts.now) ((start.args.k + 1) * start.args.q) c.loop-test.true, start.requires.of_before)
 
 add-b : tie.Need-overflow-add-b invariant-loop decreases-loop
 add-b c =
     let at-loop = c.before in
     let start = at-loop.before.before.before.before.before in
-    omega (arith, both-rooms at-loop.loop.n (length start.args.shifts.now) ((start.args.k + 1) * start.args.q) c.loop-test.true, start.requires.of-before)
+    omega (arith, both-rooms at-loop.loop.n (length start.args.shifts.now) ((start.args.k + 1) * start.args.q) c.loop-test.true, start.requires.of_before)
 
 sub-m : tie.Need-overflow-sub-m invariant-loop decreases-loop
 sub-m c = omega (arith, c.loop-test.true)
@@ -57,13 +57,13 @@ mul-c : tie.Need-overflow-mul-c invariant-loop decreases-loop
 mul-c c =
     let at-loop = c.before in
     let start = at-loop.before.before.before.before.before in
-    omega (arith, both-rooms at-loop.loop.n (length start.args.shifts.now) ((start.args.k + 1) * start.args.q) c.loop-test.true, start.requires.of-after)
+    omega (arith, both-rooms at-loop.loop.n (length start.args.shifts.now) ((start.args.k + 1) * start.args.q) c.loop-test.true, start.requires.of_after)
 
 add-e : tie.Need-overflow-add-e invariant-loop decreases-loop
 add-e c =
     let at-loop = c.before in
     let start = at-loop.before.before.before.before.before in
-    omega (arith, both-rooms at-loop.loop.n (length start.args.shifts.now) ((start.args.k + 1) * start.args.q) c.loop-test.true, start.requires.of-after)
+    omega (arith, both-rooms at-loop.loop.n (length start.args.shifts.now) ((start.args.k + 1) * start.args.q) c.loop-test.true, start.requires.of_after)
 
 mul-x : tie.Need-overflow-mul-x invariant-loop decreases-loop
 mul-x c =
@@ -71,7 +71,7 @@ mul-x c =
     let start = at-loop.before.before.before.before.before in
     let shifts = start.args.shifts.now in
     let q = start.args.q in
-    omega (arith, part_room at-loop.loop.n (length shifts) q c.loop-test.true, start.requires.of-out, row-sizes q start.args.k (length shifts) start.requires.limit start.requires.counts start.requires.few)
+    omega (arith, part_room at-loop.loop.n (length shifts) q c.loop-test.true, start.requires.of_out, row_sizes q start.args.k (length shifts) start.requires.limit start.requires.counts start.requires.few)
 
 add-y : tie.Need-overflow-add-y invariant-loop decreases-loop
 add-y c =
@@ -79,13 +79,13 @@ add-y c =
     let start = at-loop.before.before.before.before.before in
     let shifts = start.args.shifts.now in
     let q = start.args.q in
-    omega (arith, part_room at-loop.loop.n (length shifts) q c.loop-test.true, start.requires.of-out, row-sizes q start.args.k (length shifts) start.requires.limit start.requires.counts start.requires.few)
+    omega (arith, part_room at-loop.loop.n (length shifts) q c.loop-test.true, start.requires.of_out, row_sizes q start.args.k (length shifts) start.requires.limit start.requires.counts start.requires.few)
 
 mul-sent-row : tie.Need-overflow-mul-sent-row invariant-loop decreases-loop
 mul-sent-row c =
     let at-loop = c.before in
     let start = at-loop.before.before.before.before.before in
-    omega (arith, both-rooms at-loop.loop.n (length start.args.shifts.now) ((start.args.k + 1) * start.args.q) c.loop-test.true, start.requires.of-before)
+    omega (arith, both-rooms at-loop.loop.n (length start.args.shifts.now) ((start.args.k + 1) * start.args.q) c.loop-test.true, start.requires.of_before)
 
 sub-sent-row : tie.Need-overflow-sub-sent-row invariant-loop decreases-loop
 sub-sent-row c = search rules
@@ -97,14 +97,14 @@ part-sent-row-end : tie.Need-slice-bounds-sent-row-end invariant-loop decreases-
 part-sent-row-end c =
     let at-loop = c.before in
     let start = at-loop.before.before.before.before.before in
-    omega (arith, both-rooms at-loop.loop.n (length start.args.shifts.now) ((start.args.k + 1) * start.args.q) c.loop-test.true, start.requires.of-before)
+    omega (arith, both-rooms at-loop.loop.n (length start.args.shifts.now) ((start.args.k + 1) * start.args.q) c.loop-test.true, start.requires.of_before)
 
 mul-sent-row-2 : tie.Need-overflow-mul-sent-row-2 invariant-loop decreases-loop
 mul-sent-row-2 c =
     let at-loop-test = c.before in
     let at-loop = at-loop-test.before in
     let start = at-loop.before.before.before.before.before in
-    omega (arith, both-rooms at-loop.loop.n (length start.args.shifts.now) ((start.args.k + 1) * start.args.q) at-loop-test.loop-test.true, start.requires.of-after)
+    omega (arith, both-rooms at-loop.loop.n (length start.args.shifts.now) ((start.args.k + 1) * start.args.q) at-loop-test.loop-test.true, start.requires.of_after)
 
 sub-sent-row-2 : tie.Need-overflow-sub-sent-row-2 invariant-loop decreases-loop
 sub-sent-row-2 c = search rules
@@ -117,7 +117,7 @@ part-sent-row-end-2 c =
     let at-loop-test = c.before in
     let at-loop = at-loop-test.before in
     let start = at-loop.before.before.before.before.before in
-    omega (arith, both-rooms at-loop.loop.n (length start.args.shifts.now) ((start.args.k + 1) * start.args.q) at-loop-test.loop-test.true, start.requires.of-after)
+    omega (arith, both-rooms at-loop.loop.n (length start.args.shifts.now) ((start.args.k + 1) * start.args.q) at-loop-test.loop-test.true, start.requires.of_after)
 
 shared-slice-read-u8-to-usize : tie.Need-shared-slice-read-u8-to-usize invariant-loop decreases-loop
 shared-slice-read-u8-to-usize c = search rules
@@ -136,7 +136,7 @@ part-sent-row-end-3 c =
     let at-loop-test = c.before.before.before.before in
     let at-loop = at-loop-test.before in
     let start = at-loop.before.before.before.before.before in
-    omega (arith, part_room at-loop.loop.n (length start.args.shifts.now) start.args.q at-loop-test.loop-test.true, start.requires.of-out, at-loop.loop.invariant.1.0)
+    omega (arith, part_room at-loop.loop.n (length start.args.shifts.now) start.args.q at-loop-test.loop-test.true, start.requires.of_out, at-loop.loop.invariant.1.0)
 
 sent-row-requires : tie.Need-sent-row-requires invariant-loop decreases-loop
 sent-row-requires c κs =
@@ -152,8 +152,8 @@ sent-row-requires c κs =
     let l : at-loop.loop.n < (length shifts) = at-loop-test.loop-test.true in (
       start.requires.sums,
       (
-        (omega (arith, at-u8-to-usize.u8-to-usize.ensures, start.requires.below at-loop.loop.n l), (part_length at-loop.loop.out (at-loop.loop.n * q) q (omega (arith, part_room at-loop.loop.n (length shifts) q at-loop-test.loop-test.true, start.requires.of-out, at-loop.loop.invariant.1.0)), start.requires.counts)),
-        ((part_length before (at-loop.loop.n * ((k + 1) * q)) ((k + 1) * q) (omega (arith, both-rooms at-loop.loop.n (length shifts) ((k + 1) * q) at-loop-test.loop-test.true, start.requires.of-before)), part_length after (((length shifts) - 1 - at-loop.loop.n) * ((k + 1) * q)) ((k + 1) * q) (omega (arith, both-rooms at-loop.loop.n (length shifts) ((k + 1) * q) at-loop-test.loop-test.true, start.requires.of-after))), row-bytes start.args.greatest q k before after shifts at-loop.loop.n at-u8-to-usize.u8-to-usize.ensures.0 (start.requires.bytes at-loop.loop.n l)),
+        (omega (arith, at-u8-to-usize.u8-to-usize.ensures, start.requires.below at-loop.loop.n l), (part_length at-loop.loop.out (at-loop.loop.n * q) q (omega (arith, part_room at-loop.loop.n (length shifts) q at-loop-test.loop-test.true, start.requires.of_out, at-loop.loop.invariant.1.0)), start.requires.counts)),
+        ((part_length before (at-loop.loop.n * ((k + 1) * q)) ((k + 1) * q) (omega (arith, both-rooms at-loop.loop.n (length shifts) ((k + 1) * q) at-loop-test.loop-test.true, start.requires.of_before)), part_length after (((length shifts) - 1 - at-loop.loop.n) * ((k + 1) * q)) ((k + 1) * q) (omega (arith, both-rooms at-loop.loop.n (length shifts) ((k + 1) * q) at-loop-test.loop-test.true, start.requires.of_after))), row-bytes start.args.greatest q k before after shifts at-loop.loop.n at-u8-to-usize.u8-to-usize.ensures.0 (start.requires.bytes at-loop.loop.n l)),
       ),
     )
 
@@ -182,7 +182,7 @@ loop-again c =
       omega (arith, at-loop-test.loop-test.true),
       (
         omega (arith, at-loop.loop.invariant.1.0),
-        block_more (columnSent greatest q k before after shifts) q (λ j. length-tab _ q) start.args.out.now at-loop.loop.out at-loop.loop.n at-loop.loop.invariant.1.1 (row_is greatest q k before after shifts at-loop.loop.n at-u8-to-usize.u8-to-usize.ensures.0 at-sent-row.sent-row.ensures),
+        block_more (column_sent greatest q k before after shifts) q (λ j. length-tab _ q) start.args.out.now at-loop.loop.out at-loop.loop.n at-loop.loop.invariant.1.1 (row_is greatest q k before after shifts at-loop.loop.n at-u8-to-usize.u8-to-usize.ensures.0 at-sent-row.sent-row.ensures),
       ),
     )
 
@@ -199,7 +199,7 @@ returns c =
     let greatest = start.args.greatest in
     let k = start.args.k in
     let q = start.args.q in
-    let e : at-loop.loop.n ≡ (length shifts) = omega (arith, c.loop-test.false, at-loop.loop.invariant) in block-end (columnSent greatest q k before after shifts) q (λ j. length-tab _ q) start.args.out.now at-loop.loop.out at-loop.loop.n at-loop.loop.invariant.1.1 (rw e start.requires.of-out) ∙ ap (blocks (columnSent greatest q k before after shifts)) e
+    let e : at-loop.loop.n ≡ (length shifts) = omega (arith, c.loop-test.false, at-loop.loop.invariant) in block-end (column_sent greatest q k before after shifts) q (λ j. length-tab _ q) start.args.out.now at-loop.loop.out at-loop.loop.n at-loop.loop.invariant.1.1 (rw e start.requires.of_out) ∙ ap (blocks (column_sent greatest q k before after shifts)) e
 
 pub sent-all-spec : {M : Type 1} → statement M
 sent-all-spec =

@@ -7,13 +7,13 @@ use borrow.Author.Rules.{rules}
 use lib.ListN.{length, drop, length-set}
 use Rattle.trellis.specs.Lists.{tab}
 use Rattle.trellis.specs.Field.{xor}
-use Rattle.sweep.specs.inner.Joins.{joinAt}
-use Rattle.sweep.proofs.Laws.{tab-turn, tab-end, byte-value}
+use Rattle.sweep.specs.inner.Joins.{join_at}
+use Rattle.sweep.proofs.Laws.{tab_turn, tab-end, byte-value}
 use Rattle.sweep.proofs.join.sent_row.Statement.{statement}
 use Rattle.sweep.proofs.join.sent_row.Tie as tie
 
 abbrev invariant-loop : tie.invariant-loop
-invariant-loop before after q k s greatest out₀ a₀ out a = (a ≤ length out₀) × ((length out ≡ length out₀) × (out ≡ tab (λ a. joinAt greatest q k before after (xor a s)) a ++ drop a out₀))
+invariant-loop before after q k s greatest out₀ a₀ out a = (a ≤ length out₀) × ((length out ≡ length out₀) × (out ≡ tab (λ a. join_at greatest q k before after (xor a s)) a ++ drop a out₀))
 
 abbrev decreases-loop : tie.decreases-loop
 decreases-loop before after q k s greatest out₀ a₀ out a = length out₀ - a
@@ -55,7 +55,7 @@ loop-again c =
     let k = start.args.k in
     let q = start.args.q in
     let h = start.requires.1.1.1.small at-loop.loop.a (omega (arith, start.requires.1.0.1.0, at-plus.before.loop-test.true, at-loop.loop.invariant)) in
-    (omega arith, (simp length-set (omega arith), tab-turn (λ a. (joinAt greatest q k before after) (xor a start.args.s)) at-loop.loop.out start.args.out.now at-loop.loop.a (omega arith) at-loop.loop.invariant.1.1 (byte-value (at-join-at.join-at.ensures.0 ∙ ap (joinAt greatest q k before after) at-plus.plus.ensures) h c.u32-to-u8.ensures)))
+    (omega arith, (simp length-set (omega arith), tab_turn (λ a. (join_at greatest q k before after) (xor a start.args.s)) at-loop.loop.out start.args.out.now at-loop.loop.a (omega arith) at-loop.loop.invariant.1.1 (byte-value (at-join-at.join-at.ensures.0 ∙ ap (join_at greatest q k before after) at-plus.plus.ensures) h c.u32-to-u8.ensures)))
 
 same_length : tie.Need-same-length invariant-loop decreases-loop
 same_length c = search rules
@@ -64,7 +64,7 @@ returns : tie.Need-returns invariant-loop decreases-loop
 returns c =
     let at-loop = c.before in
     let start = at-loop.before.before.before.before in
-    tab-end (λ a. (joinAt start.args.greatest start.args.q start.args.k start.args.before.now start.args.after.now) (xor a start.args.s)) at-loop.loop.out start.args.out.now at-loop.loop.a at-loop.loop.invariant.1.1 (omega arith) start.requires.1.0.1.0
+    tab-end (λ a. (join_at start.args.greatest start.args.q start.args.k start.args.before.now start.args.after.now) (xor a start.args.s)) at-loop.loop.out start.args.out.now at-loop.loop.a at-loop.loop.invariant.1.1 (omega arith) start.requires.1.0.1.0
 
 pub sent-row-spec : {M : Type 1} → statement M
 sent-row-spec =

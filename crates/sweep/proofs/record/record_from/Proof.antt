@@ -8,12 +8,12 @@ use lib.ListN.{length, take, get_or, length-append, length-take, length-drop}
 use lib.Seq.{take_at}
 use lib.Pow.{pow_pos}
 use native.Mathlib.Nat.{mul_comm}
-use Rattle.trellis.specs.Rules.{powerOf, size_of, most_of, greatestOf}
+use Rattle.trellis.specs.Rules.{power_of, size_of, most_of, greatest_of}
 use Rattle.rules.specs.declared.Rule.{Rule}
-use Rattle.checknode.specs.inner.Asks.{shiftsOf}
+use Rattle.checknode.specs.inner.Asks.{shifts_of}
 use Rattle.trellis.proofs.Rules.{most-few}
 use Rattle.checknode.proofs.Resting.{shifts-length}
-use Rattle.sweep.proofs.Sending.{rows-joinable, rows_are, sent-fits, record_is, two-parts, rest-length}
+use Rattle.sweep.proofs.Sending.{rows_joinable, rows_are, sent-fits, record_is, two_parts, rest-length}
 use Rattle.sweep.proofs.record.record_from.Statement.{statement}
 use Rattle.sweep.proofs.record.record_from.Tie as tie
 
@@ -73,20 +73,20 @@ module _ (c : tie.After-shifts) where
   most-is : c.before.before.u8-to-usize.result ≡ most_of f
   most-is = c.before.before.u8-to-usize.ensures.0 ∙ ap (λ (r : Rule). r.k) c.before.before.before.before.rule-of.ensures
 
-  greatest-is : c.before.before.before.before.rule-of.result.greatest ≡ greatestOf f
+  greatest-is : c.before.before.before.before.rule-of.result.greatest ≡ greatest_of f
   greatest-is = ap (λ (r : Rule). r.greatest) c.before.before.before.before.rule-of.ensures
 
-  shifts-long : length (shiftsOf (powerOf f) ws cs) ≡ length ws
+  shifts-long : length (shifts_of (power_of f) ws cs) ≡ length ws
   shifts-long = shifts-length f ws cs start.pre.0
 
   -- the shifts stand first
-  shifts-first : {s : List ℕ} (r : List ℕ) → s ≡ shiftsOf (powerOf f) ws cs → take (length ws) (s ++ r) ≡ shiftsOf (powerOf f) ws cs
+  shifts-first : {s : List ℕ} (r : List ℕ) → s ≡ shifts_of (power_of f) ws cs → take (length ws) (s ++ r) ≡ shifts_of (power_of f) ws cs
   shifts-first {s} r e = take_at s r (length ws) (ap length e ∙ shifts-long) ∙ e
 
 sent-all-requires : tie.Need-sent-all-requires
 sent-all-requires c κs =
     let s = c.before.before.before.before in
-    rows-joinable (f s) (ws s) (cs s) (start s).requires.0 (bytes s) (start s).args.before.now (start s).args.after.now (start s).requires.1.0 (greatest-is s) s.before.before.before.size.ensures.0 (most-is s) (shifts-first s _ s.shifts.ensures) (start s).args.sent.now (start s).requires.1.1.0
+    rows_joinable (f s) (ws s) (cs s) (start s).requires.0 (bytes s) (start s).args.before.now (start s).args.after.now (start s).requires.1.0 (greatest-is s) s.before.before.before.size.ensures.0 (most-is s) (shifts-first s _ s.shifts.ensures) (start s).args.sent.now (start s).requires.1.1.0
 
 sub-groups : tie.Need-overflow-sub-groups
 sub-groups c =
@@ -109,9 +109,9 @@ groups-requires c κs =
     let k = s.before.before.u8-to-usize.result in
     let eq = s.before.before.before.size.ensures.0 in
     let ek = most-is s in
-    let n = rest-length (shiftsOf (powerOf (f s)) (ws s) (cs s)) (start s).args.out.now (length (ws s)) _ ((1 + 2 * most_of (f s)) * (size_of (f s) - 1)) s.shifts.ensures (shifts-long s) refl (start s).requires.1.1.1 in
+    let n = rest-length (shifts_of (power_of (f s)) (ws s) (cs s)) (start s).args.out.now (length (ws s)) _ ((1 + 2 * most_of (f s)) * (size_of (f s) - 1)) s.shifts.ensures (shifts-long s) refl (start s).requires.1.1.1 in
     let m : (1 + 2 * most_of (f s)) * (size_of (f s) - 1) ≡ (q - 1) * (1 + 2 * k) = ap₂ (λ k q. (1 + 2 * k) * (q - 1)) (sym ek) (sym eq) ∙ mul_comm (1 + 2 * k) (q - 1) in (
-      (omega (arith, at-sent-all.sent-all.auto, (start s).requires.1.1.0, ap (λ y. length (ws s) * y) eq), (omega (arith, (start s).requires.0.few), (omega (arith, ek, most-few (f s)), omega (arith, eq, pow_pos (powerOf (f s)))))),
+      (omega (arith, at-sent-all.sent-all.auto, (start s).requires.1.1.0, ap (λ y. length (ws s) * y) eq), (omega (arith, (start s).requires.0.few), (omega (arith, ek, most-few (f s)), omega (arith, eq, pow_pos (power_of (f s)))))),
       (sent-fits (f s) (ws s) (cs s) (start s).requires.0 (bytes s) eq ek _ (rows_are (f s) (ws s) (cs s) (start s).requires.0 (bytes s) (start s).args.before.now (start s).args.after.now (start s).requires.1.0 (greatest-is s) s.before.before.before.size.ensures.0 (most-is s) (shifts-first s _ s.shifts.ensures) at-sent-all.sent-all.ensures), n ∙ m),
     )
 
@@ -126,7 +126,7 @@ returns c =
     let at-groups = c.before.before in
     let at-sent-all = at-groups.before.before.before.before.before in
     let s = at-sent-all.before.before.before.before.before in
-    two-parts (shiftsOf (powerOf (f s)) (ws s) (cs s)) _ (start s).args.out.now (length (ws s)) _ s.shifts.ensures at-groups.groups.ensures (shifts-long s) refl (omega (arith, (start s).requires.1.1.1))
+    two_parts (shifts_of (power_of (f s)) (ws s) (cs s)) _ (start s).args.out.now (length (ws s)) _ s.shifts.ensures at-groups.groups.ensures (shifts-long s) refl (omega (arith, (start s).requires.1.1.1))
     ∙ record_is (f s) (ws s) (cs s) (start s).requires.0 (bytes s) s.before.before.before.size.ensures.0 (most-is s) _ (rows_are (f s) (ws s) (cs s) (start s).requires.0 (bytes s) (start s).args.before.now (start s).args.after.now (start s).requires.1.0 (greatest-is s) s.before.before.before.size.ensures.0 (most-is s) (shifts-first s _ s.shifts.ensures) at-sent-all.sent-all.ensures)
 
 pub record-from-spec : {M : Type 1} → statement M

@@ -4,7 +4,7 @@ use Prim.Native.Nat.{◌*◌}
 use native.Mathlib.Omega.{arith}
 use borrow.Author.Rules.{rules}
 use lib.ListN.{length, length-take}
-use Rattle.sweep.proofs.Swept.{ready-sizes}
+use Rattle.sweep.proofs.Swept.{ready_sizes}
 use Rattle.sweep.proofs.record.record_room.Statement.{statement}
 use Rattle.sweep.proofs.record.record_room.Tie as tie
 
@@ -14,7 +14,7 @@ cell-count-requires c κs = search rules
 mul-n : tie.Need-overflow-mul-n
 mul-n c =
     let start = c.before.before.before.before.before.before.before.before in
-    omega (arith, ready-sizes start.args.first start.args.weights.now start.args.costs.now start.requires.0, c.cell-count.ensures.0, ap (λ y. (length start.args.weights.now) * y) c.cell-count.ensures.0)
+    omega (arith, ready_sizes start.args.first start.args.weights.now start.args.costs.now start.requires.0, c.cell-count.ensures.0, ap (λ y. (length start.args.weights.now) * y) c.cell-count.ensures.0)
 
 size-requires : tie.Need-size-requires
 size-requires c κs = search rules
@@ -22,62 +22,62 @@ size-requires c κs = search rules
 mul-m : tie.Need-overflow-mul-m
 mul-m c =
     let start = c.before.before.before.before.before.before.before.before.before in
-    omega (arith, ready-sizes start.args.first start.args.weights.now start.args.costs.now start.requires.0, ap (λ y. (length start.args.weights.now) * y) c.size.ensures.0)
+    omega (arith, ready_sizes start.args.first start.args.weights.now start.args.costs.now start.requires.0, ap (λ y. (length start.args.weights.now) * y) c.size.ensures.0)
 
 slice-relend-prefix-record-with : tie.Need-slice-relend-prefix-record-with
 slice-relend-prefix-record-with c =
     let at-cell-count = c.before in
     let start = at-cell-count.before.before.before.before.before.before.before.before in
-    omega (arith, ready-sizes start.args.first start.args.weights.now start.args.costs.now start.requires.0, at-cell-count.cell-count.ensures.0, ap (λ y. (length start.args.weights.now) * y) at-cell-count.cell-count.ensures.0, c.size.ensures.0, ap (λ y. (length start.args.weights.now) * y) c.size.ensures.0, start.requires.1.0, start.requires.1.1.0)
+    omega (arith, ready_sizes start.args.first start.args.weights.now start.args.costs.now start.requires.0, at-cell-count.cell-count.ensures.0, ap (λ y. (length start.args.weights.now) * y) at-cell-count.cell-count.ensures.0, c.size.ensures.0, ap (λ y. (length start.args.weights.now) * y) c.size.ensures.0, start.requires.1.0, start.requires.1.1.0)
 
 slice-aggregate-record-with : tie.Need-slice-aggregate-record-with
 slice-aggregate-record-with c =
     let at_size = c.before in
     let at-cell-count = at_size.before in
     let start = at-cell-count.before.before.before.before.before.before.before.before in
-    simp length-take (omega (arith, ready-sizes start.args.first start.args.weights.now start.args.costs.now start.requires.0, at-cell-count.cell-count.ensures.0, ap (λ y. (length start.args.weights.now) * y) at-cell-count.cell-count.ensures.0, at_size.size.ensures.0, ap (λ y. (length start.args.weights.now) * y) at_size.size.ensures.0, start.requires.1.0, start.requires.1.1.0))
+    simp length-take (omega (arith, ready_sizes start.args.first start.args.weights.now start.args.costs.now start.requires.0, at-cell-count.cell-count.ensures.0, ap (λ y. (length start.args.weights.now) * y) at-cell-count.cell-count.ensures.0, at_size.size.ensures.0, ap (λ y. (length start.args.weights.now) * y) at_size.size.ensures.0, start.requires.1.0, start.requires.1.1.0))
 
 slice-relend-prefix-record-with-2 : tie.Need-slice-relend-prefix-record-with-2
 slice-relend-prefix-record-with-2 c =
     let at_size = c.before in
     let at-cell-count = at_size.before in
     let start = at-cell-count.before.before.before.before.before.before.before.before in
-    omega (arith, ready-sizes start.args.first start.args.weights.now start.args.costs.now start.requires.0, at-cell-count.cell-count.ensures.0, ap (λ y. (length start.args.weights.now) * y) at-cell-count.cell-count.ensures.0, at_size.size.ensures.0, ap (λ y. (length start.args.weights.now) * y) at_size.size.ensures.0, start.requires.1.0, start.requires.1.1.0)
+    omega (arith, ready_sizes start.args.first start.args.weights.now start.args.costs.now start.requires.0, at-cell-count.cell-count.ensures.0, ap (λ y. (length start.args.weights.now) * y) at-cell-count.cell-count.ensures.0, at_size.size.ensures.0, ap (λ y. (length start.args.weights.now) * y) at_size.size.ensures.0, start.requires.1.0, start.requires.1.1.0)
 
 slice-aggregate-record-with-2 : tie.Need-slice-aggregate-record-with-2
 slice-aggregate-record-with-2 c =
     let at_size = c.before.before in
     let at-cell-count = at_size.before in
     let start = at-cell-count.before.before.before.before.before.before.before.before in
-    simp length-take (omega (arith, ready-sizes start.args.first start.args.weights.now start.args.costs.now start.requires.0, at-cell-count.cell-count.ensures.0, ap (λ y. (length start.args.weights.now) * y) at-cell-count.cell-count.ensures.0, at_size.size.ensures.0, ap (λ y. (length start.args.weights.now) * y) at_size.size.ensures.0, start.requires.1.0, start.requires.1.1.0))
+    simp length-take (omega (arith, ready_sizes start.args.first start.args.weights.now start.args.costs.now start.requires.0, at-cell-count.cell-count.ensures.0, ap (λ y. (length start.args.weights.now) * y) at-cell-count.cell-count.ensures.0, at_size.size.ensures.0, ap (λ y. (length start.args.weights.now) * y) at_size.size.ensures.0, start.requires.1.0, start.requires.1.1.0))
 
 slice-relend-prefix-record-with-3 : tie.Need-slice-relend-prefix-record-with-3
 slice-relend-prefix-record-with-3 c =
     let at_size = c.before.before in
     let at-cell-count = at_size.before in
     let start = at-cell-count.before.before.before.before.before.before.before.before in
-    omega (arith, ready-sizes start.args.first start.args.weights.now start.args.costs.now start.requires.0, at-cell-count.cell-count.ensures.0, ap (λ y. (length start.args.weights.now) * y) at-cell-count.cell-count.ensures.0, at_size.size.ensures.0, ap (λ y. (length start.args.weights.now) * y) at_size.size.ensures.0, start.requires.1.0, start.requires.1.1.0)
+    omega (arith, ready_sizes start.args.first start.args.weights.now start.args.costs.now start.requires.0, at-cell-count.cell-count.ensures.0, ap (λ y. (length start.args.weights.now) * y) at-cell-count.cell-count.ensures.0, at_size.size.ensures.0, ap (λ y. (length start.args.weights.now) * y) at_size.size.ensures.0, start.requires.1.0, start.requires.1.1.0)
 
 slice-aggregate-record-with-3 : tie.Need-slice-aggregate-record-with-3
 slice-aggregate-record-with-3 c =
     let at_size = c.before.before.before in
     let at-cell-count = at_size.before in
     let start = at-cell-count.before.before.before.before.before.before.before.before in
-    simp length-take (omega (arith, ready-sizes start.args.first start.args.weights.now start.args.costs.now start.requires.0, at-cell-count.cell-count.ensures.0, ap (λ y. (length start.args.weights.now) * y) at-cell-count.cell-count.ensures.0, at_size.size.ensures.0, ap (λ y. (length start.args.weights.now) * y) at_size.size.ensures.0, start.requires.1.0, start.requires.1.1.0))
+    simp length-take (omega (arith, ready_sizes start.args.first start.args.weights.now start.args.costs.now start.requires.0, at-cell-count.cell-count.ensures.0, ap (λ y. (length start.args.weights.now) * y) at-cell-count.cell-count.ensures.0, at_size.size.ensures.0, ap (λ y. (length start.args.weights.now) * y) at_size.size.ensures.0, start.requires.1.0, start.requires.1.1.0))
 
 slice-relend-prefix-record-with-4 : tie.Need-slice-relend-prefix-record-with-4
 slice-relend-prefix-record-with-4 c =
     let at_size = c.before.before.before in
     let at-cell-count = at_size.before in
     let start = at-cell-count.before.before.before.before.before.before.before.before in
-    omega (arith, ready-sizes start.args.first start.args.weights.now start.args.costs.now start.requires.0, at-cell-count.cell-count.ensures.0, ap (λ y. (length start.args.weights.now) * y) at-cell-count.cell-count.ensures.0, at_size.size.ensures.0, ap (λ y. (length start.args.weights.now) * y) at_size.size.ensures.0, start.requires.1.0, start.requires.1.1.0)
+    omega (arith, ready_sizes start.args.first start.args.weights.now start.args.costs.now start.requires.0, at-cell-count.cell-count.ensures.0, ap (λ y. (length start.args.weights.now) * y) at-cell-count.cell-count.ensures.0, at_size.size.ensures.0, ap (λ y. (length start.args.weights.now) * y) at_size.size.ensures.0, start.requires.1.0, start.requires.1.1.0)
 
 slice-aggregate-record-with-4 : tie.Need-slice-aggregate-record-with-4
 slice-aggregate-record-with-4 c =
     let at_size = c.before.before.before.before in
     let at-cell-count = at_size.before in
     let start = at-cell-count.before.before.before.before.before.before.before.before in
-    simp length-take (omega (arith, ready-sizes start.args.first start.args.weights.now start.args.costs.now start.requires.0, at-cell-count.cell-count.ensures.0, ap (λ y. (length start.args.weights.now) * y) at-cell-count.cell-count.ensures.0, at_size.size.ensures.0, ap (λ y. (length start.args.weights.now) * y) at_size.size.ensures.0, start.requires.1.0, start.requires.1.1.0))
+    simp length-take (omega (arith, ready_sizes start.args.first start.args.weights.now start.args.costs.now start.requires.0, at-cell-count.cell-count.ensures.0, ap (λ y. (length start.args.weights.now) * y) at-cell-count.cell-count.ensures.0, at_size.size.ensures.0, ap (λ y. (length start.args.weights.now) * y) at_size.size.ensures.0, start.requires.1.0, start.requires.1.1.0))
 
 record-with-requires : tie.Need-record-with-requires
 record-with-requires c κs =
@@ -86,7 +86,7 @@ record-with-requires c κs =
     let start = at-cell-count.before.before.before.before.before.before.before.before in
     let a = start.args in
     let D = start.requires.0 in
-    let z = ready-sizes a.first a.weights.now a.costs.now D in
+    let z = ready_sizes a.first a.weights.now a.costs.now D in
     let w = at-cell-count.cell-count.ensures.0 in
     let v = ap (λ y. length a.weights.now * y) w in
     let u = ap (λ y. length a.weights.now * y) at_size.size.ensures.0 in

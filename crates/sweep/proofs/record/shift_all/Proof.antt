@@ -7,8 +7,8 @@ use borrow.Author.Rules.{rules}
 use lib.ListN.{length, drop, get_or, length-set}
 use Rattle.trellis.specs.Lists.{tab}
 use Rattle.trellis.specs.Field.{xor}
-use Rattle.trellis.proofs.Loops.{tab-seam}
-use Rattle.sweep.proofs.Laws.{tab-turn, tab-end}
+use Rattle.trellis.proofs.Loops.{tab_seam}
+use Rattle.sweep.proofs.Laws.{tab_turn, tab-end}
 use Rattle.sweep.proofs.record.shift_all.Statement.{statement}
 use Rattle.sweep.proofs.record.shift_all.Tie as tie
 
@@ -40,7 +40,7 @@ loop-again c =
     let start = at-loop.before in
     let the_out = start.args.out.now in
     let sum = start.args.sum in
-    (omega arith, (simp length-set (omega arith), tab-turn (λ j. xor sum (get_or the_out j 0)) at-loop.loop.out the_out at-loop.loop.i (omega arith) at-loop.loop.invariant.1.1 (cc (tab-seam (λ j. xor sum (get_or the_out j 0)) the_out at-loop.loop.i (omega arith)))))
+    (omega arith, (simp length-set (omega arith), tab_turn (λ j. xor sum (get_or the_out j 0)) at-loop.loop.out the_out at-loop.loop.i (omega arith) at-loop.loop.invariant.1.1 (cc (tab_seam (λ j. xor sum (get_or the_out j 0)) the_out at-loop.loop.i (omega arith)))))
 
 same_length : tie.Need-same-length invariant-loop decreases-loop
 same_length c = search rules

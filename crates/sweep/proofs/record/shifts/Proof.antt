@@ -1,6 +1,6 @@
 -- The sum of all terms and one term make a shift.
 use borrow.Author.Rules.{rules}
-use Rattle.checknode.proofs.Resting.{shifts-law}
+use Rattle.checknode.proofs.Resting.{shifts_law}
 use Rattle.sweep.proofs.record.shifts.Statement.{statement}
 use Rattle.sweep.proofs.record.shifts.Tie as tie
 
@@ -20,7 +20,7 @@ returns c =
     let at-shift-all = c.before.before in
     let at-terms = at-shift-all.before.before.before.before in
     let start = at-terms.before.before.before.before.before in
-    shifts-law start.args.first start.args.weights.now start.args.costs.now start.requires.0 at-terms.terms.ensures.0 at-terms.terms.ensures.1 at-shift-all.shift-all.ensures
+    shifts_law start.args.first start.args.weights.now start.args.costs.now start.requires.0 at-terms.terms.ensures.0 at-terms.terms.ensures.1 at-shift-all.shift-all.ensures
 
 pub shifts-spec : {M : Type 1} → statement M
 shifts-spec = tie.close (tie.spec terms-requires shift-all-requires same_length returns)

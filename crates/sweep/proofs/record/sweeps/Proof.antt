@@ -31,7 +31,7 @@ returns c =
     let at_fill_lem = at-fill2.before.before.before.before.before.before.before in
     let at-shared-slice-known2 = at_fill_lem.before.before.before.before.before.before in
     let start = at-shared-slice-known2.before.before in
-    (record { of-before = at_fill_lem.fill.ensures; of-after = at-fill2.fill2.ensures }, kept_tables start.args.first start.args.weights.now start.args.costs.now start.requires.0 (λ i. omega (arith, at-shared-slice-known2.shared-slice-known2.given i)) record { of-before = at_fill_lem.fill.ensures; of-after = at-fill2.fill2.ensures })
+    (record { of_before = at_fill_lem.fill.ensures; of_after = at-fill2.fill2.ensures }, kept_tables start.args.first start.args.weights.now start.args.costs.now start.requires.0 (λ i. omega (arith, at-shared-slice-known2.shared-slice-known2.given i)) record { of_before = at_fill_lem.fill.ensures; of_after = at-fill2.fill2.ensures })
 
 pub sweeps-spec : {M : Type 1} → statement M
 sweeps-spec =

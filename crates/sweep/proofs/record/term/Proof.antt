@@ -5,10 +5,10 @@ use native.Mathlib.Omega.{arith}
 use borrow.Author.Rules.{rules}
 use lib.ListN.{get_or}
 use Rattle.trellis.specs.Field.{product}
-use Rattle.trellis.specs.Check.{firstZero}
+use Rattle.trellis.specs.Check.{first_zero}
 use Rattle.trellis.specs.Rules.{size_of}
 use Rattle.trellis.proofs.Ready.{ready-low, ready-high}
-use Rattle.checknode.proofs.Turns.{part-is as costs-part}
+use Rattle.checknode.proofs.Turns.{part_is as costs-part}
 use Rattle.sweep.proofs.Swept.{costs-room, size-limit}
 use Rattle.sweep.proofs.record.term.Statement.{statement}
 use Rattle.sweep.proofs.record.term.Tie as tie
@@ -55,7 +55,7 @@ cast-times c =
     let costs = start.args.costs.now in
     let first = start.args.first in
     let n = start.args.n in
-    omega (arith, (let u : at-decide.decide-u8.result.symbol < size_of first = rw (at-decide.decide-u8.ensures.0.0 ∙ ap firstZero (costs-part first weights costs start.requires.0 n start.requires.1 at_size.size.result at_size.size.ensures.0)) (start.requires.0.zeros n start.requires.1) in u), size-limit first weights costs start.requires.0)
+    omega (arith, (let u : at-decide.decide-u8.result.symbol < size_of first = rw (at-decide.decide-u8.ensures.0.0 ∙ ap first_zero (costs-part first weights costs start.requires.0 n start.requires.1 at_size.size.result at_size.size.ensures.0)) (start.requires.0.zeros n start.requires.1) in u), size-limit first weights costs start.requires.0)
 
 times-requires : tie.Need-times-requires
 times-requires c κs =
@@ -67,7 +67,7 @@ times-requires c κs =
     let costs = start.args.costs.now in
     let first = start.args.first in
     let n = start.args.n in
-    rw at-power.power.ensures (ready-low first weights costs start.requires.0, (ready-high first weights costs start.requires.0, (start.requires.0.weight-small n start.requires.1, (let u : at-decide.decide-u8.result.symbol < size_of first = rw (at-decide.decide-u8.ensures.0.0 ∙ ap firstZero (costs-part first weights costs start.requires.0 n start.requires.1 at_size.size.result at_size.size.ensures.0)) (start.requires.0.zeros n start.requires.1) in u))))
+    rw at-power.power.ensures (ready-low first weights costs start.requires.0, (ready-high first weights costs start.requires.0, (start.requires.0.weight-small n start.requires.1, (let u : at-decide.decide-u8.result.symbol < size_of first = rw (at-decide.decide-u8.ensures.0.0 ∙ ap first_zero (costs-part first weights costs start.requires.0 n start.requires.1 at_size.size.result at_size.size.ensures.0)) (start.requires.0.zeros n start.requires.1) in u))))
 
 returns : tie.Need-returns
 returns c =
@@ -77,7 +77,7 @@ returns c =
     let start = at_size.before.before.before in
     let weights = start.args.weights.now in
     let n = start.args.n in
-    c.times.ensures ∙ ap₂ (λ p y. product p (get_or weights n 0) y) at-power.power.ensures (at-decide.decide-u8.ensures.0.0 ∙ ap firstZero (costs-part start.args.first weights start.args.costs.now start.requires.0 n start.requires.1 at_size.size.result at_size.size.ensures.0))
+    c.times.ensures ∙ ap₂ (λ p y. product p (get_or weights n 0) y) at-power.power.ensures (at-decide.decide-u8.ensures.0.0 ∙ ap first_zero (costs-part start.args.first weights start.args.costs.now start.requires.0 n start.requires.1 at_size.size.result at_size.size.ensures.0))
 
 pub term-spec : {M : Type 1} → statement M
 term-spec =

@@ -6,15 +6,15 @@ use native.Mathlib.Omega.{arith}
 use borrow.Author.Rules.{rules}
 use lib.ListN.{length, drop, length-set}
 use Rattle.trellis.specs.Lists.{tab}
-use Rattle.trellis.specs.Rules.{powerOf}
-use Rattle.engine.specs.inner.Terms.{termOf, sum_to}
-use Rattle.checknode.proofs.Turns.{sum-turn}
-use Rattle.sweep.proofs.Laws.{tab-turn, tab-end}
+use Rattle.trellis.specs.Rules.{power_of}
+use Rattle.engine.specs.inner.Terms.{term_of, sum_to}
+use Rattle.checknode.proofs.Turns.{sum_turn}
+use Rattle.sweep.proofs.Laws.{tab_turn, tab-end}
 use Rattle.sweep.proofs.record.terms.Statement.{statement}
 use Rattle.sweep.proofs.record.terms.Tie as tie
 
 abbrev invariant-loop : tie.invariant-loop
-invariant-loop first weights costs out₀ sum₀ n₀ out sum n = (n ≤ length weights) × ((length out ≡ length out₀) × ((out ≡ tab (termOf (powerOf first) weights costs) n ++ drop n out₀) × (sum ≡ sum_to (termOf (powerOf first) weights costs) n)))
+invariant-loop first weights costs out₀ sum₀ n₀ out sum n = (n ≤ length weights) × ((length out ≡ length out₀) × ((out ≡ tab (term_of (power_of first) weights costs) n ++ drop n out₀) × (sum ≡ sum_to (term_of (power_of first) weights costs) n)))
 
 abbrev decreases-loop : tie.decreases-loop
 decreases-loop first weights costs out₀ sum₀ n₀ out sum n = length weights - n
@@ -51,7 +51,7 @@ loop-again c =
     let weights = start.args.weights.now in
     let costs = start.args.costs.now in
     let first = start.args.first in
-    (omega arith, (simp length-set (omega arith), (tab-turn (termOf (powerOf first) weights costs) at-loop.loop.out start.args.out.now at-loop.loop.n (omega (arith, start.requires.1, at-loop-test.loop-test.true)) at-loop.loop.invariant.1.1.0 c.term.ensures, sum-turn first weights costs start.requires.0 at-loop.loop.n at-loop-test.loop-test.true at-loop.loop.invariant.1.1.1 c.term.ensures)))
+    (omega arith, (simp length-set (omega arith), (tab_turn (term_of (power_of first) weights costs) at-loop.loop.out start.args.out.now at-loop.loop.n (omega (arith, start.requires.1, at-loop-test.loop-test.true)) at-loop.loop.invariant.1.1.0 c.term.ensures, sum_turn first weights costs start.requires.0 at-loop.loop.n at-loop-test.loop-test.true at-loop.loop.invariant.1.1.1 c.term.ensures)))
 
 same_length : tie.Need-same-length invariant-loop decreases-loop
 same_length c = search rules
@@ -63,7 +63,7 @@ returns c =
     let weights = start.args.weights.now in
     let costs = start.args.costs.now in
     let first = start.args.first in
-    let e : at-loop.loop.n ≡ length weights = omega arith in (at-loop.loop.invariant.1.1.1 ∙ ap (sum_to (termOf (powerOf first) weights costs)) e, tab-end (termOf (powerOf first) weights costs) at-loop.loop.out start.args.out.now at-loop.loop.n at-loop.loop.invariant.1.1.0 (omega (arith, e, start.requires.1)) start.requires.1)
+    let e : at-loop.loop.n ≡ length weights = omega arith in (at-loop.loop.invariant.1.1.1 ∙ ap (sum_to (term_of (power_of first) weights costs)) e, tab-end (term_of (power_of first) weights costs) at-loop.loop.out start.args.out.now at-loop.loop.n at-loop.loop.invariant.1.1.0 (omega (arith, e, start.requires.1)) start.requires.1)
 
 pub terms-spec : {M : Type 1} → statement M
 terms-spec =

@@ -6,7 +6,7 @@ use native.Mathlib.Omega.{arith}
 use borrow.Author.Rules.{rules}
 use lib.ListN.{length, drop, get_or, length-set}
 use Rattle.trellis.specs.Lists.{tab}
-use Rattle.sweep.proofs.Laws.{tab-turn, tab-end, tab-list}
+use Rattle.sweep.proofs.Laws.{tab_turn, tab-end, tab_list}
 use Rattle.sweep.proofs.step.copy.Statement.{statement}
 use Rattle.sweep.proofs.step.copy.Tie as tie
 
@@ -41,7 +41,7 @@ loop-again : tie.Need-loop-preserved invariant-loop decreases-loop
 loop-again c =
     let at-loop = c.before.before in
     let start = at-loop.before in
-    (omega arith, (simp length-set (omega arith), tab-turn (λ j. get_or start.args.from.now j 0) at-loop.loop.to start.args.to.now at-loop.loop.i (omega arith) at-loop.loop.invariant.1.1 (cc)))
+    (omega arith, (simp length-set (omega arith), tab_turn (λ j. get_or start.args.from.now j 0) at-loop.loop.to start.args.to.now at-loop.loop.i (omega arith) at-loop.loop.invariant.1.1 (cc)))
 
 same_length : tie.Need-same-length invariant-loop decreases-loop
 same_length c = search rules
@@ -51,7 +51,7 @@ returns c =
     let at-loop = c.before in
     let start = at-loop.before in
     let from = start.args.from.now in
-    tab-end (λ j. get_or from j 0) at-loop.loop.to start.args.to.now at-loop.loop.i {n = length from} at-loop.loop.invariant.1.1 (omega arith) (omega arith) ∙ tab-list from
+    tab-end (λ j. get_or from j 0) at-loop.loop.to start.args.to.now at-loop.loop.i {n = length from} at-loop.loop.invariant.1.1 (omega arith) (omega arith) ∙ tab_list from
 
 pub copy_spec : {M : Type 1} → statement M
 copy_spec =

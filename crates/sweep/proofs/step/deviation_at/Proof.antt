@@ -6,15 +6,15 @@ use borrow.Author.Rules.{rules}
 use lib.ListN.{length, get_or}
 use Rattle.trellis.specs.Field.{xor}
 use Rattle.trellis.specs.Rules.{join_of}
-use Rattle.trellis.specs.Sweep.{leastTo}
-use Rattle.sweep.specs.inner.Cells.{deviationAt}
-use Rattle.trellis.proofs.Sweep.{leastTo-mark}
-use Rattle.sweep.proofs.Laws.{least-turn}
+use Rattle.trellis.specs.Sweep.{least_to}
+use Rattle.sweep.specs.inner.Cells.{deviation_at}
+use Rattle.trellis.proofs.Sweep.{least_to-mark}
+use Rattle.sweep.proofs.Laws.{least_turn}
 use Rattle.sweep.proofs.step.deviation_at.Statement.{statement}
 use Rattle.sweep.proofs.step.deviation_at.Tie as tie
 
 abbrev invariant-loop : tie.invariant-loop
-invariant-loop row moves low t greatest e₀ x₀ e x = (x ≤ length row) × (e ≡ leastTo (λ x. join_of greatest (get_or moves x 0) (get_or low (xor t (get_or row x 0)) 0)) x)
+invariant-loop row moves low t greatest e₀ x₀ e x = (x ≤ length row) × (e ≡ least_to (λ x. join_of greatest (get_or moves x 0) (get_or low (xor t (get_or row x 0)) 0)) x)
 
 abbrev decreases-loop : tie.decreases-loop
 decreases-loop row moves low t greatest e₀ x₀ e x = length row - x
@@ -74,10 +74,10 @@ loop-again : tie.Need-loop-preserved invariant-loop decreases-loop
 loop-again c =
     let at-loop = c.before.before.before.before.before.before.before.before in
     let start = at-loop.before.before.before.before in
-    (omega arith, least-turn (λ x. join_of start.args.greatest (get_or start.args.moves.now x 0) (get_or start.args.low.now (xor start.args.t (get_or start.args.row.now x 0)) 0)) at-loop.loop.x at-loop.loop.invariant.1 (cc) c.min-u32.ensures)
+    (omega arith, least_turn (λ x. join_of start.args.greatest (get_or start.args.moves.now x 0) (get_or start.args.low.now (xor start.args.t (get_or start.args.row.now x 0)) 0)) at-loop.loop.x at-loop.loop.invariant.1 (cc) c.min-u32.ensures)
 
 returns : tie.Need-returns invariant-loop decreases-loop
-unfolding deviationAt
+unfolding deviation_at
 returns c =
     let at-loop = c.before in
     let start = at-loop.before.before.before.before in
@@ -86,7 +86,7 @@ returns c =
     let row = start.args.row.now in
     let greatest = start.args.greatest in
     let t = start.args.t in
-    let e : at-loop.loop.x ≡ length row = omega arith in (at-loop.loop.invariant.1 ∙ ap (leastTo (λ x. join_of greatest (get_or moves x 0) (get_or low (xor t (get_or row x 0)) 0))) e, omega (arith, at-loop.loop.invariant.1, leastTo-mark (λ x. join_of greatest (get_or moves x 0) (get_or low (xor t (get_or row x 0)) 0)) at-loop.loop.x))
+    let e : at-loop.loop.x ≡ length row = omega arith in (at-loop.loop.invariant.1 ∙ ap (least_to (λ x. join_of greatest (get_or moves x 0) (get_or low (xor t (get_or row x 0)) 0))) e, omega (arith, at-loop.loop.invariant.1, least_to-mark (λ x. join_of greatest (get_or moves x 0) (get_or low (xor t (get_or row x 0)) 0)) at-loop.loop.x))
 
 pub deviation-at-spec : {M : Type 1} → statement M
 deviation-at-spec =

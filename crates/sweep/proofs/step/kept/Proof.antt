@@ -7,7 +7,7 @@ use borrow.Author.Rules.{rules}
 use lib.ListN.{length, drop, get_or, length-set}
 use Rattle.trellis.specs.Lists.{tab}
 use Rattle.trellis.specs.Field.{xor}
-use Rattle.sweep.proofs.Laws.{tab-turn, tab-end}
+use Rattle.sweep.proofs.Laws.{tab_turn, tab-end}
 use Rattle.sweep.proofs.step.kept.Statement.{statement}
 use Rattle.sweep.proofs.step.kept.Tie as tie
 
@@ -54,7 +54,7 @@ loop-again c =
     let at-loop = c.before.before.before in
     let start = at-loop.before.before.before in
     let s = start.args.s in
-    (omega arith, (simp length-set (omega arith), tab-turn (λ t. get_or start.args.same.now (xor t s) 0) at-loop.loop.out start.args.out.now at-loop.loop.t (omega arith) at-loop.loop.invariant.1.1 (cc)))
+    (omega arith, (simp length-set (omega arith), tab_turn (λ t. get_or start.args.same.now (xor t s) 0) at-loop.loop.out start.args.out.now at-loop.loop.t (omega arith) at-loop.loop.invariant.1.1 (cc)))
 
 same_length : tie.Need-same-length invariant-loop decreases-loop
 same_length c = search rules

@@ -6,13 +6,13 @@ use native.Mathlib.Omega.{arith}
 use borrow.Author.Rules.{rules}
 use lib.ListN.{length, drop, length-set}
 use Rattle.trellis.specs.Lists.{tab}
-use Rattle.sweep.specs.inner.Cells.{layerAt}
-use Rattle.sweep.proofs.Laws.{tab-turn, tab-end, layer-value}
+use Rattle.sweep.specs.inner.Cells.{layer_at}
+use Rattle.sweep.proofs.Laws.{tab_turn, tab-end, layer_value}
 use Rattle.sweep.proofs.step.layer.Statement.{statement}
 use Rattle.sweep.proofs.step.layer.Tie as tie
 
 abbrev invariant-loop : tie.invariant-loop
-invariant-loop row moves low same s greatest out₀ t₀ out t = (t ≤ length out₀) × ((length out ≡ length out₀) × (out ≡ tab (layerAt greatest row moves low same s) t ++ drop t out₀))
+invariant-loop row moves low same s greatest out₀ t₀ out t = (t ≤ length out₀) × ((length out ≡ length out₀) × (out ≡ tab (layer_at greatest row moves low same s) t ++ drop t out₀))
 
 abbrev decreases-loop : tie.decreases-loop
 decreases-loop row moves low same s greatest out₀ t₀ out t = length out₀ - t
@@ -74,8 +74,8 @@ loop-again c =
     let at-loop = at-plus.before.before in
     let start = at-loop.before.before.before.before.before.before in
     let s = start.args.s in
-    let v = layer-value start.args.greatest start.args.row.now start.args.moves.now start.args.low.now start.args.same.now s at-loop.loop.t at-plus.plus.ensures at-u16-to-u32.u16-to-u32.ensures.0 at-deviation-at.deviation-at.ensures.0 at-deviation-at.deviation-at.ensures.1 at-min-u32.min-u32.ensures c.u32-to-u16.ensures in
-    (omega arith, (simp length-set (omega arith), tab-turn (layerAt start.args.greatest start.args.row.now start.args.moves.now start.args.low.now start.args.same.now s) at-loop.loop.out start.args.out.now at-loop.loop.t (omega arith) at-loop.loop.invariant.1.1 v))
+    let v = layer_value start.args.greatest start.args.row.now start.args.moves.now start.args.low.now start.args.same.now s at-loop.loop.t at-plus.plus.ensures at-u16-to-u32.u16-to-u32.ensures.0 at-deviation-at.deviation-at.ensures.0 at-deviation-at.deviation-at.ensures.1 at-min-u32.min-u32.ensures c.u32-to-u16.ensures in
+    (omega arith, (simp length-set (omega arith), tab_turn (layer_at start.args.greatest start.args.row.now start.args.moves.now start.args.low.now start.args.same.now s) at-loop.loop.out start.args.out.now at-loop.loop.t (omega arith) at-loop.loop.invariant.1.1 v))
 
 same_length : tie.Need-same-length invariant-loop decreases-loop
 same_length c = search rules
@@ -85,7 +85,7 @@ returns c =
     let at-loop = c.before in
     let start = at-loop.before.before.before.before.before.before in
     let s = start.args.s in
-    tab-end (layerAt start.args.greatest start.args.row.now start.args.moves.now start.args.low.now start.args.same.now s) at-loop.loop.out start.args.out.now at-loop.loop.t at-loop.loop.invariant.1.1 (omega arith) start.requires.1.1.0
+    tab-end (layer_at start.args.greatest start.args.row.now start.args.moves.now start.args.low.now start.args.same.now s) at-loop.loop.out start.args.out.now at-loop.loop.t at-loop.loop.invariant.1.1 (omega arith) start.requires.1.1.0
 
 pub layer-spec : {M : Type 1} → statement M
 layer-spec =

@@ -7,7 +7,7 @@ use borrow.Author.Rules.{rules}
 use lib.ListN.{length, drop, length-set}
 use Rattle.trellis.specs.Lists.{tab}
 use Rattle.trellis.specs.Sweep.{mark}
-use Rattle.sweep.proofs.Laws.{tab-turn, tab-end}
+use Rattle.sweep.proofs.Laws.{tab_turn, tab-end}
 use Rattle.sweep.proofs.step.mark_all.Statement.{statement}
 use Rattle.sweep.proofs.step.mark_all.Tie as tie
 
@@ -36,7 +36,7 @@ loop-again : tie.Need-loop-preserved invariant-loop decreases-loop
 loop-again c =
     let at-loop = c.before in
     let start = at-loop.before in
-    (omega arith, (simp length-set (omega arith), tab-turn (λ (j : ℕ). mark) at-loop.loop.out start.args.out.now at-loop.loop.i (omega arith) at-loop.loop.invariant.1.1 refl))
+    (omega arith, (simp length-set (omega arith), tab_turn (λ (j : ℕ). mark) at-loop.loop.out start.args.out.now at-loop.loop.i (omega arith) at-loop.loop.invariant.1.1 refl))
 
 same_length : tie.Need-same-length invariant-loop decreases-loop
 same_length c = search rules

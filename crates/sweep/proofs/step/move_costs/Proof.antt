@@ -6,13 +6,13 @@ use native.Mathlib.Omega.{arith}
 use borrow.Author.Rules.{rules}
 use lib.ListN.{length, drop, length-set}
 use Rattle.trellis.specs.Lists.{tab}
-use Rattle.sweep.specs.inner.Cells.{moveCost}
-use Rattle.sweep.proofs.Laws.{tab-turn, tab-end}
+use Rattle.sweep.specs.inner.Cells.{move_cost}
+use Rattle.sweep.proofs.Laws.{tab_turn, tab-end}
 use Rattle.sweep.proofs.step.move_costs.Statement.{statement}
 use Rattle.sweep.proofs.step.move_costs.Tie as tie
 
 abbrev invariant-loop : tie.invariant-loop
-invariant-loop costs z out₀ x₀ out x = (x ≤ length out₀) × ((length out ≡ length out₀) × (out ≡ tab (moveCost costs z) x ++ drop x out₀))
+invariant-loop costs z out₀ x₀ out x = (x ≤ length out₀) × ((length out ≡ length out₀) × (out ≡ tab (move_cost costs z) x ++ drop x out₀))
 
 abbrev decreases-loop : tie.decreases-loop
 decreases-loop costs z out₀ x₀ out x = length out₀ - x
@@ -42,7 +42,7 @@ loop-again : tie.Need-loop-preserved invariant-loop decreases-loop
 loop-again c =
     let at-loop = c.before.before.before in
     let start = at-loop.before.before.before in
-    (omega arith, (simp length-set (omega arith), tab-turn (moveCost start.args.costs.now start.args.z) at-loop.loop.out start.args.out.now at-loop.loop.x (omega arith) at-loop.loop.invariant.1.1 (cc)))
+    (omega arith, (simp length-set (omega arith), tab_turn (move_cost start.args.costs.now start.args.z) at-loop.loop.out start.args.out.now at-loop.loop.x (omega arith) at-loop.loop.invariant.1.1 (cc)))
 
 same_length : tie.Need-same-length invariant-loop decreases-loop
 same_length c = search rules
@@ -51,7 +51,7 @@ returns : tie.Need-returns invariant-loop decreases-loop
 returns c =
     let at-loop = c.before in
     let start = at-loop.before.before.before in
-    tab-end (moveCost start.args.costs.now start.args.z) at-loop.loop.out start.args.out.now at-loop.loop.x at-loop.loop.invariant.1.1 (omega arith) refl
+    tab-end (move_cost start.args.costs.now start.args.z) at-loop.loop.out start.args.out.now at-loop.loop.x at-loop.loop.invariant.1.1 (omega arith) refl
 
 pub move-costs-spec : {M : Type 1} → statement M
 move-costs-spec =

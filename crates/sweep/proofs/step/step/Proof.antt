@@ -6,7 +6,7 @@ use native.Mathlib.Omega.{arith}
 use borrow.Author.Rules.{rules}
 use lib.ListN.{length, drop}
 use Rattle.trellis.specs.Lists.{blocks}
-use Rattle.sweep.specs.inner.Cells.{countCells, stepCells}
+use Rattle.sweep.specs.inner.Cells.{count_cells, step_cells}
 use Rattle.trellis.proofs.Loops.{block_more, block-end}
 use Rattle.field.proofs.Blocks.{part_room}
 use Rattle.sweep.proofs.Laws.{part_length, count-length, drop-none}
@@ -14,7 +14,7 @@ use Rattle.sweep.proofs.step.step.Statement.{statement}
 use Rattle.sweep.proofs.step.step.Tie as tie
 
 abbrev invariant-loop : tie.invariant-loop
-invariant-loop row moves cells s q k greatest out₀ j₀ out j = (j ≤ k + 1) × ((length out ≡ length out₀) × (out ≡ blocks (countCells greatest q row moves cells s) j ++ drop (j * q) out₀))
+invariant-loop row moves cells s q k greatest out₀ j₀ out j = (j ≤ k + 1) × ((length out ≡ length out₀) × (out ≡ blocks (count_cells greatest q row moves cells s) j ++ drop (j * q) out₀))
 
 abbrev decreases-loop : tie.decreases-loop
 decreases-loop row moves cells s q k greatest out₀ j₀ out j = k + 1 - j
@@ -81,13 +81,13 @@ loop-again c =
     let greatest = start.args.greatest in
     let s = start.args.s in
     let q = start.args.q in
-    (omega arith, (omega arith, block_more (countCells greatest q row moves cells s) q (count-length greatest q row moves cells s) start.args.out.now at-loop.loop.out at-loop.loop.j at-loop.loop.invariant.1.1 at_count.count.ensures))
+    (omega arith, (omega arith, block_more (count_cells greatest q row moves cells s) q (count-length greatest q row moves cells s) start.args.out.now at-loop.loop.out at-loop.loop.j at-loop.loop.invariant.1.1 at_count.count.ensures))
 
 same_length : tie.Need-same-length invariant-loop decreases-loop
 same_length c = search rules
 
 returns : tie.Need-returns invariant-loop decreases-loop
-unfolding stepCells
+unfolding step_cells
 returns c =
     let at-loop = c.before in
     let start = at-loop.before.before.before.before.before in
@@ -98,7 +98,7 @@ returns c =
     let greatest = start.args.greatest in
     let s = start.args.s in
     let q = start.args.q in
-    let e : at-loop.loop.j ≡ start.args.k + 1 = omega arith in let h : length the_out ≡ at-loop.loop.j * q = rw e start.requires.1.1.1 in block-end (countCells greatest q row moves cells s) q (count-length greatest q row moves cells s) the_out at-loop.loop.out at-loop.loop.j at-loop.loop.invariant.1.1 h ∙ ap (blocks (countCells greatest q row moves cells s)) e
+    let e : at-loop.loop.j ≡ start.args.k + 1 = omega arith in let h : length the_out ≡ at-loop.loop.j * q = rw e start.requires.1.1.1 in block-end (count_cells greatest q row moves cells s) q (count-length greatest q row moves cells s) the_out at-loop.loop.out at-loop.loop.j at-loop.loop.invariant.1.1 h ∙ ap (blocks (count_cells greatest q row moves cells s)) e
 
 pub step_spec : {M : Type 1} → statement M
 step_spec =

@@ -1,4 +1,4 @@
-use Rattle.tables.proofs.Turns.{tab-turn, lanes_end}
+use Rattle.tables.proofs.Turns.{tab_turn, lanes_end}
 use Rattle.trellis.specs.Lists.{tab}
 use Prim.Native.Nat.{max}
 use mathlib.Core.Path.{◌≡◌}
@@ -42,7 +42,7 @@ loop-less c = search rules
 
 loop-again : tie.Need-loop-preserved invariant-loop decreases-loop
 loop-again c = let l = c.before.before.before.before in let a = c.before.before.before.before.before.before.before.before.args in
-    (omega arith, (simp length-set (omega arith), tab-turn (λ (j : ℕ). max (get_or a.e.now j 0) (get_or a.from.now j 0)) l.loop.t a.t.now l.loop.i (omega arith) l.loop.invariant.1.1 c.max-u8.ensures))
+    (omega arith, (simp length-set (omega arith), tab_turn (λ (j : ℕ). max (get_or a.e.now j 0) (get_or a.from.now j 0)) l.loop.t a.t.now l.loop.i (omega arith) l.loop.invariant.1.1 c.max-u8.ensures))
 
 same_length : tie.Need-same-length invariant-loop decreases-loop
 same_length c = search rules

@@ -1,4 +1,4 @@
-use Rattle.tables.proofs.Blocks.{copy-turn}
+use Rattle.tables.proofs.Blocks.{copy_turn}
 use Rattle.tables.proofs.Turns.{copied}
 use Rattle.trellis.specs.Lists.{tab}
 use mathlib.Core.Path.{◌≡◌}
@@ -52,7 +52,7 @@ loop-less c = search rules
 
 loop-again : tie.Need-loop-preserved invariant-loop decreases-loop
 loop-again c = let l = c.before.before.before.before.before.before.before in let a = c.before.before.before.before.before.before.before.before.before.before.args in let x = c.before.before.before.before.before.next.ensures in
-    ((omega (arith, x), omega (arith, x)), copy-turn a.from.now a.e.now l.loop.e l.loop.v _ x.0 (omega (arith, x)) (omega arith) l.loop.invariant.1.1 c.before.before.copy-block.ensures)
+    ((omega (arith, x), omega (arith, x)), copy_turn a.from.now a.e.now l.loop.e l.loop.v _ x.0 (omega (arith, x)) (omega arith) l.loop.invariant.1.1 c.before.before.copy-block.ensures)
 
 same_length : tie.Need-same-length invariant-loop decreases-loop
 same_length c = search rules

@@ -1,4 +1,4 @@
-use Rattle.tables.proofs.Blocks.{raise-turn, raised-one}
+use Rattle.tables.proofs.Blocks.{raise_turn, raised-one}
 use Rattle.tables.proofs.Turns.{tab-end}
 use Rattle.trellis.specs.Lists.{tab}
 use Prim.Native.Nat.{max}
@@ -66,7 +66,7 @@ loop-less c = search rules
 
 loop-again : tie.Need-loop-preserved invariant-loop decreases-loop
 loop-again c = let l = c.before.before.before.before.before.before.before in let a = c.before.before.before.before.before.before.before.before.before.before.before.args in let x = c.before.before.before.before.before.next.ensures in
-    ((omega (arith, x), omega (arith, x)), raise-turn a.from.now a.e.now l.loop.e l.loop.v _ x.0 (omega (arith, x)) (omega arith) l.loop.invariant.1.1 c.before.before.raise-block2.ensures)
+    ((omega (arith, x), omega (arith, x)), raise_turn a.from.now a.e.now l.loop.e l.loop.v _ x.0 (omega (arith, x)) (omega arith) l.loop.invariant.1.1 c.before.before.raise-block2.ensures)
 
 same-length-2 : tie.Need-same-length-2 invariant-loop decreases-loop
 same-length-2 c = search rules

@@ -4,7 +4,7 @@ use native.Mathlib.Omega.{arith}
 use borrow.Author.Rules.{rules}
 use lib.ListN.{drop}
 use Rattle.tables.proofs.Flipping.{flips1, flips2, flips4, flips8}
-use Rattle.tables.proofs.Copying.{copied-four, copied-double, copied-less, take-room}
+use Rattle.tables.proofs.Copying.{copied_four, copied_double, copied_less, take-room}
 use Rattle.tables.proofs.copies.copies.Statement.{statement}
 use Rattle.tables.proofs.copies.copies.Tie as tie
 
@@ -36,8 +36,8 @@ returns c =
     let at-twice = at-twice2.before.before.before.before in
     let at_copy = at-twice.before.before.before.before in
     let start = at_copy.before.before.before.before in
-    let four = copied-four start.args.shape.l start.args.table.now start.args.s.now start.requires.0.table start.requires.1.0 (ap (λ y. y ++ drop start.args.shape.l start.args.s.now) at_copy.copy.ensures) at-twice.twice.ensures at-twice2.twice2.ensures in
-    copied-less _ 4 start.args.shape.l start.args.table.now _ (omega arith) four
+    let four = copied_four start.args.shape.l start.args.table.now start.args.s.now start.requires.0.table start.requires.1.0 (ap (λ y. y ++ drop start.args.shape.l start.args.s.now) at_copy.copy.ensures) at-twice.twice.ensures at-twice2.twice2.ensures in
+    copied_less _ 4 start.args.shape.l start.args.table.now _ (omega arith) four
 
 twice-requires-3 : tie.Need-twice-requires-3
 twice-requires-3 c κs = (flips4, search rules)
@@ -52,9 +52,9 @@ returns-2 c =
     let at-twice = at-twice2.before.before.before.before in
     let at_copy = at-twice.before.before.before.before in
     let start = at_copy.before.before.before.before in
-    let four = copied-four start.args.shape.l start.args.table.now start.args.s.now start.requires.0.table start.requires.1.0 (ap (λ y. y ++ drop start.args.shape.l start.args.s.now) at_copy.copy.ensures) at-twice.twice.ensures at-twice2.twice2.ensures in
-    let eight = copied-double 4 start.args.shape.l start.args.table.now _ _ flips4 start.requires.0.table four at-twice3.twice3.ensures in
-    copied-less _ 8 start.args.shape.l start.args.table.now _ (omega arith) eight
+    let four = copied_four start.args.shape.l start.args.table.now start.args.s.now start.requires.0.table start.requires.1.0 (ap (λ y. y ++ drop start.args.shape.l start.args.s.now) at_copy.copy.ensures) at-twice.twice.ensures at-twice2.twice2.ensures in
+    let eight = copied_double 4 start.args.shape.l start.args.table.now _ _ flips4 start.requires.0.table four at-twice3.twice3.ensures in
+    copied_less _ 8 start.args.shape.l start.args.table.now _ (omega arith) eight
 
 twice-requires-4 : tie.Need-twice-requires-4
 twice-requires-4 c κs = (flips8, search rules)
@@ -70,9 +70,9 @@ returns-3 c =
     let at-twice = at-twice2.before.before.before.before in
     let at_copy = at-twice.before.before.before.before in
     let start = at_copy.before.before.before.before in
-    let four = copied-four start.args.shape.l start.args.table.now start.args.s.now start.requires.0.table start.requires.1.0 (ap (λ y. y ++ drop start.args.shape.l start.args.s.now) at_copy.copy.ensures) at-twice.twice.ensures at-twice2.twice2.ensures in
-    let eight = copied-double 4 start.args.shape.l start.args.table.now _ _ flips4 start.requires.0.table four at-twice3.twice3.ensures in
-    copied-less _ 16 start.args.shape.l start.args.table.now _ (omega arith) (copied-double 8 start.args.shape.l start.args.table.now _ _ flips8 start.requires.0.table eight at-twice4.twice4.ensures)
+    let four = copied_four start.args.shape.l start.args.table.now start.args.s.now start.requires.0.table start.requires.1.0 (ap (λ y. y ++ drop start.args.shape.l start.args.s.now) at_copy.copy.ensures) at-twice.twice.ensures at-twice2.twice2.ensures in
+    let eight = copied_double 4 start.args.shape.l start.args.table.now _ _ flips4 start.requires.0.table four at-twice3.twice3.ensures in
+    copied_less _ 16 start.args.shape.l start.args.table.now _ (omega arith) (copied_double 8 start.args.shape.l start.args.table.now _ _ flips8 start.requires.0.table eight at-twice4.twice4.ensures)
 
 pub copies-spec : {M : Type 1} → statement M
 copies-spec =

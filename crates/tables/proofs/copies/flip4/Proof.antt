@@ -2,7 +2,7 @@
 use Prim.Native.Nat.{◌-◌}
 use native.Mathlib.Omega.{arith}
 use borrow.Author.Rules.{rules}
-use Rattle.tables.proofs.Flipping.{Flipped, bit-small, flip-start, flip-turn, flip-done, flips4}
+use Rattle.tables.proofs.Flipping.{Flipped, bit_small, flip_start, flip_turn, flip_done, flips4}
 use Rattle.tables.proofs.copies.flip4.Statement.{statement}
 use Rattle.tables.proofs.copies.flip4.Tie as tie
 
@@ -33,10 +33,10 @@ copy-requires c κs = search rules
 loop-holds : tie.Need-loop-init invariant-loop decreases-loop
 loop-holds c =
     let s = c.before.before.before.before.before.before.args in
-    flip-start 4 s.from s.to s.s.now c.before.copy.new.1.0 (omega arith)
+    flip_start 4 s.from s.to s.s.now c.before.copy.new.1.0 (omega arith)
 
 array-read-s : tie.Need-array-read-s invariant-loop decreases-loop
-array-read-s c = omega (arith, bit-small c.before.loop.i 4 (omega arith) (omega arith))
+array-read-s c = omega (arith, bit_small c.before.loop.i 4 (omega arith) (omega arith))
 
 add-s : tie.Need-overflow-add-s invariant-loop decreases-loop
 add-s c = search rules
@@ -54,7 +54,7 @@ loop-again : tie.Need-loop-preserved invariant-loop decreases-loop
 loop-again c =
     let l = c.before in
     let s = l.before.before.before.before.before.before.before.args in
-    flip-turn 4 s.from s.to s.s.now l.before.before.copy.new.1.0 (omega arith) l.loop.s l.loop.i c.loop-test.true l.loop.invariant
+    flip_turn 4 s.from s.to s.s.now l.before.before.copy.new.1.0 (omega arith) l.loop.s l.loop.i c.loop-test.true l.loop.invariant
 
 same_length : tie.Need-same-length invariant-loop decreases-loop
 same_length c = search rules
@@ -63,7 +63,7 @@ returns : tie.Need-returns invariant-loop decreases-loop
 returns c =
     let l = c.before in
     let s = l.before.before.before.before.before.before.before.args in
-    flip-done 4 s.from s.to s.s.now l.before.before.copy.new.1.0 (omega arith) l.loop.s l.loop.i flips4 l.before.before.copy.ensures c.loop-test.false l.loop.invariant
+    flip_done 4 s.from s.to s.s.now l.before.before.copy.new.1.0 (omega arith) l.loop.s l.loop.i flips4 l.before.before.copy.ensures c.loop-test.false l.loop.invariant
 
 pub flip4-spec : {M : Type 1} → statement M
 flip4-spec =

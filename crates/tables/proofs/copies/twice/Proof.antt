@@ -5,9 +5,9 @@ use Prim.Native.Nat.{ℕ, ◌+◌, ◌-◌, ◌*◌, ◌%◌, ◌≤◌, ◌<◌
 use native.Mathlib.Omega.{arith}
 use borrow.Author.Rules.{rules}
 use lib.ListN.{length}
-use Rattle.tables.specs.inner.Lanes.{flippedTo, Doubled}
-use Rattle.tables.proofs.Flipping.{flips-last}
-use Rattle.tables.proofs.Copying.{twice-room, Doubling, doubling-start, doubling-room, doubling-turn, doubling-done}
+use Rattle.tables.specs.inner.Lanes.{flipped_to, Doubled}
+use Rattle.tables.proofs.Flipping.{flips_last}
+use Rattle.tables.proofs.Copying.{twice_room, Doubling, doubling_start, doubling_room, doubling_turn, doubling_done}
 use Rattle.tables.proofs.copies.twice.Statement.{statement}
 use Rattle.tables.proofs.copies.twice.Tie as tie
 
@@ -44,19 +44,19 @@ module _ (s : tie.Start invariant-loop decreases-loop invariant-loop2 decreases-
   Done = Doubling s.args.bit n s.args.s.now
 
   room : (n % 16 ≡ 0) × ((n + n ≤ 16 * s.args.l) × (16 * s.args.l ≤ 65536))
-  room = twice-room s.args.bit s.args.l s.pre.0 s.pre.1.0
+  room = twice_room s.args.bit s.args.l s.pre.0 s.pre.1.0
 
   begins : Done s.args.s.now 0
-  begins = doubling-start s.args.bit s.args.l s.args.s.now s.pre.0 s.pre.1.0 s.pre.1.1
+  begins = doubling_start s.args.bit s.args.l s.args.s.now s.pre.0 s.pre.1.0 s.pre.1.1
 
   block_room : (r : List ℕ) (i : ℕ) → Done r i → i < n → (i + 16 ≤ n + i) × ((n + i + 16 ≤ length r) × (length r ≤ 65536))
-  block_room r i D h = doubling-room s.args.bit s.args.l s.args.s.now s.pre.0 s.pre.1.0 s.pre.1.1 r i D h
+  block_room r i D h = doubling_room s.args.bit s.args.l s.args.s.now s.pre.0 s.pre.1.0 s.pre.1.1 r i D h
 
-  goes_on : (r : List ℕ) (i : ℕ) → Done r i → (k : ℕ) → s.args.bit ≡ k → i < n → (r' : List ℕ) → r' ≡ flippedTo k r i (n + i) → Done r' (i + 16)
-  goes_on r i D k e h r' o = doubling-turn s.args.bit s.args.l s.args.s.now s.pre.0 s.pre.1.0 s.pre.1.1 r i D k e h r' o
+  goes_on : (r : List ℕ) (i : ℕ) → Done r i → (k : ℕ) → s.args.bit ≡ k → i < n → (r' : List ℕ) → r' ≡ flipped_to k r i (n + i) → Done r' (i + 16)
+  goes_on r i D k e h r' o = doubling_turn s.args.bit s.args.l s.args.s.now s.pre.0 s.pre.1.0 s.pre.1.1 r i D k e h r' o
 
   ends : (r : List ℕ) (i : ℕ) → Done r i → n ≤ i → Doubled s.args.bit s.args.l s.args.s.now r
-  ends r i D h = doubling-done s.args.bit s.args.l s.args.s.now s.pre.0 s.pre.1.0 s.pre.1.1 r i D h
+  ends r i D h = doubling_done s.args.bit s.args.l s.args.s.now s.pre.0 s.pre.1.0 s.pre.1.1 r i D h
 
 mul-n : tie.Need-overflow-mul-n invariant-loop decreases-loop invariant-loop2 decreases-loop2 invariant-loop3 decreases-loop3 invariant-loop4 decreases-loop4
 mul-n c = omega (arith, room c.before)
@@ -149,7 +149,7 @@ loop4-less : tie.Need-loop4-smaller invariant-loop decreases-loop invariant-loop
 loop4-less c = search rules
 
 loop4-again : tie.Need-loop4-preserved invariant-loop decreases-loop invariant-loop2 decreases-loop2 invariant-loop3 decreases-loop3 invariant-loop4 decreases-loop4
-loop4-again c = let f = c.before.before in let l = f.before.before.before in goes_on l.before.before.before.before.before l.loop4.s l.loop4.i l.loop4.invariant 8 (flips-last _ l.before.before.before.before.before.requires.0 l.before.before.before.if1.false l.before.before.if2.false l.before.if3.false) f.before.before.loop4-test.true _ f.flip8.ensures
+loop4-again c = let f = c.before.before in let l = f.before.before.before in goes_on l.before.before.before.before.before l.loop4.s l.loop4.i l.loop4.invariant 8 (flips_last _ l.before.before.before.before.before.requires.0 l.before.before.before.if1.false l.before.before.if2.false l.before.if3.false) f.before.before.loop4-test.true _ f.flip8.ensures
 
 same-length-4 : tie.Need-same-length-4 invariant-loop decreases-loop invariant-loop2 decreases-loop2 invariant-loop3 decreases-loop3 invariant-loop4 decreases-loop4
 same-length-4 c = search rules

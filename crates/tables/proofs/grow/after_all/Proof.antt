@@ -5,14 +5,14 @@ use native.Mathlib.Omega.{arith}
 use borrow.Author.Rules.{rules}
 use lib.ListN.{length, drop}
 use Rattle.trellis.specs.Lists.{blocks}
-use Rattle.tables.specs.inner.Tables.{afterTo}
+use Rattle.tables.specs.inner.Tables.{after_to}
 use Rattle.tables.proofs.Parts.{fill_start, seam, blocks-length}
-use Rattle.tables.proofs.Growing.{widths, after-length, after_turn, keep-turn, after-end}
+use Rattle.tables.proofs.Growing.{widths, after-length, after_turn, keep_turn, after-end}
 use Rattle.tables.proofs.grow.after_all.Statement.{statement}
 use Rattle.tables.proofs.grow.after_all.Tie as tie
 
 abbrev invariant-loop : tie.invariant-loop
-invariant-loop shape d lines table₀ c₀ after₀ i₀ table c after i = (i + 1 < d) × (((length table ≡ shape.k * shape.l) × ((length c ≡ 16 * shape.l) × ((length after ≡ (d - 1) * (shape.k * shape.l)) × (length after₀ ≡ (d - 1) * (shape.k * shape.l))))) × ((table ≡ afterTo shape.greatest shape.q shape.l shape.k lines d i) × (after ≡ blocks (afterTo shape.greatest shape.q shape.l shape.k lines d) (i + 1) ++ drop ((i + 1) * (shape.k * shape.l)) after₀)))
+invariant-loop shape d lines table₀ c₀ after₀ i₀ table c after i = (i + 1 < d) × (((length table ≡ shape.k * shape.l) × ((length c ≡ 16 * shape.l) × ((length after ≡ (d - 1) * (shape.k * shape.l)) × (length after₀ ≡ (d - 1) * (shape.k * shape.l))))) × ((table ≡ after_to shape.greatest shape.q shape.l shape.k lines d i) × (after ≡ blocks (after_to shape.greatest shape.q shape.l shape.k lines d) (i + 1) ++ drop ((i + 1) * (shape.k * shape.l)) after₀)))
 
 abbrev decreases-loop : tie.decreases-loop
 decreases-loop shape d lines table₀ c₀ after₀ i₀ table c after i = d - i
@@ -37,11 +37,11 @@ loop-holds c =
     let at-after-first = at-keep.before.before.before.before.before in
     let start = at-after-first.before.before.before.before.before.before in
     let t = at-after-first.after_first.ensures in
-    let K = keep-turn start.args.shape.greatest start.args.shape.q start.args.shape.l start.args.shape.k start.args.lines.now start.args.d start.requires.1.0.0.0 start.requires.1.0.1.0 start.args.after.now start.args.after.now 0 (omega arith) start.requires.1.1.1 (fill_start (afterTo start.args.shape.greatest start.args.shape.q start.args.shape.l start.args.shape.k start.args.lines.now start.args.d) (start.args.shape.k * start.args.shape.l) start.args.after.now) t at-keep.keep.ensures in (
+    let K = keep_turn start.args.shape.greatest start.args.shape.q start.args.shape.l start.args.shape.k start.args.lines.now start.args.d start.requires.1.0.0.0 start.requires.1.0.1.0 start.args.after.now start.args.after.now 0 (omega arith) start.requires.1.1.1 (fill_start (after_to start.args.shape.greatest start.args.shape.q start.args.shape.l start.args.shape.k start.args.lines.now start.args.d) (start.args.shape.k * start.args.shape.l) start.args.after.now) t at-keep.keep.ensures in (
       omega arith,
       (
         ((ap length at-after-first.after_first.ensures ∙ after-length start.args.shape.greatest start.args.shape.q start.args.shape.l start.args.shape.k start.args.lines.now start.args.d start.requires.1.0.0.0 start.requires.1.0.1.0 0), (start.requires.1.0.1.1, (K.0 ∙ start.requires.1.1.1, K.0 ∙ start.requires.1.1.1))),
-        (t, seam (blocks (afterTo start.args.shape.greatest start.args.shape.q start.args.shape.l start.args.shape.k start.args.lines.now start.args.d) (0 + 1)) start.args.after.now _ ((0 + 1) * (start.args.shape.k * start.args.shape.l)) (blocks-length (afterTo start.args.shape.greatest start.args.shape.q start.args.shape.l start.args.shape.k start.args.lines.now start.args.d) (start.args.shape.k * start.args.shape.l) (after-length start.args.shape.greatest start.args.shape.q start.args.shape.l start.args.shape.k start.args.lines.now start.args.d start.requires.1.0.0.0 start.requires.1.0.1.0) (0 + 1)) K.1),
+        (t, seam (blocks (after_to start.args.shape.greatest start.args.shape.q start.args.shape.l start.args.shape.k start.args.lines.now start.args.d) (0 + 1)) start.args.after.now _ ((0 + 1) * (start.args.shape.k * start.args.shape.l)) (blocks-length (after_to start.args.shape.greatest start.args.shape.q start.args.shape.l start.args.shape.k start.args.lines.now start.args.d) (start.args.shape.k * start.args.shape.l) (after-length start.args.shape.greatest start.args.shape.q start.args.shape.l start.args.shape.k start.args.lines.now start.args.d start.requires.1.0.0.0 start.requires.1.0.1.0) (0 + 1)) K.1),
       ),
     )
 
@@ -84,7 +84,7 @@ loop-again c =
     let at-loop = at-take-in.before.before.before.before in
     let start = at-loop.before.before.before.before.before.before.before.before.before.before.before.before.before.before in
     let t = (after_turn start.args.shape.greatest start.args.shape.q start.args.shape.l start.args.shape.k start.args.lines.now start.args.d start.requires.1.0.0.0 start.requires.1.0.1.0 at-loop.loop.i at-loop.loop.invariant.1.1.0 at-take-in.take_in.ensures) in
-    let K = keep-turn start.args.shape.greatest start.args.shape.q start.args.shape.l start.args.shape.k start.args.lines.now start.args.d start.requires.1.0.0.0 start.requires.1.0.1.0 _ at-loop.loop.after (at-loop.loop.i + 1) (omega arith) at-loop.loop.invariant.1.0.1.1.1 at-loop.loop.invariant.1.1.1 t at-keep2.keep2.ensures in
+    let K = keep_turn start.args.shape.greatest start.args.shape.q start.args.shape.l start.args.shape.k start.args.lines.now start.args.d start.requires.1.0.0.0 start.requires.1.0.1.0 _ at-loop.loop.after (at-loop.loop.i + 1) (omega arith) at-loop.loop.invariant.1.0.1.1.1 at-loop.loop.invariant.1.1.1 t at-keep2.keep2.ensures in
     (omega arith, ((ap length t ∙ after-length start.args.shape.greatest start.args.shape.q start.args.shape.l start.args.shape.k start.args.lines.now start.args.d start.requires.1.0.0.0 start.requires.1.0.1.0 (at-loop.loop.i + 1), (omega arith, (K.0 ∙ at-loop.loop.invariant.1.0.1.1.1, at-loop.loop.invariant.1.0.1.1.1))), (t, K.1)))
 
 same_length : tie.Need-same-length invariant-loop decreases-loop

@@ -5,7 +5,7 @@ use native.Mathlib.Omega.{arith}
 use borrow.Author.Rules.{rules}
 use lib.ListN.{length, drop}
 use Rattle.trellis.specs.Lists.{blocks}
-use Rattle.tables.proofs.Parts.{fill_start, fill-turn, fill_end}
+use Rattle.tables.proofs.Parts.{fill_start, fill_turn, fill_end}
 use Rattle.tables.proofs.grow.begin.Statement.{statement}
 use Rattle.tables.proofs.grow.begin.Tie as tie
 
@@ -52,7 +52,7 @@ loop-again c =
     let start = at-loop.before.before.before in
     let x = at-part-at.part_at.ensures in (
       omega arith,
-      fill-turn (λ (i : ℕ). start.args.line.now) start.args.shape.l (λ (j : ℕ). start.requires.1.0) start.args.table.now at-loop.loop.table at-loop.loop.j _ _ x.0 refl (omega (arith, x, start.requires.1))
+      fill_turn (λ (i : ℕ). start.args.line.now) start.args.shape.l (λ (j : ℕ). start.requires.1.0) start.args.table.now at-loop.loop.table at-loop.loop.j _ _ x.0 refl (omega (arith, x, start.requires.1))
           at-loop.loop.invariant.1.1 at_copy.copy.ensures,
     )
 

@@ -4,14 +4,14 @@ use Prim.Native.Nat.{suc, ◌-◌, ◌*◌, ◌<◌}
 use native.Mathlib.Omega.{arith}
 use borrow.Author.Rules.{rules}
 use lib.ListN.{length, take, drop}
-use Rattle.tables.specs.inner.Tables.{grownList}
+use Rattle.tables.specs.inner.Tables.{grown_list}
 use Rattle.tables.proofs.Parts.{past_first, front_length}
-use Rattle.tables.proofs.Growing.{half-start, half_length, half-turn, half-end}
+use Rattle.tables.proofs.Growing.{half_start, half_length, half_turn, half_end}
 use Rattle.tables.proofs.grow.grow.Statement.{statement}
 use Rattle.tables.proofs.grow.grow.Tie as tie
 
 abbrev invariant-loop : tie.invariant-loop
-invariant-loop shape line table₀ c₀ l j₀ table c j = (j < shape.k) × (((length table ≡ length table₀) × (length c ≡ length c₀)) × (table ≡ take (suc j * l) table₀ ++ drop (suc j * l) (grownList shape.greatest shape.q l shape.k line table₀)))
+invariant-loop shape line table₀ c₀ l j₀ table c j = (j < shape.k) × (((length table ≡ length table₀) × (length c ≡ length c₀)) × (table ≡ take (suc j * l) table₀ ++ drop (suc j * l) (grown_list shape.greatest shape.q l shape.k line table₀)))
 
 abbrev decreases-loop : tie.decreases-loop
 decreases-loop shape line table₀ c₀ l j₀ table c j = j
@@ -22,7 +22,7 @@ sub-j c = search rules
 loop-holds : tie.Need-loop-init invariant-loop decreases-loop
 loop-holds c =
     let start = c.before.before.before.before in
-    (omega arith, ((refl, refl), half-start start.args.shape.greatest start.args.shape.q start.args.shape.l start.args.shape.k start.args.line.now start.args.table.now start.requires.1.1 (start.args.shape.k - 1) (omega arith)))
+    (omega arith, ((refl, refl), half_start start.args.shape.greatest start.args.shape.q start.args.shape.l start.args.shape.k start.args.line.now start.args.table.now start.requires.1.1 (start.args.shape.k - 1) (omega arith)))
 
 rise-requires : tie.Need-rise-requires invariant-loop decreases-loop
 rise-requires c κs =
@@ -40,7 +40,7 @@ loop-again c =
     let at-rise = c.before.before.before.before in
     let at-loop = at-rise.before.before.before.before in
     let start = at-loop.before.before.before.before.before in
-    let t = half-turn start.args.shape.greatest start.args.shape.q start.args.shape.l start.args.shape.k start.args.line.now start.args.table.now start.requires.1.1 (at-loop.loop.j - 1) at-loop.loop.j at-loop.loop.table (omega arith) at-loop.loop.invariant.0 at-loop.loop.invariant.1.1 at-rise.rise.ensures in
+    let t = half_turn start.args.shape.greatest start.args.shape.q start.args.shape.l start.args.shape.k start.args.line.now start.args.table.now start.requires.1.1 (at-loop.loop.j - 1) at-loop.loop.j at-loop.loop.table (omega arith) at-loop.loop.invariant.0 at-loop.loop.invariant.1.1 at-rise.rise.ensures in
     (omega arith, ((half_length start.args.shape.greatest start.args.shape.q start.args.shape.l start.args.shape.k start.args.line.now start.args.table.now start.requires.1.1 (at-loop.loop.j - 1) _ (omega arith) t, omega arith), t))
 
 slice-relend-prefix-raise : tie.Need-slice-relend-prefix-raise invariant-loop decreases-loop
@@ -73,8 +73,8 @@ returns c =
     let at-loop = at-raise.before.before.before in
     let start = at-loop.before.before.before.before.before in
     let z : at-loop.loop.j ≡ 0 = omega arith in
-    half-end start.args.shape.greatest start.args.shape.q start.args.shape.l start.args.shape.k start.args.line.now start.args.table.now start.requires.1.1 at-loop.loop.table (omega arith)
-    (at-loop.loop.invariant.1.1 ∙ ap (λ y. take (suc y * start.args.shape.l) start.args.table.now ++ drop (suc y * start.args.shape.l) (grownList start.args.shape.greatest start.args.shape.q start.args.shape.l start.args.shape.k start.args.line.now start.args.table.now)) z)
+    half_end start.args.shape.greatest start.args.shape.q start.args.shape.l start.args.shape.k start.args.line.now start.args.table.now start.requires.1.1 at-loop.loop.table (omega arith)
+    (at-loop.loop.invariant.1.1 ∙ ap (λ y. take (suc y * start.args.shape.l) start.args.table.now ++ drop (suc y * start.args.shape.l) (grown_list start.args.shape.greatest start.args.shape.q start.args.shape.l start.args.shape.k start.args.line.now start.args.table.now)) z)
     at-raise.raise.ensures
 
 pub grow_spec : {M : Type 1} → statement M

@@ -2,7 +2,7 @@ use mathlib.Core.Path.{refl}
 use native.Mathlib.Omega.{arith}
 use borrow.Author.Rules.{rules}
 use Rattle.tables.proofs.Parts.{past_first, below_length, part_length}
-use Rattle.tables.proofs.Growing.{rise-in-is}
+use Rattle.tables.proofs.Growing.{rise_in_is}
 use Rattle.tables.proofs.grow.rise.Statement.{statement}
 use Rattle.tables.proofs.grow.rise.Tie as tie
 
@@ -59,7 +59,7 @@ returns c =
     let at_copies = at_join.before.before.before.before.before in
     let at-part-at = at_copies.before.before.before.before in
     let start = at-part-at.before.before.before.before in
-    rise-in-is start.args.shape.greatest start.args.shape.q start.args.shape.l start.args.shape.k start.args.line.now start.args.table.now _ start.args.j _ _ (omega arith) at-part-at.part_at.ensures.0 refl
+    rise_in_is start.args.shape.greatest start.args.shape.q start.args.shape.l start.args.shape.k start.args.line.now start.args.table.now _ start.args.j _ _ (omega arith) at-part-at.part_at.ensures.0 refl
     start.requires.0.table start.requires.0.within at_copies.copies.ensures at_join.join.ensures
 
 pub rise-spec : {M : Type 1} → statement M

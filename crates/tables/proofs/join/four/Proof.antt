@@ -5,14 +5,14 @@ use native.Mathlib.Omega.{arith}
 use borrow.Author.Rules.{rules}
 use lib.ListN.{length, drop}
 use Rattle.trellis.specs.Lists.{tab}
-use Rattle.tables.specs.inner.Lanes.{fourAt}
+use Rattle.tables.specs.inner.Lanes.{four_at}
 use Rattle.tables.proofs.Turns.{tab-end}
-use Rattle.tables.proofs.Blocks.{four-turn}
+use Rattle.tables.proofs.Blocks.{four_turn}
 use Rattle.tables.proofs.join.four.Statement.{statement}
 use Rattle.tables.proofs.join.four.Tie as tie
 
 abbrev invariant-loop : tie.invariant-loop
-invariant-loop f s at turn l e₀ n v₀ e v = ((v ≤ l) × (v % 16 ≡ 0)) × ((length e ≡ length e₀) × (e ≡ tab (fourAt f s at turn l e₀) v ++ drop v e₀))
+invariant-loop f s at turn l e₀ n v₀ e v = ((v ≤ l) × (v % 16 ≡ 0)) × ((length e ≡ length e₀) × (e ≡ tab (four_at f s at turn l e₀) v ++ drop v e₀))
 
 abbrev decreases-loop : tie.decreases-loop
 decreases-loop f s at turn l e₀ n v₀ e v = l - v
@@ -61,7 +61,7 @@ loop-again c =
     let start = at-loop.before.before.before in
     let a = start.args in (
       (omega arith, omega arith),
-      four-turn a.f a.s.now a.at a.turn a.l a.e.now at-loop.loop.e at-loop.loop.v start.requires.0 at-loop.loop.invariant.0.1 (omega arith) (omega arith) at-loop.loop.invariant.1.1
+      four_turn a.f a.s.now a.at a.turn a.l a.e.now at-loop.loop.e at-loop.loop.v start.requires.0 at-loop.loop.invariant.0.1 (omega arith) (omega arith) at-loop.loop.invariant.1.1
           _ _ _ refl at_place.place.ensures.0 refl at-step.step.ensures,
     )
 
@@ -73,7 +73,7 @@ returns c =
     let at-loop = c.before in
     let start = at-loop.before.before.before in
     let a = start.args in
-    tab-end (fourAt a.f a.s.now a.at a.turn a.l a.e.now) at-loop.loop.e a.e.now at-loop.loop.v a.l at-loop.loop.invariant.1.1 (omega arith) (omega arith)
+    tab-end (four_at a.f a.s.now a.at a.turn a.l a.e.now) at-loop.loop.e a.e.now at-loop.loop.v a.l at-loop.loop.invariant.1.1 (omega arith) (omega arith)
 
 pub four-spec : {M : Type 1} → statement M
 four-spec =

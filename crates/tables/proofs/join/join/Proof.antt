@@ -1,6 +1,6 @@
 -- Either way it is the same join; a table of one block has sixteen rows.
 use borrow.Author.Rules.{rules}
-use Rattle.tables.proofs.Joining.{join-16}
+use Rattle.tables.proofs.Joining.{join_16}
 use Rattle.tables.proofs.join.join.Statement.{statement}
 use Rattle.tables.proofs.join.join.Tie as tie
 
@@ -16,7 +16,7 @@ returns c =
     let taken = at_one.before.before in
     let start = taken.before.before.before.before.before in
     let a = start.args in
-    join-16 a.shape.greatest a.shape.q a.shape.l a.u.now a.s.now a.e.now taken.if1.true at_one.one_block.ensures
+    join_16 a.shape.greatest a.shape.q a.shape.l a.u.now a.s.now a.e.now taken.if1.true at_one.one_block.ensures
 
 all-blocks-requires : tie.Need-all-blocks-requires
 all-blocks-requires c κs = search rules

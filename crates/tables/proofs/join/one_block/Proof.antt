@@ -5,13 +5,13 @@ use borrow.Author.Rules.{rules}
 use lib.ListN.{length}
 use Rattle.trellis.specs.Lists.{tab}
 use Rattle.trellis.proofs.Loops.{length-tab}
-use Rattle.tables.specs.inner.Lanes.{joinTo}
-use Rattle.tables.proofs.Joining.{join-turn, join-none, wide-16}
+use Rattle.tables.specs.inner.Lanes.{join_to}
+use Rattle.tables.proofs.Joining.{join_turn, join-none, wide_16}
 use Rattle.tables.proofs.join.one_block.Statement.{statement}
 use Rattle.tables.proofs.join.one_block.Tie as tie
 
 abbrev invariant-loop : tie.invariant-loop
-invariant-loop greatest q u s e₀ b₀ e b = ((b ≤ q) × (b % 4 ≡ 0)) × ((length e ≡ length e₀) × (e ≡ tab (joinTo greatest u s 16 e₀ b) 16))
+invariant-loop greatest q u s e₀ b₀ e b = ((b ≤ q) × (b % 4 ≡ 0)) × ((length e ≡ length e₀) × (e ≡ tab (join_to greatest u s 16 e₀ b) 16))
 
 abbrev decreases-loop : tie.decreases-loop
 decreases-loop greatest q u s e₀ b₀ e b = q - b
@@ -33,7 +33,7 @@ four-requires c κs =
     let at-loop = at-copy-at.before.before.before in
     let start = at-loop.before.before.before.before in
     let x = at-copy-at.copy_at.ensures in
-    (wide-16, (omega arith, (omega arith, (omega (arith, x), omega (arith, x, start.requires)))))
+    (wide_16, (omega arith, (omega arith, (omega (arith, x), omega (arith, x, start.requires)))))
 
 add-b : tie.Need-overflow-add-b invariant-loop decreases-loop
 add-b c = search rules
@@ -48,9 +48,9 @@ loop-again c =
     let at-four-of = at-copy-at.before in
     let at-loop = at-four-of.before.before in
     let start = at-loop.before.before.before.before in
-    let t = join-turn start.args.greatest start.args.u.now start.args.s.now 16 start.args.e.now at-loop.loop.e at-loop.loop.b at-loop.loop.invariant.0.1 at-loop.loop.invariant.1.1 _ _ _ at-four-of.four-of.ensures
+    let t = join_turn start.args.greatest start.args.u.now start.args.s.now 16 start.args.e.now at-loop.loop.e at-loop.loop.b at-loop.loop.invariant.0.1 at-loop.loop.invariant.1.1 _ _ _ at-four-of.four-of.ensures
     at-copy-at.copy_at.ensures.0 (omega arith) at-four.four.ensures in
-    ((omega arith, omega arith), (omega (arith, ap length t, length-tab (joinTo start.args.greatest start.args.u.now start.args.s.now 16 start.args.e.now (at-loop.loop.b + 4)) 16), t))
+    ((omega arith, omega arith), (omega (arith, ap length t, length-tab (join_to start.args.greatest start.args.u.now start.args.s.now 16 start.args.e.now (at-loop.loop.b + 4)) 16), t))
 
 same_length : tie.Need-same-length invariant-loop decreases-loop
 same_length c = search rules
@@ -60,7 +60,7 @@ returns c =
     let at-loop = c.before in
     let start = at-loop.before.before.before.before in
     let k : at-loop.loop.b ≡ start.args.q = omega arith in
-    at-loop.loop.invariant.1.1 ∙ ap (λ y. tab (joinTo start.args.greatest start.args.u.now start.args.s.now 16 start.args.e.now y) 16) k
+    at-loop.loop.invariant.1.1 ∙ ap (λ y. tab (join_to start.args.greatest start.args.u.now start.args.s.now 16 start.args.e.now y) 16) k
 
 pub one-block-spec : {M : Type 1} → statement M
 one-block-spec =

@@ -5,13 +5,13 @@ use native.Mathlib.Omega.{arith}
 use borrow.Author.Rules.{rules}
 use lib.ListN.{length, drop, length-set}
 use Rattle.trellis.specs.Lists.{tab}
-use Rattle.tables.specs.inner.Lanes.{laneAt}
-use Rattle.tables.proofs.Turns.{tab-turn, lanes_end, lane-value}
+use Rattle.tables.specs.inner.Lanes.{lane_at}
+use Rattle.tables.proofs.Turns.{tab_turn, lanes_end, lane_value}
 use Rattle.tables.proofs.lane.lane.Statement.{statement}
 use Rattle.tables.proofs.lane.lane.Tie as tie
 
 abbrev invariant-loop : tie.invariant-loop
-invariant-loop f s l e t₀ i₀ t i = (i ≤ 16) × ((length t ≡ length t₀) × (t ≡ tab (laneAt f s l e) i ++ drop i t₀))
+invariant-loop f s l e t₀ i₀ t i = (i ≤ 16) × ((length t ≡ length t₀) × (t ≡ tab (lane_at f s l e) i ++ drop i t₀))
 
 abbrev decreases-loop : tie.decreases-loop
 decreases-loop f s l e t₀ i₀ t i = 16 - i
@@ -81,8 +81,8 @@ loop-again c =
       omega arith,
       (
         simp length-set (omega arith),
-        tab-turn (laneAt a.f a.s.now a.l a.e.now) at-loop.loop.t a.t.now at-loop.loop.i (omega arith) at-loop.loop.invariant.1.1
-            (lane-value a.f a.s.now a.l a.e.now at-loop.loop.i at-two.two.ensures at-two2.two2.ensures at-max-u8.max-u8.ensures c.max-u82.ensures),
+        tab_turn (lane_at a.f a.s.now a.l a.e.now) at-loop.loop.t a.t.now at-loop.loop.i (omega arith) at-loop.loop.invariant.1.1
+            (lane_value a.f a.s.now a.l a.e.now at-loop.loop.i at-two.two.ensures at-two2.two2.ensures at-max-u8.max-u8.ensures c.max-u82.ensures),
       ),
     )
 
@@ -94,7 +94,7 @@ returns c =
     let at-loop = c.before in
     let start = at-loop.before.before.before.before in
     let a = start.args in
-    lanes_end (laneAt a.f a.s.now a.l a.e.now) at-loop.loop.t a.t.now at-loop.loop.i at-loop.loop.invariant.1.1 (omega arith) (omega arith)
+    lanes_end (lane_at a.f a.s.now a.l a.e.now) at-loop.loop.t a.t.now at-loop.loop.i at-loop.loop.invariant.1.1 (omega arith) (omega arith)
 
 pub lane-spec : {M : Type 1} → statement M
 lane-spec =

@@ -1,5 +1,5 @@
 use borrow.Author.Rules.{rules}
-use Rattle.tables.proofs.Turns.{cut-lower, cut_left}
+use Rattle.tables.proofs.Turns.{cut_lower, cut_left}
 use Rattle.tables.proofs.rests.meet.Statement.{statement}
 use Rattle.tables.proofs.rests.meet.Tie as tie
 use Rattle.tables.proofs.rests.meet.Reads as reads
@@ -13,7 +13,7 @@ left-requires : tie.Need-left-requires
 left-requires c κs = search rules
 
 returns : tie.Need-returns
-returns c = cut-lower c.before.before.args.v c.before.before.args.x c.before.if1.true c.min-u8.ensures
+returns c = cut_lower c.before.before.args.v c.before.before.args.x c.before.if1.true c.min-u8.ensures
 
 returns-2 : tie.Need-returns-2
 returns-2 c = cut_left c.before.before.args.v c.before.before.args.x c.before.if1.false c.left.ensures

@@ -1,7 +1,7 @@
 use mathlib.Core.Path.{refl}
 use native.Mathlib.Omega.{arith}
 use borrow.Author.Rules.{rules}
-use Rattle.tables.proofs.Passing.{apart-is}
+use Rattle.tables.proofs.Passing.{apart_is}
 use Rattle.tables.proofs.rows.apart.Statement.{statement}
 use Rattle.tables.proofs.rows.apart.Tie as tie
 
@@ -47,7 +47,7 @@ returns c =
     let at_copy = at-raise.before.before.before.before.before in
     let at-part-at = at_copy.before.before.before in
     let start = at-part-at.before.before.before.before.before in
-    apart-is start.args.shape.greatest start.args.shape.q start.args.shape.l start.args.shape.k start.args.before.now start.args.after.now _ _ at-part-at.part_at.ensures.0 refl
+    apart_is start.args.shape.greatest start.args.shape.q start.args.shape.l start.args.shape.k start.args.before.now start.args.after.now _ _ at-part-at.part_at.ensures.0 refl
     at_copy.copy.ensures (omega arith) at-raise.raise.ensures
 
 pub apart-spec : {M : Type 1} → statement M

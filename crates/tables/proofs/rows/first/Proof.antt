@@ -4,7 +4,7 @@ use native.Mathlib.Omega.{arith}
 use borrow.Author.Rules.{rules}
 use lib.ListN.{length}
 use Rattle.trellis.specs.Lists.{part, patch}
-use Rattle.tables.specs.inner.Tables.{lastTable}
+use Rattle.tables.specs.inner.Tables.{last_table}
 use Rattle.tables.proofs.Parts.{part_length, part_of, front_length}
 use Rattle.tables.proofs.Growing.{widths}
 use Rattle.tables.proofs.Passing.{before-start}
@@ -65,7 +65,7 @@ returns c =
     let at-part-at = at-end.before.before.before in
     let start = at-part-at.before.before.before.before.before in (
       before-start start.args.shape.greatest start.args.shape.q start.args.shape.l start.args.shape.k start.args.lines.now start.args.d (omega arith) start.requires.1.0.1.0 (omega arith) at-begin.begin.ensures,
-      at-end.end.ensures ∙ ap (λ z. patch start.args.out.now (0 * start.args.shape.l) start.args.shape.l (lastTable start.args.shape.l start.args.shape.k z))
+      at-end.end.ensures ∙ ap (λ z. patch start.args.out.now (0 * start.args.shape.l) start.args.shape.l (last_table start.args.shape.l start.args.shape.k z))
           (part_of start.args.after.now _ _ (start.args.d - 2) (length start.args.before.now) at-part-at.part_at.ensures.0 refl ∙ ap (λ z. part start.args.after.now ((start.args.d - 2) * z) z) start.requires.1.1.0),
     )
 

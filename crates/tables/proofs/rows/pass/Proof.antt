@@ -4,15 +4,15 @@ use Prim.Native.Nat.{suc, ◌-◌, ◌*◌, ◌<◌}
 use native.Mathlib.Omega.{arith}
 use borrow.Author.Rules.{rules}
 use lib.ListN.{length, take, drop}
-use Rattle.tables.specs.inner.Tables.{grownList, sentTo}
+use Rattle.tables.specs.inner.Tables.{grown_list, sent_to}
 use Rattle.tables.proofs.Parts.{past_first, front_length}
-use Rattle.tables.proofs.Growing.{half-start, half_length, half-turn, half-end}
-use Rattle.tables.proofs.Passing.{met-turn}
+use Rattle.tables.proofs.Growing.{half_start, half_length, half_turn, half_end}
+use Rattle.tables.proofs.Passing.{met_turn}
 use Rattle.tables.proofs.rows.pass.Statement.{statement}
 use Rattle.tables.proofs.rows.pass.Tie as tie
 
 abbrev invariant-loop : tie.invariant-loop
-invariant-loop shape after line before₀ c₀ out₀ l j₀ before c out j = (j < shape.k) × (((length before ≡ length before₀) × ((length c ≡ length c₀) × (length out ≡ length out₀))) × ((before ≡ take (suc j * l) before₀ ++ drop (suc j * l) (grownList shape.greatest shape.q l shape.k line before₀)) × (out ≡ sentTo shape.greatest shape.q l shape.k before₀ after (shape.k - 1 - j))))
+invariant-loop shape after line before₀ c₀ out₀ l j₀ before c out j = (j < shape.k) × (((length before ≡ length before₀) × ((length c ≡ length c₀) × (length out ≡ length out₀))) × ((before ≡ take (suc j * l) before₀ ++ drop (suc j * l) (grown_list shape.greatest shape.q l shape.k line before₀)) × (out ≡ sent_to shape.greatest shape.q l shape.k before₀ after (shape.k - 1 - j))))
 
 abbrev decreases-loop : tie.decreases-loop
 decreases-loop shape after line before₀ c₀ out₀ l j₀ before c out j = j
@@ -32,7 +32,7 @@ loop-holds c =
       omega arith,
       (
         (refl, (refl, refl)),
-        (half-start start.args.shape.greatest start.args.shape.q start.args.shape.l start.args.shape.k start.args.line.now start.args.before.now start.requires.1.0.0 (start.args.shape.k - 1) (omega arith), at-apart.apart.ensures ∙ ap (sentTo start.args.shape.greatest start.args.shape.q start.args.shape.l start.args.shape.k start.args.before.now start.args.after.now) (let z : 0 ≡ start.args.shape.k - 1 - (start.args.shape.k - 1) = omega arith in z)),
+        (half_start start.args.shape.greatest start.args.shape.q start.args.shape.l start.args.shape.k start.args.line.now start.args.before.now start.requires.1.0.0 (start.args.shape.k - 1) (omega arith), at-apart.apart.ensures ∙ ap (sent_to start.args.shape.greatest start.args.shape.q start.args.shape.l start.args.shape.k start.args.before.now start.args.after.now) (let z : 0 ≡ start.args.shape.k - 1 - (start.args.shape.k - 1) = omega arith in z)),
       ),
     )
 
@@ -52,8 +52,8 @@ loop-again c =
     let at-rise-both = c.before.before.before.before.before.before in
     let at-loop = at-rise-both.before.before.before.before.before in
     let start = at-loop.before.before.before.before.before.before.before.before.before.before.before.before in
-    let t = half-turn start.args.shape.greatest start.args.shape.q start.args.shape.l start.args.shape.k start.args.line.now start.args.before.now start.requires.1.0.0 (at-loop.loop.j - 1) at-loop.loop.j at-loop.loop.before (omega arith) at-loop.loop.invariant.0 at-loop.loop.invariant.1.1.0 at-rise-both.rise-both.ensures.0 in
-    let u = met-turn start.args.shape.greatest start.args.shape.q start.args.shape.l start.args.shape.k start.args.line.now start.args.before.now start.requires.1.0.0 start.args.after.now at-loop.loop.before at-loop.loop.out at-loop.loop.j (omega arith) at-loop.loop.invariant.0 at-loop.loop.invariant.1.1.0 at-loop.loop.invariant.1.1.1 at-rise-both.rise-both.ensures.1 in
+    let t = half_turn start.args.shape.greatest start.args.shape.q start.args.shape.l start.args.shape.k start.args.line.now start.args.before.now start.requires.1.0.0 (at-loop.loop.j - 1) at-loop.loop.j at-loop.loop.before (omega arith) at-loop.loop.invariant.0 at-loop.loop.invariant.1.1.0 at-rise-both.rise-both.ensures.0 in
+    let u = met_turn start.args.shape.greatest start.args.shape.q start.args.shape.l start.args.shape.k start.args.line.now start.args.before.now start.requires.1.0.0 start.args.after.now at-loop.loop.before at-loop.loop.out at-loop.loop.j (omega arith) at-loop.loop.invariant.0 at-loop.loop.invariant.1.1.0 at-loop.loop.invariant.1.1.1 at-rise-both.rise-both.ensures.1 in
     (omega arith, ((half_length start.args.shape.greatest start.args.shape.q start.args.shape.l start.args.shape.k start.args.line.now start.args.before.now start.requires.1.0.0 (at-loop.loop.j - 1) _ (omega arith) t, (omega arith, omega arith)), (t, u)))
 
 slice-relend-prefix-raise : tie.Need-slice-relend-prefix-raise invariant-loop decreases-loop
@@ -89,10 +89,10 @@ returns c =
     let at-loop = at-raise.before.before.before in
     let start = at-loop.before.before.before.before.before.before.before.before.before.before.before.before in
     let z : at-loop.loop.j ≡ 0 = omega arith in (
-      half-end start.args.shape.greatest start.args.shape.q start.args.shape.l start.args.shape.k start.args.line.now start.args.before.now start.requires.1.0.0 at-loop.loop.before (omega arith)
-          (at-loop.loop.invariant.1.1.0 ∙ ap (λ y. take (suc y * start.args.shape.l) start.args.before.now ++ drop (suc y * start.args.shape.l) (grownList start.args.shape.greatest start.args.shape.q start.args.shape.l start.args.shape.k start.args.line.now start.args.before.now)) z)
+      half_end start.args.shape.greatest start.args.shape.q start.args.shape.l start.args.shape.k start.args.line.now start.args.before.now start.requires.1.0.0 at-loop.loop.before (omega arith)
+          (at-loop.loop.invariant.1.1.0 ∙ ap (λ y. take (suc y * start.args.shape.l) start.args.before.now ++ drop (suc y * start.args.shape.l) (grown_list start.args.shape.greatest start.args.shape.q start.args.shape.l start.args.shape.k start.args.line.now start.args.before.now)) z)
           at-raise.raise.ensures,
-      at-loop.loop.invariant.1.1.1 ∙ ap (sentTo start.args.shape.greatest start.args.shape.q start.args.shape.l start.args.shape.k start.args.before.now start.args.after.now) (let y : start.args.shape.k - 1 - at-loop.loop.j ≡ start.args.shape.k - 1 = omega arith in y),
+      at-loop.loop.invariant.1.1.1 ∙ ap (sent_to start.args.shape.greatest start.args.shape.q start.args.shape.l start.args.shape.k start.args.before.now start.args.after.now) (let y : start.args.shape.k - 1 - at-loop.loop.j ≡ start.args.shape.k - 1 = omega arith in y),
     )
 
 pub pass_spec : {M : Type 1} → statement M

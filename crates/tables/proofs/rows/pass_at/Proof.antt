@@ -4,7 +4,7 @@ use native.Mathlib.Omega.{arith}
 use borrow.Author.Rules.{rules}
 use lib.ListN.{length}
 use Rattle.trellis.specs.Lists.{part}
-use Rattle.tables.specs.inner.Tables.{grownList, sentTo}
+use Rattle.tables.specs.inner.Tables.{grown_list, sent_to}
 use Rattle.tables.proofs.Parts.{part_length, part_of, patched}
 use Rattle.tables.proofs.Growing.{widths}
 use Rattle.tables.proofs.rows.pass_at.Statement.{statement}
@@ -92,9 +92,9 @@ returns c =
     let at-part-at2 = at-pass.before.before.before.before.before.before in
     let at-part-at = at-part-at2.before in
     let start = at-part-at.before.before.before.before.before.before in (
-      at-pass.pass.ensures.0 ∙ ap (λ z. grownList start.args.shape.greatest start.args.shape.q start.args.shape.l start.args.shape.k z start.args.before.now) (part_of start.args.lines.now _ _ start.args.n start.args.shape.l at-part-at.part_at.ensures.0 refl),
+      at-pass.pass.ensures.0 ∙ ap (λ z. grown_list start.args.shape.greatest start.args.shape.q start.args.shape.l start.args.shape.k z start.args.before.now) (part_of start.args.lines.now _ _ start.args.n start.args.shape.l at-part-at.part_at.ensures.0 refl),
       patched start.args.out.now start.args.n start.args.shape.l _ _ at-part-at.part_at.ensures.0 refl
-          (at-pass.pass.ensures.1 ∙ ap (λ z. sentTo start.args.shape.greatest start.args.shape.q start.args.shape.l start.args.shape.k start.args.before.now z (start.args.shape.k - 1))
+          (at-pass.pass.ensures.1 ∙ ap (λ z. sent_to start.args.shape.greatest start.args.shape.q start.args.shape.l start.args.shape.k start.args.before.now z (start.args.shape.k - 1))
           (part_of start.args.after.now _ _ (start.args.d - 2 - start.args.n) (length start.args.before.now) at-part-at2.part-at2.ensures.0 refl ∙ ap (λ z. part start.args.after.now ((start.args.d - 2 - start.args.n) * z) z) start.requires.1.1.0.0)),
     )
 

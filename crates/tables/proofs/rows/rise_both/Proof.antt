@@ -2,8 +2,8 @@ use mathlib.Core.Path.{refl}
 use native.Mathlib.Omega.{arith}
 use borrow.Author.Rules.{rules}
 use Rattle.tables.proofs.Parts.{past_first, below_length, part_length}
-use Rattle.tables.proofs.Growing.{rise-in-is}
-use Rattle.tables.proofs.Passing.{met-is}
+use Rattle.tables.proofs.Growing.{rise_in_is}
+use Rattle.tables.proofs.Passing.{met_is}
 use Rattle.tables.proofs.rows.rise_both.Statement.{statement}
 use Rattle.tables.proofs.rows.rise_both.Tie as tie
 
@@ -94,8 +94,8 @@ returns c =
     let at-part-at2 = at_copies.before.before.before.before in
     let at-part-at = at-part-at2.before.before in
     let start = at-part-at.before.before.before.before.before.before in (
-      rise-in-is start.args.shape.greatest start.args.shape.q start.args.shape.l start.args.shape.k start.args.line.now start.args.before.now _ start.args.j _ _ (omega arith) at-part-at.part_at.ensures.0 refl start.requires.0.table start.requires.0.within at_copies.copies.ensures at-join2.join2.ensures,
-      met-is start.args.shape.greatest start.args.shape.q start.args.shape.l start.args.shape.k start.args.before.now start.args.after.now start.args.out.now _ start.args.j _ _ _ (omega arith) at-part-at.part_at.ensures.0 at-part-at2.part-at2.ensures.0 refl start.requires.0.table start.requires.0.within at_copies.copies.ensures
+      rise_in_is start.args.shape.greatest start.args.shape.q start.args.shape.l start.args.shape.k start.args.line.now start.args.before.now _ start.args.j _ _ (omega arith) at-part-at.part_at.ensures.0 refl start.requires.0.table start.requires.0.within at_copies.copies.ensures at-join2.join2.ensures,
+      met_is start.args.shape.greatest start.args.shape.q start.args.shape.l start.args.shape.k start.args.before.now start.args.after.now start.args.out.now _ start.args.j _ _ _ (omega arith) at-part-at.part_at.ensures.0 at-part-at2.part-at2.ensures.0 refl start.requires.0.table start.requires.0.within at_copies.copies.ensures
           at_join.join.ensures,
     )
 

@@ -2,8 +2,8 @@
 use mathlib.Core.Path.{sym, ap, ◌∙◌}
 use native.Mathlib.Omega.{arith}
 use lib.ListN.{length}
-use Rattle.text.specs.inner.Held.{heldIn, keptOf, put_at}
-use Rattle.text.proofs.Laws.{close-none, close-some, turn-few, put-nothing}
+use Rattle.text.specs.inner.Held.{held_in, kept_of, put_at}
+use Rattle.text.proofs.Laws.{close_none, close_some, turn_few, put-nothing}
 use borrow.Author.Rules.{rules}
 use Rattle.text.proofs.cut.close_in.Statement.{statement}
 use Rattle.text.proofs.cut.close_in.Tie as tie
@@ -14,14 +14,14 @@ silent-requires c κs = search rules
 returns : tie.Need-returns
 returns c =
     let s = c.before.before.before.before.before in
-    let e = close-none s.args.st.len s.args.st.code s.args.st.ended s.args.line.now s.args.code.now s.requires.0 (sym c.before.silent.ensures ∙ c.if1.true) in
+    let e = close_none s.args.st.len s.args.st.code s.args.st.ended s.args.line.now s.args.code.now s.requires.0 (sym c.before.silent.ensures ∙ c.if1.true) in
     (sym (ap length e.0), (e.1, put-nothing s.args.out.now 0 _ e.0))
 
 finish-line-requires : tie.Need-finish-line-requires
 finish-line-requires c κs =
     let s = c.before.before.before.before.before.before.before in
-    let e = close-some s.args.st.len s.args.st.code s.args.st.ended s.args.line.now s.args.code.now s.requires.0 (sym c.before.before.before.silent.ensures ∙ c.before.before.if1.false) in
-    (s.requires.0, (s.requires.1.0, (e.0, omega (arith, turn-few (keptOf (heldIn s.args.st s.args.line.now s.args.code.now)), s.requires.1.1))))
+    let e = close_some s.args.st.len s.args.st.code s.args.st.ended s.args.line.now s.args.code.now s.requires.0 (sym c.before.before.before.silent.ensures ∙ c.before.before.if1.false) in
+    (s.requires.0, (s.requires.1.0, (e.0, omega (arith, turn_few (kept_of (held_in s.args.st s.args.line.now s.args.code.now)), s.requires.1.1))))
 
 same_length : tie.Need-same-length
 same_length c = search rules
@@ -33,7 +33,7 @@ returns-2 : tie.Need-returns-2
 returns-2 c =
     let r = c.before.before.before.before in
     let s = c.before.before.before.before.before.before.before.before.before.before.before.before in
-    let e = close-some s.args.st.len s.args.st.code s.args.st.ended s.args.line.now s.args.code.now s.requires.0 (sym c.before.before.before.before.before.before.before.before.silent.ensures ∙ c.before.before.before.before.before.before.before.if1.false) in
+    let e = close_some s.args.st.len s.args.st.code s.args.st.ended s.args.line.now s.args.code.now s.requires.0 (sym c.before.before.before.before.before.before.before.before.silent.ensures ∙ c.before.before.before.before.before.before.before.if1.false) in
     let f = ap length e.1 in
     (omega (arith, f, r.finish-line.ensures.1.0), (ap (λ h. h.bytes) r.finish-line.ensures.0 ∙ e.2, r.finish-line.ensures.1.1 ∙ ap (put_at s.args.out.now 0) (sym e.1)))
 

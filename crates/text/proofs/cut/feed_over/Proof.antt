@@ -6,15 +6,15 @@ use native.Mathlib.Omega.{arith}
 use borrow.Author.Rules.{rules}
 use lib.ListN.{length, take, drop}
 use lib.Seq.{take-length}
-use Rattle.machine.specs.inner.Blocks.{fedOut}
-use Rattle.text.specs.inner.Held.{heldIn, keptOf, fedHeld, put_at}
-use Rattle.text.proofs.Laws.{loop-start, part_same}
-use Rattle.text.proofs.Parts.{line_plain, line-piece, piece-room, piece-more, over_done, rest-done}
+use Rattle.machine.specs.inner.Blocks.{fed_out}
+use Rattle.text.specs.inner.Held.{held_in, kept_of, fed_held, put_at}
+use Rattle.text.proofs.Laws.{loop_start, part_same}
+use Rattle.text.proofs.Parts.{line_plain, line_piece, piece_room, piece_more, over_done, rest-done}
 use Rattle.text.proofs.cut.feed_over.Statement.{statement}
 use Rattle.text.proofs.cut.feed_over.Tie as tie
 
 abbrev invariant-loop : tie.invariant-loop
-invariant-loop bytes line₀ code₀ out₀ s₀ at₀ line code out s at = (at ≤ length bytes) × ((length line ≡ 32769) × ((length code ≡ 16384) × ((length out ≡ length out₀) × ((heldIn s line code ≡ fedHeld (heldIn s₀ line₀ code₀) (take at bytes)) × ((s.full ≡ length (fedOut (keptOf (heldIn s₀ line₀ code₀)) (take at bytes))) × (out ≡ put_at out₀ 0 (fedOut (keptOf (heldIn s₀ line₀ code₀)) (take at bytes))))))))
+invariant-loop bytes line₀ code₀ out₀ s₀ at₀ line code out s at = (at ≤ length bytes) × ((length line ≡ 32769) × ((length code ≡ 16384) × ((length out ≡ length out₀) × ((held_in s line code ≡ fed_held (held_in s₀ line₀ code₀) (take at bytes)) × ((s.full ≡ length (fed_out (kept_of (held_in s₀ line₀ code₀)) (take at bytes))) × (out ≡ put_at out₀ 0 (fed_out (kept_of (held_in s₀ line₀ code₀)) (take at bytes))))))))
 
 abbrev decreases-loop : tie.decreases-loop
 decreases-loop bytes line₀ code₀ out₀ s₀ at₀ line code out s at = length bytes - at
@@ -22,14 +22,14 @@ decreases-loop bytes line₀ code₀ out₀ s₀ at₀ line code out s at = leng
 loop-holds : tie.Need-loop-init invariant-loop decreases-loop
 loop-holds c =
     let s = c.before.before.before.before in
-    let e = loop-start (heldIn s.args.st s.args.line.now s.args.code.now) s.args.out.now s.args.bytes.now in
+    let e = loop_start (held_in s.args.st s.args.line.now s.args.code.now) s.args.out.now s.args.bytes.now in
     (omega arith, (s.requires.0, (s.requires.1.0, (refl, (e.0, (s.requires.1.1.0 ∙ e.1, e.2))))))
 
 returns : tie.Need-returns invariant-loop decreases-loop
 returns c =
     let l = c.before.before in
     let s = l.before.before.before.before.before in
-    over_done (heldIn s.args.st s.args.line.now s.args.code.now) s.args.out.now s.args.bytes.now l.loop.at s.requires.0 (heldIn l.loop.s l.loop.line l.loop.code) l.loop.invariant.1.1.1.1.0 c.if1.true l.loop.s.full l.loop.out l.loop.invariant.1.1.1.1.1.0 l.loop.invariant.1.1.1.1.1.1
+    over_done (held_in s.args.st s.args.line.now s.args.code.now) s.args.out.now s.args.bytes.now l.loop.at s.requires.0 (held_in l.loop.s l.loop.line l.loop.code) l.loop.invariant.1.1.1.1.0 c.if1.true l.loop.s.full l.loop.out l.loop.invariant.1.1.1.1.1.0 l.loop.invariant.1.1.1.1.1.1
 
 keep-requires : tie.Need-keep-requires invariant-loop decreases-loop
 keep-requires c κs = search rules
@@ -41,9 +41,9 @@ returns-2 c =
     let n = j.before in
     let l = n.before.before.before in
     let s = l.before.before.before.before.before in
-    rest-done (heldIn s.args.st s.args.line.now s.args.code.now) s.args.out.now s.args.bytes.now l.loop.at s.requires.0
+    rest-done (held_in s.args.st s.args.line.now s.args.code.now) s.args.out.now s.args.bytes.now l.loop.at s.requires.0
     l.loop.s.len l.loop.s.code l.loop.s.ended l.loop.line l.loop.code l.loop.invariant.1.1.1.1.0 n.before.if1.false l.loop.invariant.1.0
-    n.newline.result n.newline.ensures.0 j.if2.true (heldIn k.keep.result k.keep.new.1.1.0 l.loop.code) (k.keep.ensures.0 l.loop.code) l.loop.s.full k.keep.result.full l.loop.out
+    n.newline.result n.newline.ensures.0 j.if2.true (held_in k.keep.result k.keep.new.1.1.0 l.loop.code) (k.keep.ensures.0 l.loop.code) l.loop.s.full k.keep.result.full l.loop.out
     l.loop.invariant.1.1.1.1.1.0 l.loop.invariant.1.1.1.1.1.1 k.keep.ensures.1.0
 
 whole-requires : tie.Need-whole-requires invariant-loop decreases-loop
@@ -53,8 +53,8 @@ whole-requires c κs =
     let l = n.before.before.before in
     let s = l.before.before.before.before.before in
     let b = s.args.bytes.now in
-    let r = piece-room (heldIn s.args.st s.args.line.now s.args.code.now) s.args.out.now b l.loop.at (n.newline.result + 1) s.requires.0 (heldIn l.loop.s l.loop.line l.loop.code) l.loop.invariant.1.1.1.1.0
-    (take (n.newline.result - l.loop.at) (drop l.loop.at b) ++ (0x0A ∷ [])) (line-piece b l.loop.at n.newline.result (omega arith) n.newline.ensures.0 (omega arith)) l.loop.s.full l.loop.invariant.1.1.1.1.1.0 in
+    let r = piece_room (held_in s.args.st s.args.line.now s.args.code.now) s.args.out.now b l.loop.at (n.newline.result + 1) s.requires.0 (held_in l.loop.s l.loop.line l.loop.code) l.loop.invariant.1.1.1.1.0
+    (take (n.newline.result - l.loop.at) (drop l.loop.at b) ++ (0x0A ∷ [])) (line_piece b l.loop.at n.newline.result (omega arith) n.newline.ensures.0 (omega arith)) l.loop.s.full l.loop.invariant.1.1.1.1.1.0 in
     ((l.loop.invariant.1.0, (l.loop.invariant.1.1.0, (n.before.if1.false, line_plain b l.loop.at n.newline.result n.newline.ensures.0))), omega (arith, r, l.loop.invariant.1.1.1.0, s.requires.1.1.1))
 
 add_at : tie.Need-overflow-add-at invariant-loop decreases-loop
@@ -71,8 +71,8 @@ loop-again c =
     let l = n.before.before.before in
     let s = l.before.before.before.before.before in
     let b = s.args.bytes.now in
-    let m = piece-more (heldIn s.args.st s.args.line.now s.args.code.now) s.args.out.now b l.loop.at (n.newline.result + 1) s.requires.0 (heldIn l.loop.s l.loop.line l.loop.code) l.loop.invariant.1.1.1.1.0
-    (take (n.newline.result - l.loop.at) (drop l.loop.at b) ++ (0x0A ∷ [])) (line-piece b l.loop.at n.newline.result (omega arith) n.newline.ensures.0 (omega arith)) l.loop.s.full _ l.loop.out _ _
+    let m = piece_more (held_in s.args.st s.args.line.now s.args.code.now) s.args.out.now b l.loop.at (n.newline.result + 1) s.requires.0 (held_in l.loop.s l.loop.line l.loop.code) l.loop.invariant.1.1.1.1.0
+    (take (n.newline.result - l.loop.at) (drop l.loop.at b) ++ (0x0A ∷ [])) (line_piece b l.loop.at n.newline.result (omega arith) n.newline.ensures.0 (omega arith)) l.loop.s.full _ l.loop.out _ _
     l.loop.invariant.1.1.1.1.1.0 l.loop.invariant.1.1.1.1.1.1 w.whole.ensures.0 w.whole.ensures.1.0 w.whole.ensures.1.1 in
     (omega arith, (search rules, (search rules, (search rules, (m.0, (m.1, m.2))))))
 
@@ -81,7 +81,7 @@ returns-3 c =
     let l = c.before in
     let s = l.before.before.before.before.before in
     let e : l.loop.at ≡ length s.args.bytes.now = omega arith in
-    part_same (heldIn s.args.st s.args.line.now s.args.code.now) s.args.out.now (take l.loop.at s.args.bytes.now) s.args.bytes.now _ _ _ (ap (λ m. take m s.args.bytes.now) e ∙ take-length s.args.bytes.now) l.loop.invariant.1.1.1.1.0 l.loop.invariant.1.1.1.1.1.0 l.loop.invariant.1.1.1.1.1.1
+    part_same (held_in s.args.st s.args.line.now s.args.code.now) s.args.out.now (take l.loop.at s.args.bytes.now) s.args.bytes.now _ _ _ (ap (λ m. take m s.args.bytes.now) e ∙ take-length s.args.bytes.now) l.loop.invariant.1.1.1.1.0 l.loop.invariant.1.1.1.1.1.0 l.loop.invariant.1.1.1.1.1.1
 
 newline-requires : tie.Need-newline-requires invariant-loop decreases-loop
 newline-requires c κs = search rules

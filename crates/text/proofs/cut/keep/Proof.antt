@@ -2,7 +2,7 @@
 use mathlib.Core.Path.{refl}
 use native.Mathlib.Omega.{arith}
 use lib.ListN.{length-take}
-use Rattle.text.proofs.Laws.{put-copied}
+use Rattle.text.proofs.Laws.{put_copied}
 use Rattle.text.proofs.Parts.{keep-none, keep_some}
 use borrow.Author.Rules.{rules}
 use Rattle.text.proofs.cut.keep.Statement.{statement}
@@ -44,7 +44,7 @@ returns-2 : tie.Need-returns-2
 returns-2 c =
     let s = c.before.before.before.before.before.before.before.before.before in
     let m = c.before.before.before.before.before.min-usize in
-    (λ x. keep_some s.args.st.len s.args.st.code m.result s.args.st.ended s.args.line.now x s.args.part.now _ m.ensures (put-copied s.args.line.now s.args.part.now _ s.args.st.len m.result (omega (arith, m.ensures)) (omega (arith, m.ensures)) c.before.before.copy_u8.ensures), (refl, refl))
+    (λ x. keep_some s.args.st.len s.args.st.code m.result s.args.st.ended s.args.line.now x s.args.part.now _ m.ensures (put_copied s.args.line.now s.args.part.now _ s.args.st.len m.result (omega (arith, m.ensures)) (omega (arith, m.ensures)) c.before.before.copy_u8.ensures), (refl, refl))
 
 pub keep_spec : {M : Type 1} → statement M
 keep_spec =

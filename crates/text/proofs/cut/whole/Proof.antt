@@ -1,8 +1,8 @@
 -- The part is kept, then the line ends.
 use mathlib.Core.Path.{◌∙◌}
 use lib.ListN.{length}
-use Rattle.text.specs.inner.Held.{heldIn}
-use Rattle.text.proofs.Parts.{whole_room, whole-done}
+use Rattle.text.specs.inner.Held.{held_in}
+use Rattle.text.proofs.Parts.{whole_room, whole_done}
 use borrow.Author.Rules.{rules}
 use Rattle.text.proofs.cut.whole.Statement.{statement}
 use Rattle.text.proofs.cut.whole.Tie as tie
@@ -20,7 +20,7 @@ finish-line-requires c κs =
         (
           k.keep.ensures.1.1 ∙ s.requires.0.1.1.0,
           whole_room s.args.part.now s.args.st.len s.args.st.code s.args.st.ended s.args.line.now s.args.code.now s.requires.0.1.1.0 s.requires.0.0 s.requires.0.1.1.1
-              (heldIn k.keep.result k.keep.new.1.1.0 s.args.code.now) s.args.st.full k.keep.result.full (k.keep.ensures.0 s.args.code.now) k.keep.ensures.1.0 (length s.args.out.now) s.requires.1,
+              (held_in k.keep.result k.keep.new.1.1.0 s.args.code.now) s.args.st.full k.keep.result.full (k.keep.ensures.0 s.args.code.now) k.keep.ensures.1.0 (length s.args.out.now) s.requires.1,
         ),
       ),
     )
@@ -39,8 +39,8 @@ returns c =
     let w = c.before.before.before.before in
     let k = w.before.before.before.before.before.before in
     let s = k.before.before.before.before.before.before in
-    whole-done s.args.part.now s.args.st.len s.args.st.code s.args.st.ended s.args.line.now s.args.code.now s.requires.0.1.1.0 s.requires.0.0 s.requires.0.1.1.1
-    (heldIn k.keep.result k.keep.new.1.1.0 s.args.code.now) s.args.st.full k.keep.result.full (k.keep.ensures.0 s.args.code.now) k.keep.ensures.1.0 _ _ s.args.out.now _ w.finish-line.ensures.0 w.finish-line.ensures.1.0 w.finish-line.ensures.1.1
+    whole_done s.args.part.now s.args.st.len s.args.st.code s.args.st.ended s.args.line.now s.args.code.now s.requires.0.1.1.0 s.requires.0.0 s.requires.0.1.1.1
+    (held_in k.keep.result k.keep.new.1.1.0 s.args.code.now) s.args.st.full k.keep.result.full (k.keep.ensures.0 s.args.code.now) k.keep.ensures.1.0 _ _ s.args.out.now _ w.finish-line.ensures.0 w.finish-line.ensures.1.0 w.finish-line.ensures.1.1
 
 pub whole-spec : {M : Type 1} → statement M
 whole-spec =

@@ -6,7 +6,7 @@ use native.Mathlib.Omega.{arith}
 use borrow.Author.Rules.{rules}
 use lib.ListN.{length, drop, get_or}
 use Rattle.trellis.specs.Lists.{tab}
-use Rattle.machine.specs.Line.{byte_at, lineBytes, isDigit}
+use Rattle.machine.specs.Line.{byte_at, line_bytes, is_digit}
 use Rattle.trellis.proofs.Loops.{tab-more}
 use Rattle.text.proofs.Digits.{all-at}
 use Rattle.text.proofs.hex.fill.Statement.{statement}
@@ -31,7 +31,7 @@ nibble-requires : tie.Need-nibble-requires invariant-loop decreases-loop
 nibble-requires c κs =
     let l = c.before.before in
     let s = l.before.before.before in
-    all-at (λ i. isDigit (get_or s.args.text.now i 0)) (2 * l.loop.i) (length s.args.text.now) (omega arith) s.requires.0
+    all-at (λ i. is_digit (get_or s.args.text.now i 0)) (2 * l.loop.i) (length s.args.text.now) (omega arith) s.requires.0
 
 mul-nibble-2 : tie.Need-overflow-mul-nibble-2 invariant-loop decreases-loop
 mul-nibble-2 c = omega arith
@@ -46,7 +46,7 @@ nibble-requires-2 : tie.Need-nibble-requires-2 invariant-loop decreases-loop
 nibble-requires-2 c κs =
     let l = c.before.before.before.before in
     let s = l.before.before.before in
-    all-at (λ i. isDigit (get_or s.args.text.now i 0)) (2 * l.loop.i + 1) (length s.args.text.now) (omega arith) s.requires.0
+    all-at (λ i. is_digit (get_or s.args.text.now i 0)) (2 * l.loop.i + 1) (length s.args.text.now) (omega arith) s.requires.0
 
 mul-out : tie.Need-overflow-mul-out invariant-loop decreases-loop
 mul-out c = omega arith
@@ -74,7 +74,7 @@ same_length : tie.Need-same-length invariant-loop decreases-loop
 same_length c = omega arith
 
 returns : tie.Need-returns invariant-loop decreases-loop
-unfolding lineBytes
+unfolding line_bytes
 returns c =
     let l = c.before in
     let a = l.before.before.before.args in

@@ -5,28 +5,28 @@ use borrow.Author.Rules.{rules}
 use borrow.Author.Tests.{eq-eqb, ne_eqb, lt-ltb, le-ltb}
 use lib.Dec.{ltb}
 use lib.ListN.{length}
-use Rattle.machine.specs.Line.{lineReply, lineLeaves, lineOk}
-use Rattle.text.proofs.Digits.{fault-none, fault-some}
+use Rattle.machine.specs.Line.{line_reply, line_leaves, line_ok}
+use Rattle.text.proofs.Digits.{fault_none, fault_some}
 use Rattle.text.proofs.hex.line.Statement.{statement}
 use Rattle.text.proofs.hex.line.Tie as tie
 
 -- past 15 and 14
-accepted : (c : tie.Else3) → (ltb 32768 (length c.before.before.before.before.before.before.args.text.now) ≡ false) × (lineOk c.before.before.before.before.before.before.args.text.now ≡ true)
-unfolding lineOk
+accepted : (c : tie.Else3) → (ltb 32768 (length c.before.before.before.before.before.before.args.text.now) ≡ false) × (line_ok c.before.before.before.before.before.before.args.text.now ≡ true)
+unfolding line_ok
 accepted c =
     let b = c.before.before in
     let o = eq-eqb _ 0 b.if2.false in
-    let d = fault-none c.before.before.before.before.before.before.args.text.now (sym c.before.fault.ensures ∙ c.if3.false) in
+    let d = fault_none c.before.before.before.before.before.before.args.text.now (sym c.before.fault.ensures ∙ c.if3.false) in
     (le-ltb 32768 _ b.before.if1.false, simp (o, d))
 
 returns : tie.Need-returns
-unfolding lineReply lineLeaves
+unfolding line_reply line_leaves
 returns c =
     let e = lt-ltb 32768 _ c.if1.true in
     (simp e, simp e)
 
 returns-2 : tie.Need-returns-2
-unfolding lineReply lineLeaves lineOk
+unfolding line_reply line_leaves line_ok
 returns-2 c =
     let e = le-ltb 32768 _ c.before.if1.false in
     let o = ne_eqb _ 0 c.if2.true in
@@ -36,16 +36,16 @@ fault-requires : tie.Need-fault-requires
 fault-requires c κs = search rules
 
 returns-3 : tie.Need-returns-3
-unfolding lineReply lineLeaves lineOk
+unfolding line_reply line_leaves line_ok
 returns-3 c =
     let b = c.before.before in
     let e = le-ltb 32768 _ b.before.if1.false in
     let o = eq-eqb _ 0 b.if2.false in
-    let d = fault-some b.before.before.before.before.args.text.now _ c.before.fault.ensures c.if3.true in
+    let d = fault_some b.before.before.before.before.args.text.now _ c.before.fault.ensures c.if3.true in
     (simp (e, o, d.0, d.1), simp (e, o, d.0))
 
 returns-4 : tie.Need-returns-4
-unfolding lineReply lineLeaves
+unfolding line_reply line_leaves
 returns-4 c =
     let a = accepted c.before in
     let r = lt-ltb _ _ c.if4.true in
@@ -54,13 +54,13 @@ returns-4 c =
 fill-requires : tie.Need-fill-requires
 fill-requires c κs =
     let b = c.before.before in
-    (fault-none b.before.before.before.before.before.before.args.text.now (sym b.before.fault.ensures ∙ b.if3.false), search rules)
+    (fault_none b.before.before.before.before.before.before.args.text.now (sym b.before.fault.ensures ∙ b.if3.false), search rules)
 
 same_length : tie.Need-same-length
 same_length c = search rules
 
 returns-5 : tie.Need-returns-5
-unfolding lineReply lineLeaves
+unfolding line_reply line_leaves
 returns-5 c =
     let g = c.before.before in
     let b = g.before.before in

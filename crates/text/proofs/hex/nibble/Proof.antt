@@ -3,7 +3,7 @@ use mathlib.Core.Path.{◌≡◌, ◌∙◌, sym}
 use mathlib.Core.Bool.{true, false, true≢false}
 use native.Mathlib.Omega.{arith}
 use borrow.Author.Rules.{rules}
-use Rattle.text.proofs.Digits.{told-digit, told-other, digit-small}
+use Rattle.text.proofs.Digits.{told_digit, told_other, digit-small}
 use Rattle.text.proofs.hex.nibble.Statement.{statement}
 use Rattle.text.proofs.hex.nibble.Tie as tie
 
@@ -19,14 +19,14 @@ enum_told c = search rules
 returns : tie.Need-returns
 returns c =
     let s = c.before.before.before.before in
-    let d = told-digit s.args.b c.before.v.given.0.0 (sym c.before.before.before.value.ensures ∙ c.before.v.given.1) in
+    let d = told_digit s.args.b c.before.v.given.0.0 (sym c.before.before.before.value.ensures ∙ c.before.v.given.1) in
     let l = digit-small s.args.b s.requires in
     (d.1, omega (arith, d.1, l))
 
 returns-2 : tie.Need-returns-2
 returns-2 c =
     let s = c.before.before.before in
-    let d = told-other s.args.b _ (sym c.before.before.value.ensures ∙ c.enum_told.given.1) in
+    let d = told_other s.args.b _ (sym c.before.before.value.ensures ∙ c.enum_told.given.1) in
     let z : true ≡ false = sym s.requires ∙ d in
     absurd (true≢false z)
 

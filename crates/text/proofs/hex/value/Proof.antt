@@ -1,6 +1,6 @@
 -- Each way through the `match` is one of the byte's five ranges, and the answer there is a law of Digits.
 use native.Mathlib.Omega.{arith}
-use Rattle.text.proofs.Digits.{at-digit, at-letter, at-below, at-between, at_above}
+use Rattle.text.proofs.Digits.{at-digit, at_letter, at-below, at-between, at_above}
 use Rattle.text.proofs.hex.value.Statement.{statement}
 use Rattle.text.proofs.hex.value.Tie as tie
 
@@ -13,7 +13,7 @@ returns c = at-digit c.before.before.args.b (omega arith) (omega arith)
 returns-2 : tie.Need-returns-2
 returns-2 c =
     let start = c.before.before.before.before in
-    at-letter start.args.b (omega arith) (omega arith)
+    at_letter start.args.b (omega arith) (omega arith)
 
 returns-3 : tie.Need-returns-3
 returns-3 c = at-below c.before.args.b (omega arith)

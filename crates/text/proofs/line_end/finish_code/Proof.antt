@@ -4,16 +4,16 @@ use Prim.Native.Nat.{◌≤◌}
 use native.Mathlib.Omega.{arith}
 use borrow.Author.Rules.{rules}
 use lib.ListN.{length, length-take}
-use Rattle.text.specs.inner.Held.{codeBytes}
-use Rattle.text.proofs.Laws.{row-long, accepted-turn, refused-turn, refused-front}
+use Rattle.text.specs.inner.Held.{code_bytes}
+use Rattle.text.proofs.Laws.{row-long, accepted_turn, refused_turn, refused-front}
 use Rattle.text.proofs.line_end.finish_code.Statement.{statement}
 use Rattle.text.proofs.line_end.finish_code.Tie as tie
 
 -- what is written of the code line lies within its buffer
-long : (c : tie.After-code-bytes) → c.code-bytes.result ≤ length c.code-bytes.new.1.0
+long : (c : tie.After-code-bytes) → c.code_is_bytes.result ≤ length c.code_is_bytes.new.1.0
 long c =
     let s = c.before.before.before.before.before in
-    row-long (codeBytes s.args.text.now) s.args.code.now _ _ c.code-bytes.ensures.0.0 c.code-bytes.ensures.1
+    row-long (code_bytes s.args.text.now) s.args.code.now _ _ c.code_is_bytes.ensures.0.0 c.code_is_bytes.ensures.1
 
 code-bytes-requires : tie.Need-code-bytes-requires
 code-bytes-requires c κs = search rules
@@ -34,8 +34,8 @@ returns : tie.Need-returns
 returns c =
     let b = c.before.before.before.before.before in
     let s = b.before.before.before.before.before in
-    let e = accepted-turn s.args.text.now s.args.code.now _ _ b.code-bytes.ensures.0.0 b.code-bytes.ensures.1 s.args.out.now s.args.full (sym c.before.accepted.ensures ∙ c.if1.true) in
-    ((refl, (e.0, e.1)), (e.2, (b.code-bytes.ensures.1, e.3)))
+    let e = accepted_turn s.args.text.now s.args.code.now _ _ b.code_is_bytes.ensures.0.0 b.code_is_bytes.ensures.1 s.args.out.now s.args.full (sym c.before.accepted.ensures ∙ c.if1.true) in
+    ((refl, (e.0, e.1)), (e.2, (b.code_is_bytes.ensures.1, e.3)))
 
 slice-reshare-prefix-print : tie.Need-slice-reshare-prefix-print
 slice-reshare-prefix-print c = search rules
@@ -47,7 +47,7 @@ print-requires : tie.Need-print-requires
 print-requires c κs =
     let b = c.before.before.before.before.before.before.before in
     let s = b.before.before.before.before.before in
-    let e = refused-front s.args.text.now s.args.code.now _ _ b.code-bytes.ensures.0.0 b.code-bytes.ensures.1 (sym c.before.before.before.accepted.ensures ∙ c.before.before.if1.false) in
+    let e = refused-front s.args.text.now s.args.code.now _ _ b.code_is_bytes.ensures.0.0 b.code_is_bytes.ensures.1 (sym c.before.before.before.accepted.ensures ∙ c.before.before.if1.false) in
     rw e at s.requires.1
 
 same-length-2 : tie.Need-same-length-2
@@ -61,8 +61,8 @@ returns-2 c =
     let p = c.before.before in
     let b = c.before.before.before.before.before.before.before.before.before.before in
     let s = b.before.before.before.before.before in
-    let e = refused-turn s.args.text.now s.args.code.now _ _ b.code-bytes.ensures.0.0 b.code-bytes.ensures.1 s.args.out.now _ s.args.full _ (sym c.before.before.before.before.before.before.accepted.ensures ∙ c.before.before.before.before.before.if1.false) p.print.ensures.0 p.print.ensures.1 in
-    ((refl, (e.0, e.1)), (e.2, (b.code-bytes.ensures.1, e.3)))
+    let e = refused_turn s.args.text.now s.args.code.now _ _ b.code_is_bytes.ensures.0.0 b.code_is_bytes.ensures.1 s.args.out.now _ s.args.full _ (sym c.before.before.before.before.before.before.accepted.ensures ∙ c.before.before.before.before.before.if1.false) p.print.ensures.0 p.print.ensures.1 in
+    ((refl, (e.0, e.1)), (e.2, (b.code_is_bytes.ensures.1, e.3)))
 
 pub finish-code-spec : {M : Type 1} → statement M
 finish-code-spec =

@@ -3,7 +3,7 @@ use mathlib.Core.Path.{refl}
 use native.Mathlib.Omega.{arith}
 use borrow.Author.Rules.{rules}
 use lib.ListN.{length-take}
-use Rattle.text.proofs.Laws.{put-mid, put-copied}
+use Rattle.text.proofs.Laws.{put_mid, put_copied}
 use Rattle.text.proofs.line_end.put.Statement.{statement}
 use Rattle.text.proofs.line_end.put.Tie as tie
 
@@ -32,7 +32,7 @@ returns : tie.Need-returns
 returns c =
     let w = c.before.before in
     let s = w.before.before.before.before.before in
-    (refl, put-mid s.args.out.now s.args.row.now _ s.args.full s.args.n s.requires.0 (put-copied s.args.out.now s.args.row.now _ s.args.full s.args.n s.requires.0 s.requires.1 w.copy_u8.ensures))
+    (refl, put_mid s.args.out.now s.args.row.now _ s.args.full s.args.n s.requires.0 (put_copied s.args.out.now s.args.row.now _ s.args.full s.args.n s.requires.0 s.requires.1 w.copy_u8.ensures))
 
 pub put_spec : {M : Type 1} → statement M
 put_spec =

@@ -2,10 +2,10 @@
 use mathlib.Core.Path.{ap, ◌∙◌}
 use native.Mathlib.Omega.{arith}
 use borrow.Author.Rules.{rules}
-use Rattle.trellis.specs.Reply.{refusal, foundIn, notFoundIn}
-use Rattle.layered.specs.Answers.{answerReply}
+use Rattle.trellis.specs.Reply.{refusal, found_in, not_found_in}
+use Rattle.layered.specs.Answers.{answer_reply}
 use Rattle.layered.specs.declared.answers.Answer.TheVariants.{Decoded}
-use Rattle.text.proofs.Printing.{value_of, line_of, length-of}
+use Rattle.text.proofs.Printing.{value_of, line_of, length_of}
 use Rattle.text.proofs.print.answer.Statement.{statement}
 use Rattle.text.proofs.print.answer.Tie as tie
 
@@ -29,7 +29,7 @@ cast-put-line c =
     let o = c.before in
     let a = o.before.before.before in
     let s = a.before.before.before.before in
-    omega (arith, value_of s.args.a (foundIn _) (ap answerReply a.a2.given.1 ∙ ap (λ x. answerReply (Decoded x)) o.o.given.1) s.requires.1)
+    omega (arith, value_of s.args.a (found_in _) (ap answer_reply a.a2.given.1 ∙ ap (λ x. answer_reply (Decoded x)) o.o.given.1) s.requires.1)
 
 put-line-requires-2 : tie.Need-put-line-requires-2
 put-line-requires-2 c κs = search rules
@@ -42,7 +42,7 @@ cast-put-line-2 c =
     let o = c.before in
     let a = o.before.before.before in
     let s = a.before.before.before.before in
-    omega (arith, value_of s.args.a (notFoundIn _) (ap answerReply a.a2.given.1 ∙ ap (λ x. answerReply (Decoded x)) o.o2.given.1) s.requires.1)
+    omega (arith, value_of s.args.a (not_found_in _) (ap answer_reply a.a2.given.1 ∙ ap (λ x. answer_reply (Decoded x)) o.o2.given.1) s.requires.1)
 
 put-line-requires-3 : tie.Need-put-line-requires-3
 put-line-requires-3 c κs = search rules
@@ -53,8 +53,8 @@ same_length c = search rules
 returns : tie.Need-returns
 returns c =
     let a = c.before.before.before.before.before.before in (
-      length-of a.before.before.before.before.args.a (refusal _) _ _ (ap answerReply a.a.given.1) c.before.before.put-line.ensures.0,
-      line_of a.before.before.before.before.args.a (refusal _) _ _ _ (ap answerReply a.a.given.1) c.before.before.put-line.ensures.1,
+      length_of a.before.before.before.before.args.a (refusal _) _ _ (ap answer_reply a.a.given.1) c.before.before.put-line.ensures.0,
+      line_of a.before.before.before.before.args.a (refusal _) _ _ _ (ap answer_reply a.a.given.1) c.before.before.put-line.ensures.1,
     )
 
 same-length-2 : tie.Need-same-length-2
@@ -64,8 +64,8 @@ returns-2 : tie.Need-returns-2
 returns-2 c =
     let o = c.before.before.before.before.before in
     let a = o.before.before.before in (
-      length-of a.before.before.before.before.args.a (foundIn _) _ _ (ap answerReply a.a2.given.1 ∙ ap (λ x. answerReply (Decoded x)) o.o.given.1) c.before.before.put-line2.ensures.0,
-      line_of a.before.before.before.before.args.a (foundIn _) _ _ _ (ap answerReply a.a2.given.1 ∙ ap (λ x. answerReply (Decoded x)) o.o.given.1) c.before.before.put-line2.ensures.1,
+      length_of a.before.before.before.before.args.a (found_in _) _ _ (ap answer_reply a.a2.given.1 ∙ ap (λ x. answer_reply (Decoded x)) o.o.given.1) c.before.before.put-line2.ensures.0,
+      line_of a.before.before.before.before.args.a (found_in _) _ _ _ (ap answer_reply a.a2.given.1 ∙ ap (λ x. answer_reply (Decoded x)) o.o.given.1) c.before.before.put-line2.ensures.1,
     )
 
 same-length-3 : tie.Need-same-length-3
@@ -75,8 +75,8 @@ returns-3 : tie.Need-returns-3
 returns-3 c =
     let o = c.before.before.before.before.before in
     let a = o.before.before.before in (
-      length-of a.before.before.before.before.args.a (notFoundIn _) _ _ (ap answerReply a.a2.given.1 ∙ ap (λ x. answerReply (Decoded x)) o.o2.given.1) c.before.before.put-line3.ensures.0,
-      line_of a.before.before.before.before.args.a (notFoundIn _) _ _ _ (ap answerReply a.a2.given.1 ∙ ap (λ x. answerReply (Decoded x)) o.o2.given.1) c.before.before.put-line3.ensures.1,
+      length_of a.before.before.before.before.args.a (not_found_in _) _ _ (ap answer_reply a.a2.given.1 ∙ ap (λ x. answer_reply (Decoded x)) o.o2.given.1) c.before.before.put-line3.ensures.0,
+      line_of a.before.before.before.before.args.a (not_found_in _) _ _ _ (ap answer_reply a.a2.given.1 ∙ ap (λ x. answer_reply (Decoded x)) o.o2.given.1) c.before.before.put-line3.ensures.1,
     )
 
 pub answer-spec : {M : Type 1} → statement M

@@ -7,12 +7,12 @@ use borrow.Author.Rules.{rules}
 use lib.ListN.{length, drop, length-append, length-drop}
 use Rattle.trellis.specs.Lists.{blocks}
 use Rattle.trellis.proofs.Loops.{block_more, length-even}
-use Rattle.text.proofs.Printing.{digitsAt, line-end}
+use Rattle.text.proofs.Printing.{digits_at, line-end}
 use Rattle.text.proofs.print.put_all.Statement.{statement}
 use Rattle.text.proofs.print.put_all.Tie as tie
 
 abbrev invariant-loop : tie.invariant-loop
-invariant-loop bytes out₀ n i₀ out i = (i ≤ n) × ((length out ≡ length out₀) × (out ≡ blocks (digitsAt bytes) i ++ drop (i * 2) out₀))
+invariant-loop bytes out₀ n i₀ out i = (i ≤ n) × ((length out ≡ length out₀) × (out ≡ blocks (digits_at bytes) i ++ drop (i * 2) out₀))
 
 abbrev decreases-loop : tie.decreases-loop
 decreases-loop bytes out₀ n i₀ out i = n - i
@@ -52,8 +52,8 @@ loop-again c =
     let p = c.before.before in
     let l = p.before.before.before.before in
     let a = l.before.before.before.args in
-    let t = block_more (digitsAt a.bytes.now) 2 (λ j. refl) a.out.now l.loop.out l.loop.i l.loop.invariant.1.1 p.put.ensures in
-    (omega arith, (ap length t ∙ simp (length-append, length-even (digitsAt a.bytes.now) 2 (λ j. refl), length-drop) (omega arith), t))
+    let t = block_more (digits_at a.bytes.now) 2 (λ j. refl) a.out.now l.loop.out l.loop.i l.loop.invariant.1.1 p.put.ensures in
+    (omega arith, (ap length t ∙ simp (length-append, length-even (digits_at a.bytes.now) 2 (λ j. refl), length-drop) (omega arith), t))
 
 mul-out : tie.Need-overflow-mul-out invariant-loop decreases-loop
 mul-out c = search rules

@@ -5,9 +5,9 @@ use Prim.Native.Nat.{ℕ, ◌≤◌}
 use native.Mathlib.Omega.{arith}
 use borrow.Author.Rules.{rules}
 use lib.ListN.{take, length-take}
-use Rattle.machine.specs.Line.{lineBytes, lineLeaves}
+use Rattle.machine.specs.Line.{line_bytes, line_leaves}
 use Rattle.machine.specs.CodeLine.{parse}
-use Rattle.machine.specs.Printing.{ofFrame, frameSaid, frameLine}
+use Rattle.machine.specs.Printing.{of_frame, frame_said, frame_line}
 use Rattle.text.proofs.Printing.{line_refused, line_read}
 use Rattle.text.proofs.print.text_in.Statement.{statement}
 use Rattle.text.proofs.print.text_in.Tie as tie
@@ -17,8 +17,8 @@ start c = c.before.before.before.before.before.before.before.before.before.befor
 
 -- what an accepted line of text is
 told : (c : tie.After-n) → (c.n.given.0.0 ≤ 16384)
-    × (take c.n.given.0.0 (lineLeaves (start c).args.text.now (start c).args.bytes.now) ≡ lineBytes (start c).args.text.now)
-    × ((code : List ℕ) → frameSaid code (start c).args.text.now ≡ ofFrame (parse code) (lineBytes (start c).args.text.now))
+    × (take c.n.given.0.0 (line_leaves (start c).args.text.now (start c).args.bytes.now) ≡ line_bytes (start c).args.text.now)
+    × ((code : List ℕ) → frame_said code (start c).args.text.now ≡ of_frame (parse code) (line_bytes (start c).args.text.now))
 told c =
     let s = start c in
     line_read s.args.text.now s.args.bytes.now s.pre.0 _ (rw c.n.given.1 at c.before.before.before.before.line.ensures.0)
@@ -60,7 +60,7 @@ same-length-3 : tie.Need-same-length-3
 same-length-3 c = search rules
 
 returns : tie.Need-returns
-unfolding frameLine
+unfolding frame_line
 returns c =
     let w = c.before.before in
     let k = w.before.before.before.before in
@@ -88,7 +88,7 @@ same-length-9 : tie.Need-same-length-9
 same-length-9 c = search rules
 
 returns-2 : tie.Need-returns-2
-unfolding frameLine
+unfolding frame_line
 returns-2 c =
     let w = c.before.before.before.before.before.before.before.before.before.before in
     let n = w.before.before.before.before.before.before.before.before in

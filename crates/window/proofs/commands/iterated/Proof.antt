@@ -1,7 +1,7 @@
 -- No change unless running and below 255; else the iteration's stage taken into the registers.
 use borrow.Author.Tests.{eq-eqb, ne_eqb}
 use Rattle.machine.specs.Decoding.{lending}
-use Rattle.layered.specs.Answers.{stageOf}
+use Rattle.layered.specs.Answers.{stage_of}
 use Rattle.window.specs.Meaning.{bytes_of}
 use Rattle.window.specs.Window.{second}
 use Rattle.window.proofs.Taking.{iteration-taken}
@@ -42,7 +42,7 @@ returns-3 : tie.Need-returns-3
 returns-3 c =
     let a = c.before.before.before.before.before.before.before.before.before.before.before.before.before.before.before.before.before.before.before.before.before.before.before.before.args in
     let k = c.before.before.before.before.before.before.before.before.before.step in
-    iteration-taken a.code.now a.frame.now (lending a.symbols.now a.costs.now a.store.now a.margins.now) _ (stageOf k.result) (bytes_of a.window) (bytes_of c.taking.result) k.ensures c.taking.ensures c.before.before.before.before.before.before.before.before.before.before.before.before.before.before.before.before.if1.false c.before.before.before.before.before.before.before.before.before.before.before.before.before.before.if2.false
+    iteration-taken a.code.now a.frame.now (lending a.symbols.now a.costs.now a.store.now a.margins.now) _ (stage_of k.result) (bytes_of a.window) (bytes_of c.taking.result) k.ensures c.taking.ensures c.before.before.before.before.before.before.before.before.before.before.before.before.before.before.before.before.if1.false c.before.before.before.before.before.before.before.before.before.before.before.before.before.before.if2.false
 
 pub iterated-spec : {M : Type 1} → statement M
 iterated-spec =

@@ -1,6 +1,6 @@
 -- The load's stage taken into the registers at t = 0.
 use Rattle.machine.specs.Decoding.{lending}
-use Rattle.layered.specs.Answers.{stageOf}
+use Rattle.layered.specs.Answers.{stage_of}
 use Rattle.window.specs.Meaning.{bytes_of}
 use Rattle.window.proofs.Taking.{loaded}
 use borrow.Author.Rules.{rules}
@@ -26,7 +26,7 @@ returns : tie.Need-returns
 returns c =
     let a = c.before.before.before.before.before.before.before.before.before.before.before.before.before.before.before.before.before.args in
     let k = c.before.before.before.before.before.before.before.load in
-    loaded a.code.now a.frame.now (lending a.symbols.now a.costs.now a.store.now a.margins.now) _ (stageOf k.result) (bytes_of a.window) (bytes_of c.taking.result) k.ensures c.taking.ensures
+    loaded a.code.now a.frame.now (lending a.symbols.now a.costs.now a.store.now a.margins.now) _ (stage_of k.result) (bytes_of a.window) (bytes_of c.taking.result) k.ensures c.taking.ensures
 
 pub loaded-spec : {M : Type 1} → statement M
 loaded-spec =
