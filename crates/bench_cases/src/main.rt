@@ -1,4 +1,4 @@
-// Runs the cases of document 01's bench table, with the degrees of document 02, through the public calls and prints what they answer, a
+// Runs the cases of the specification's bench table, with the degrees of today, through the public calls and prints what they answer, a
 // line each; the file stdout beside src/ holds what is expected.
 use field::{Element, Written};
 use libc::STDOUT_FILENO;

@@ -1,4 +1,4 @@
--- Calls under the code line of document 01's example and under one of two checks, and the order of refusals, by evaluation.
+-- Calls under the code line of the specification's example and under one of two checks, and the order of refusals, by evaluation.
 use mathlib.Core.Path.{◌≡◌, refl}
 use mathlib.Core.List.{List, [], ◌∷◌, ◌++◌}
 use Prim.Native.Nat.{ℕ}

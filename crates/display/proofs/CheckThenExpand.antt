@@ -1,4 +1,4 @@
--- Demand 2 for the messages, as a claim about two calls: a check that is accepted, and an expansion of the record that it wrote. Over what the
+-- Claim 2 for the messages, as a claim about two calls: a check that is accepted, and an expansion of the record that it wrote. Over what the
 -- calls promise (Demand-2-messages), and stated of the two functions' own contracts (check-then-expand).
 use mathlib.Core.Path.{◌≡◌, refl, sym, ap, ◌∙◌}
 use mathlib.Core.Bool.{Bool, true, false}

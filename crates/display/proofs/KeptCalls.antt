@@ -1,4 +1,4 @@
--- Document 02, §12, of the calls: over what they promise, and of the functions' own contracts.
+-- Of the calls: over what they promise, and of the functions' own contracts.
 use mathlib.Core.Path.{◌≡◌, refl, sym, ap, ◌∙◌}
 use mathlib.Core.Bool.{false}
 use mathlib.Core.List.{List, ◌++◌}

@@ -1,4 +1,4 @@
--- Document 02, §12, in the calls' own words: each byte of the sent costs that the calls leave is worked out from the k + 1 cheapest
+-- In the calls' own words: each byte of the sent costs that the calls leave is worked out from the k + 1 cheapest
 -- entries of each row, with the shift that stands in the record. SPEC 10.18.
 use Rattle.std.specs.Prelude.{◌≡◌, List, ℕ, suc, ◌+◌, ◌*◌, ◌≤◌, ◌<◌, length, get_or, take}
 use Rattle.trellis.specs.Field.{xor, product}

@@ -75,7 +75,7 @@ module _ (k d q : ℕ) (r t : List ℕ) (e : take ((1 + 2 * k) * q) t ≡ unpack
       ∙ ap (λ l. get_or l a 0) (block_at q (list_of k d q r) (λ j. length-tab _ q) (1 + 2 * k) i l)
       ∙ get_d_tab (every_at r (d + i) (1 + 2 * k) (zero_row i)) q a h
 
-  -- what a row says is document 01's reading
+  -- what a row says is the specification's reading
   pub value_is : (p n a : ℕ) → q ≡ 2 ^ p → length r ≡ d + (1 + 2 * k) * (2 ^ p - 1) → n < 0xFF → a < q → value_in k t q n a ≡ read_at (rule_of p ◌+◌ k) d r n a
   unfolding every_at read_at
   value_is p n zero s l h o = beside_ext (byte_in t q zero) zero_row n k (λ i m. byte_is zero i o m) k 0 (omega arith) ∙ beside-zero n h k 0

@@ -1,4 +1,4 @@
--- What the public call replies and leaves, refused calls included: document 01's refusals in their order. SPEC 7, 8.
+-- What the public call replies and leaves, refused calls included: the specification's refusals in their order. SPEC 7, 8.
 use Rattle.std.specs.Prelude.{List, [], ◌∷◌, ◌++◌, ℕ, ◌*◌, ltb, length, drop}
 use Rattle.trellis.specs.Record.{record_tests, expansion}
 use Rattle.trellis.specs.Rules.{size_of, rule_for}

@@ -1,4 +1,4 @@
--- What each public call replies and leaves, refused calls included: document 01's refusals in their order. SPEC 7, 8.
+-- What each public call replies and leaves, refused calls included: the specification's refusals in their order. SPEC 7, 8.
 use Rattle.std.specs.Prelude.{Bool, false, not, ◌&&◌, List, [], ◌∷◌, ℕ, ◌*◌, ◌^◌, ltb, eqb, leb, length, get_or}
 use Rattle.trellis.specs.Lists.{tab, blocks, pick, all_to}
 use Rattle.trellis.specs.Field.{product}

@@ -1,4 +1,4 @@
--- The loops over a check's columns: each least is that of document 01, each loop fills its list from the front (trellis, proofs/Loops.antt), and the
+-- The loops over a check's columns: each least is that of the specification, each loop fills its list from the front (trellis, proofs/Loops.antt), and the
 -- columns' parts of the buffers do not meet.
 use mathlib.Core.Path.{◌≡◌, sym, ap, ◌∙◌}
 use mathlib.Core.List.{List, ◌++◌, map, append_assoc}

@@ -1,4 +1,4 @@
--- The answers' meanings: document 01's number and values for each case.
+-- The answers' meanings: the specification's number and values for each case.
 use Rattle.std.specs.Prelude.{ℕ}
 use Rattle.trellis.specs.Reply.{Reply, refusal, found_in, not_found_in}
 use Rattle.machine.specs.Moments.{Stage as Ends}

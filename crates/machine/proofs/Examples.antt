@@ -1,4 +1,4 @@
--- Document 01's example and others, by evaluation.
+-- The specification's example and others, by evaluation.
 use mathlib.Core.Path.{◌≡◌, refl}
 use mathlib.Core.List.{List, [], ◌∷◌, map, ◌++◌}
 use Prim.Native.Nat.{ℕ}

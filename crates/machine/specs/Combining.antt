@@ -1,4 +1,4 @@
--- Document 02 §10: two frames of the same symbols as one. The combined frame, what the call replies and leaves, and what is claimed.
+-- Two frames of the same symbols as one. The combined frame, what the call replies and leaves, and what is claimed.
 use Rattle.std.specs.Prelude.{◌≡◌, ◌≢◌, List, [], ◌∷◌, map, ◌++◌, ℕ, ◌+◌, ◌*◌, ◌<◌, ◌≤◌, eqb, ltb, length, get_or, take, drop}
 use Rattle.trellis.specs.Lists.{up_to, pick, blocks}
 use Rattle.trellis.specs.Refusals.{when, unless, fault_by}

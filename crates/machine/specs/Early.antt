@@ -1,4 +1,4 @@
--- Document 02's "Stop inside an iteration": a call of its own that ends with the first check update after which the decisions satisfy all
+-- The specification's "Stop inside an iteration": a call of its own that ends with the first check update after which the decisions satisfy all
 -- checks.
 use Rattle.std.specs.Prelude.{◌≡◌, ◌↔◌, Bool, true, false, List, ℕ, zero, suc, ◌*◌, ◌%◌, ◌≤◌, ◌<◌, length, get_or, drop}
 use Rattle.trellis.specs.Lists.{pick, upto, part}
@@ -106,7 +106,7 @@ abbrev pub last_early : Code → List ℕ → ℕ → List Column
 last_early C f m = columns_in (last_of (state_early C f) m)
 
 -- one run, and what its decoding left: it is not refused, the checks updated have made an update and the others none, each place in the
--- store is its record or as it was, and each sent cost is the least that demand 3 names
+-- store is its record or as it was, and each sent cost is the least that claim 3 names
 pub record KeptEarly (C : Code) (f old : List ℕ) (reply : Reply) (store : List ℕ) : Type 0 where
   pub not-refused : reply.refused ≡ false
   pub replies : reply ≡ outcome (status_early C f) (updates C f)

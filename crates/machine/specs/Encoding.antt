@@ -1,4 +1,4 @@
--- Document 02 §2: encoding. The word of a message under a code line of the form that encoding needs, what the call replies and leaves,
+-- Encoding. The word of a message under a code line of the form that encoding needs, what the call replies and leaves,
 -- and what its word is. SPEC 4.8, 4.9, 7.9.
 use Rattle.std.specs.Prelude.{◌≡◌, ◌≢◌, Bool, true, false, ◌&&◌, ◌||◌, List, [], ◌∷◌, ◌++◌, ℕ, zero, suc, ◌+◌, ◌-◌, ◌*◌, ◌<◌, eqb, ltb, leb, length, get_or, take, drop}
 use Rattle.trellis.specs.Lists.{pick, all_to}

@@ -1,4 +1,4 @@
--- Document 01's layered machine: start, one update of a check, one iteration, the run with its result. SPEC 6.
+-- The specification's layered machine: start, one update of a check, one iteration, the run with its result. SPEC 6.
 use Rattle.std.specs.Prelude.{Bool, List, [], ◌++◌, map, ℕ, zero, suc, ◌+◌, ◌-◌, ◌*◌, ◌/◌, min, eqb, length, get_or, set, replicate, drop}
 use Rattle.trellis.specs.Lists.{up_to, smallest, pick, upto, all_to, part, patch, blocks}
 use Rattle.trellis.specs.Field.{xor, product}

@@ -1,4 +1,4 @@
--- Document 02's two steps over the lent buffers: a load with the first test, and one iteration that goes on from the lent costs and
+-- The specification's two steps over the lent buffers: a load with the first test, and one iteration that goes on from the lent costs and
 -- records.
 use Rattle.std.specs.Prelude.{◌≡◌, Bool, ◌&&◌, ◌||◌, List, [], ◌∷◌, ℕ, zero, suc, ◌+◌, ◌*◌, ◌≤◌, eqb, leb, length, get_or, take}
 use Rattle.trellis.specs.Lists.{pick, all_to, part}

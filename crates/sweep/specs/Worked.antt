@@ -1,4 +1,4 @@
--- The check of docs/SWEEP.md: columns 0 1 9 9 / 0 9 1 9 / 0 9 9 9 of document 01's bench table, with p = 2, weights 1, first byte 02. What
+-- The check of docs/SWEEP.md: columns 0 1 9 9 / 0 9 1 9 / 0 9 9 9 of the specification's bench table, with p = 2, weights 1, first byte 02. What
 -- both sweeps keep, for counts 0, 1, 2 and partial sums 0 to 3, and S.
 use Rattle.std.specs.Prelude.{List, [], ◌∷◌, map, ℕ, suc, take, drop}
 use Rattle.trellis.specs.Lists.{up_to}

@@ -1,4 +1,4 @@
--- A whole input through `feed` and `close`: from the first state, whatever the buffers hold, the outputs end to end are document 01's.
+-- A whole input through `feed` and `close`: from the first state, whatever the buffers hold, the outputs end to end are the specification's.
 use mathlib.Core.Path.{◌≡◌, refl, sym, ap, ap₂, ◌∙◌}
 use mathlib.Core.List.{List, [], ◌∷◌, ◌++◌}
 use Prim.Native.Nat.{ℕ}

@@ -1,5 +1,5 @@
 -- What the least degree changes and what it leaves: not every column stands above E, so of two columns at most one does; and where the degree
--- exceeds k the record is what it was with document 01's E.
+-- exceeds k the record is what it was with E over all columns.
 use mathlib.Core.Path.{◌≡◌, ap}
 use mathlib.Core.Bool.{Bool, true, false, cond}
 use mathlib.Core.List.{List, ◌∷◌, ◌++◌}
@@ -44,7 +44,7 @@ above-fewer R cs P a h =
     let r = extra-sent R cs P a h in
     keep-fewer (λ n. ltb (extra R cs a) (sent_at R cs n a)) 0 (length cs) r.0 (omega arith) (omega (arith, r.1)) (le-ltb (extra R cs a) (sent_at R cs r.0 a) (omega (arith, r.2)))
 
--- Document 02: "Records of degree 3 and up keep their bytes."
+-- "Records of degree 3 and up keep their bytes."
 pub records-keep : (R : Rule) (cs : List Column) → Proper R cs → R.most < length cs → record_of_all R cs ≡ record_of R cs
 unfolding record_of group above record_of_all group_of_all above_of_all
 records-keep R cs P deep =

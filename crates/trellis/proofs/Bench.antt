@@ -1,4 +1,4 @@
--- The # cases of document 01's bench table, by evaluation of the definitions: one theorem about all their meanings.
+-- The # cases of the specification's bench table, by evaluation of the definitions: one theorem about all their meanings.
 use mathlib.Core.Path.{◌≡◌, refl}
 use mathlib.Core.List.{[], ◌∷◌, map}
 use Rattle.trellis.specs.Field.{xor}

@@ -1,4 +1,4 @@
--- The products of document 01 are those of a field: they are linear, so a test at the powers of two serves for every element.
+-- The products of the specification are those of a field: they are linear, so a test at the powers of two serves for every element.
 use mathlib.Core.Path.{◌≡◌, refl, sym, ap, ◌∙◌}
 use mathlib.Core.Bool.{Bool, cond, ◌&&◌, ◌||◌}
 use mathlib.Core.List.{List, [], ◌∷◌}

@@ -1,4 +1,4 @@
--- Document 02, §12, for accepted checks: k + 1 entries of each row suffice; k entries do not, by evaluation.
+-- For accepted checks: k + 1 entries of each row suffice; k entries do not, by evaluation.
 use mathlib.Core.Path.{◌≡◌, refl, sym, ap, ◌∙◌}
 use mathlib.Core.List.{List}
 use Prim.Native.Nat.{ℕ, suc, ◌+◌, ◌*◌, ◌<◌}

@@ -68,7 +68,7 @@ module _ (f : ℕ) (ws cs : List ℕ) (D : Ready f ws cs) where
   pub ready_many : length (all_sent R the_columns) ≡ length ws * size_of f
   ready_many = length-sent R the_columns ∙ ap (λ d. d * size_of f) (length-columns (size_of f) ws cs)
 
-  -- each of them the least cost that document 01 names
+  -- each of them the least cost that the specification names
   pub ready-least : (n x : ℕ) → n < length ws → x < size_of f → IsLeast R (others n the_columns) (product (power_of f) (get_or ws n 0) x) (get_or (all_sent R the_columns) (n * size_of f + x) 0)
   ready-least n x l h =
       let k : n < length the_columns = rw (length-columns (size_of f) ws cs) l in

@@ -45,7 +45,7 @@ first-power f e = go (leb (f / 16) 3) (leb 2 (power_of f)) refl (leb (power_of f
     go true false i c j e = absurd (apart e)
     go false b i c j e = absurd (apart e)
 
--- Document 02: "Old code lines give the old bytes": all that a code line's first byte fixes is the rule
+-- "Old code lines give the old bytes": all that a code line's first byte fixes is the rule
 pub old-rule : (p : ℕ) → 2 ≤ p → p ≤ 6 → (first_ok p ≡ true) × (rule_for p ≡ rule_of p ◌+◌ 2)
 unfolding first_ok
 old-rule zero h k = absurd (omega arith)

@@ -265,7 +265,7 @@ module _ (R : Rule) (cs : List Column) (P : Proper R cs) (a : ℕ) where
             let s : extra R cs a < sent_at R cs j a = rw (e, zero-add j) at (ltb→lt (extra R cs a) (sent_at R cs n a) t) in
             omega (arith, sent-below j l w h k)
 
-    -- where the degree exceeds k, E is what document 01 says
+    -- where the degree exceeds k, E is the least over all columns
     pub extra-least : R.most < length cs → IsLeast R cs goal (extra R cs a)
     extra-least deep =
         record {

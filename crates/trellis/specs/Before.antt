@@ -1,4 +1,4 @@
--- The record with document 01's own E, which document 02 replaces. Document 02: "Records of degree 3 and up keep their bytes."
+-- The record with E over the choices for all columns, in whose place the least of the sent costs stands. "Records of degree 3 and up keep their bytes."
 -- (proofs/Before.antt, records-keep). SPEC 3.3.
 use Rattle.std.specs.Prelude.{List, [], ◌∷◌, ◌++◌, ℕ, ◌-◌, ltb, length}
 use Rattle.trellis.specs.Lists.{count_from, up_to, keep, each}

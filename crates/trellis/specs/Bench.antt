@@ -1,4 +1,4 @@
--- Document 01's bench table, the cases marked #, two checks of degree 2, and checks of the later editions: what is asked and what is
+-- The specification's bench table, the cases marked #, two checks of degree 2, and checks of the later editions: what is asked and what is
 -- expected.
 use Rattle.std.specs.Prelude.{List, [], ◌∷◌, map, ◌++◌, ℕ, replicate}
 use Rattle.trellis.specs.Lists.{each, count_from, up_to}
@@ -75,7 +75,7 @@ table =
     -- Weights 1, 2, 3, decisions all 1: shifts 010203
     gives (shifts_at (weighted 1 (9 ∷ 0 ∷ 9 ∷ 9 ∷ []) ∷ weighted 2 (9 ∷ 0 ∷ 9 ∷ 9 ∷ []) ∷ weighted 3 (9 ∷ 0 ∷ 9 ∷ 9 ∷ []) ∷ []))
     (0x01 ∷ 0x02 ∷ 0x03 ∷ []) ∷
-    -- Document 02, degree 2: "a cheapest choice may deviate in both columns, so E would be a cost nobody was sent". At a = 1 the symbols
+    -- Degree 2: "a cheapest choice may deviate in both columns, so E would be a cost nobody was sent". At a = 1 the symbols
     -- 2 and 3 cost 1 + 1, but either column is sent the other's 9
     gives (record_at (columns ((0 ∷ 9 ∷ 1 ∷ 9 ∷ []) ∷ (0 ∷ 9 ∷ 9 ∷ 1 ∷ []) ∷ [])))
     (0x00 ∷ 0x00 ∷ 0x09 ∷ 0xFF ∷ 0x00 ∷ 0xFF ∷ 0x00 ∷ 0x01 ∷ 0x00 ∷ 0x09 ∷ 0xFF ∷ 0x00 ∷ 0x01 ∷ 0x01 ∷ 0x09 ∷ 0xFF ∷ 0x00 ∷ []) ∷

@@ -1,5 +1,5 @@
--- One check of document 01: choices, their costs, the cost sent to a column, the extra column. SPEC 2. A rule holds what the code line's
--- first byte fixes: q, the product, how the costs of a choice are joined, and how many deviations it may have. Document 02: "at most two"
+-- One check of the specification: choices, their costs, the cost sent to a column, the extra column. SPEC 2. A rule holds what the code line's
+-- first byte fixes: q, the product, how the costs of a choice are joined, and how many deviations it may have. "at most two"
 -- reads "at most k".
 use Rattle.std.specs.Prelude.{◌≡◌, Bool, cond, ◌&&◌, List, [], ◌∷◌, map, ℕ, zero, suc, ◌+◌, ◌-◌, ◌≤◌, ◌<◌, leb, eqb, length, get_or}
 use Rattle.trellis.specs.Lists.{up_to, keep, each, others, smallest}
@@ -124,11 +124,11 @@ sent R cs n x = least_cost R (others n cs) (weigh R (column cs n) x)
 unfoldable pub sent_at : Rule → List Column → ℕ → ℕ → ℕ
 sent_at R cs n a = least_cost R (others n cs) (xor a (shift R cs n))
 
--- The extra column. Document 02: "E(a) is therefore the least of S_n(a) over the columns, at each degree." (SPEC 2.9)
+-- The extra column. "E(a) is therefore the least of S_n(a) over the columns, at each degree." (SPEC 2.9)
 unfoldable pub extra : Rule → List Column → ℕ → ℕ
 extra R cs a = smallest (map (λ n. sent_at R cs n a) (up_to (length cs)))
 
--- Document 01's words for it: "the least cost over choices for all columns with at most two deviations whose weighted sum is a plus the sum
+-- The other words for it: "the least cost over choices for all columns with at most two deviations whose weighted sum is a plus the sum
 -- of all h_k times z_k." Where the degree exceeds k it is E(a) (proofs/Sent.antt, extra-of-all) (SPEC 2.10)
 unfoldable pub extra_of_all : Rule → List Column → ℕ → ℕ
 extra_of_all R cs a = least_cost R cs (xor a (decided R cs))

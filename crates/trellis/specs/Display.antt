@@ -1,4 +1,4 @@
--- Document 02 §11: what the display shows of a record, and what is claimed of it.
+-- What the display shows of a record, and what is claimed of it.
 use Rattle.std.specs.Prelude.{◌≡◌, true, ◌≢◌, ◌↔◌, List, map, ℕ, ◌<◌, length, get_or, take}
 use Rattle.trellis.specs.Lists.{up_to}
 use Rattle.trellis.specs.Field.{product, quotient}

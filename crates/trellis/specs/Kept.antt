@@ -1,4 +1,4 @@
--- Document 02, §12, as claims: the k + 1 cheapest entries of each row give the sent costs of every accepted check, and k entries do not.
+-- As claims: the k + 1 cheapest entries of each row give the sent costs of every accepted check, and k entries do not.
 use Rattle.std.specs.Prelude.{◌≡◌, List, [], ◌∷◌, ℕ, suc, ◌*◌, ◌-◌, ◌<◌, min, length, get_or}
 use Rattle.trellis.specs.Field.{xor}
 use Rattle.trellis.specs.Check.{Rule, Column, sent, shift}

@@ -1,4 +1,4 @@
--- What a reader must believe, in document 01's order: the field, one check, the record, the replies. "SPEC" in a comment is a paragraph of
+-- What a reader must believe, in the specification's order: the field, one check, the record, the replies. "SPEC" in a comment is a paragraph of
 -- docs/SPECIFICATION.md. Under inner what mirrors a loop.
 pub mod Lists
 pub mod Field

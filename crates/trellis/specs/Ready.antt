@@ -1,4 +1,4 @@
--- A check as a caller hands it over, where none of document 01's refusals of the check itself applies.
+-- A check as a caller hands it over, where none of the specification's refusals of the check itself applies.
 use Rattle.std.specs.Prelude.{◌≡◌, true, ◌≢◌, List, ℕ, ◌*◌, ◌≤◌, ◌<◌, length, get_or}
 use Rattle.trellis.specs.Check.{first_zero}
 use Rattle.trellis.specs.Rules.{first_ok, size_of, costs_at}

@@ -1,7 +1,7 @@
--- What a public call answers, as document 01 numbers it. Each answer that is an enum has a definition that gives its reply by cases.
+-- What a public call answers, as the specification numbers it. Each answer that is an enum has a definition that gives its reply by cases.
 use Rattle.std.specs.Prelude.{Bool, true, false, ℕ}
 
--- whether the call is refused; document 01's number (0 accepted or found, 1 not found, else the refusal's); and the value: the product,
+-- whether the call is refused; the specification's number (0 accepted or found, 1 not found, else the refusal's); and the value: the product,
 -- the bytes written, or the iterations
 pub record Reply : Type 0 where
   pub refused : Bool

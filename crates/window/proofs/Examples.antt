@@ -1,4 +1,4 @@
--- Document 01's example through the window, and refusals of command 2, by evaluation.
+-- The specification's example through the window, and refusals of command 2, by evaluation.
 use mathlib.Core.Path.{◌≡◌, refl}
 use mathlib.Core.Bool.{true}
 use mathlib.Core.List.{List, [], ◌∷◌, ◌++◌}

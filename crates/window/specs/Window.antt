@@ -1,4 +1,4 @@
--- The register window of document 02, section 8: six bytes, and a write to them.
+-- The register window of docs/SPECIFICATION.md, section 7.11: six bytes, and a write to them.
 use Rattle.std.specs.Prelude.{Bool, not, List, [], ◌∷◌, ℕ, eqb, get_or}
 use Rattle.std.specs.Int.Bits.{bit_and, bit_or}
 use Rattle.trellis.specs.Lists.{pick}

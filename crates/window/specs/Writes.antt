@@ -1,4 +1,4 @@
--- Lists of writes, and what document 02, section 8, claims of them.
+-- Lists of writes, and what docs/SPECIFICATION.md, section 7.11, claims of them.
 use Rattle.std.specs.Prelude.{◌≡◌, Bool, false, not, ◌&&◌, ◌||◌, ◌≢◌, ◌⊎◌, List, [], ◌∷◌, ℕ, ◌+◌, ◌≤◌, ◌<◌, eqb, get_or}
 use Rattle.trellis.specs.Lists.{pick}
 use Rattle.machine.specs.CodeLine.{good, Code, parse}

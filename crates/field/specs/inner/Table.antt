@@ -1,4 +1,4 @@
--- The table of products at p = 6, as document 01's recurrence gives it: a times b stands at 64 a + b.
+-- The table of products at p = 6, as the specification's recurrence gives it: a times b stands at 64 a + b.
 use Rattle.std.specs.Prelude.{List, [], ◌∷◌, ℕ, zero, suc, ◌/◌, ◌%◌}
 use Rattle.trellis.specs.Field.{product}
 

@@ -1,5 +1,5 @@
 -- A decoding that may stop inside an iteration (true) or not (false): its run, what it leaves and what it asks. proofs/Decoded.antt shows
--- that these are the calls of document 01 and 02.
+-- that these are the calls of the specification.
 use Rattle.std.specs.Prelude.{Bool, true, false, List, ℕ, ◌*◌, ◌≤◌, length}
 use Rattle.trellis.specs.Sizes.{most_expansion}
 use Rattle.machine.specs.CodeLine.{Read, good, Code}
