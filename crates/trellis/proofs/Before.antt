@@ -48,4 +48,4 @@ above-fewer R cs P a h =
 pub records-keep : (R : Rule) (cs : List Column) → Proper R cs → R.most < length cs → record_of_all R cs ≡ record_of R cs
 unfolding record_of group above record_of_all group_of_all above_of_all
 records-keep R cs P deep =
-    ap (λ g. shifts R cs ++ g) (each_ext (λ a i. let h : a < R.size = omega (arith, of_count 1 (R.size - 1) a i, P.wide) in rw (extra_of_all_lem R cs P a h deep)))
+    ap (λ g. shifts R cs ++ g) (each_ext {f = group_of_all R cs} {g = group R cs} (λ a i. let h : a < R.size = omega (arith, of_count 1 (R.size - 1) a i, P.wide) in rw (extra_of_all_lem R cs P a h deep)))

@@ -20,7 +20,7 @@ module _ {A : Type 0} (p : A → Bool) where
       go true e below m =
           ⊎_elim (λ (h : x ≡ y). (Memᴰ.head h, rw (h, e) tt)) (λ (h : Memᴰ x (keep p l)). (Memᴰ.tail (below h).0, (below h).1)) (Memᴰ.cases_cons m)
 
-  pub in_keep : {l : List A} {x : A} → Memᴰ x l → T (p x) → Memᴰ x (keep p l)
+  pub in_keep : {x : A} {l : List A} → Memᴰ x l → T (p x) → Memᴰ x (keep p l)
   in_keep {x = x} (Memᴰ.head {x = y} {xs = l} e) t = go (p y) (rw e at t)
     where
       go : (b : Bool) → T b → Memᴰ x (cond b (y ∷ keep p l) (keep p l))
@@ -33,7 +33,7 @@ module _ {A : Type 0} (p : A → Bool) where
       go false m = m
 
 module _ {A B : Type 0} (f : A → List B) where
-  pub in_each : {l : List A} {x : A} {y : B} → Memᴰ x l → Memᴰ y (f x) → Memᴰ y (each f l)
+  pub in_each : {x : A} {l : List A} {y : B} → Memᴰ x l → Memᴰ y (f x) → Memᴰ y (each f l)
   in_each (Memᴰ.head {xs = l} e) m = Memᴰ.append_left (each f l) (rw e at m)
   in_each (Memᴰ.tail {x = z} e) m = Memᴰ.append_right (f z) (in_each e m)
 

@@ -335,6 +335,8 @@ module _ (R : Rule) (J : Joins R.join) (within : (a b : ℕ) → R.join a b ≤ 
 module _ (R : Rule) (cs : List Column) (P : Proper R cs) where
   sums-small : (ds : List Column) → ((n : ℕ) → n < length ds → Sound R (column ds n)) → (w : List ℕ) → Fits R.size ds w → weighted_sum R ds w < R.size
   sums-small [] h [] none = rw P.power (pow_pos P.p)
+  sums-small [] h (x ∷ w) f = elim f [ ]
+  sums-small (d ∷ ds) h [] f = elim f [ ]
   sums-small (d ∷ ds) h (x ∷ w) (more k f) = size-xor R cs P _ _ ((h 0 (omega arith)).closed x k) (sums-small ds (λ n l. h (suc n) (omega arith)) w f)
 
   sound-take : (n i : ℕ) → i < length (take n cs) → Sound R (column (take n cs) i)
