@@ -1,4 +1,6 @@
 // Small functions on numbers and tests that several crates share. Each is total; the compiler puts it in place at each call.
+#![tactic(auto)]
+
 pub mod sizes;
 
 ghost use Rattle.std.specs.Prelude.{◌≡◌, ◌&&◌, ◌||◌, ◌%◌, ◌<◌, min, max};
