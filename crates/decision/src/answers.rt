@@ -1,7 +1,7 @@
 // What a decision is.
 
 // The symbol and its margin.
-#[derive(Drop)]
+#[derive(Clone, Copy)]
 pub struct Decision {
     pub symbol: usize,
     pub margin: u16,

@@ -1,5 +1,7 @@
 // The hard decision of a column of costs: "the smallest symbol of cost 0", with its margin. Without a cost of 0 it is the number of costs,
 // with margin 0. The search yields by `break`.
+#![tactic(auto)]
+
 pub mod answers;
 mod bytes;
 mod words;
