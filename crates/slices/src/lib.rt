@@ -1,4 +1,6 @@
 // Copies of slices, one function for each kind of element. Each is total: nothing changes where the two have other lengths.
+#![tactic(auto)]
+
 ghost use Rattle.std.specs.Prelude.{◌≡◌};
 ghost use Rattle.slices.specs.Copies.{copied_to};
 
