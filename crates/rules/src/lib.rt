@@ -1,12 +1,14 @@
 // The rule that a first code byte stands for: p in its low digit, and by its high digit how many deviations a choice may have and how its
 // costs are joined. Each function is total, so that every crate above can call it with the byte as it came.
+#![tactic(auto)]
+
 ghost use Rattle.std.specs.Prelude.{◌≡◌, ◌-◌, ◌*◌, ◌≤◌};
 ghost use Rattle.trellis.specs.Record.{group_length};
 ghost use Rattle.trellis.specs.Rules.{rule_for, power_of, size_of, most_of, greatest_of, first_ok};
 ghost use Rattle.rules.specs.Numbers.{rule_read};
 
 // The rule as it travels inside the code: q is 2 ^ p, at most k deviations, costs joined to their sum or to their greatest.
-#[derive(Drop)]
+#[derive(Clone, Copy)]
 pub struct Rule {
     pub p: u8,
     pub k: u8,
