@@ -10,7 +10,7 @@ use lib.Bits as Bits
 use lib.Bits.{bit_xor}
 use Rattle.trellis.specs.Lists.{tab}
 use Rattle.trellis.specs.Field.{xor}
-use Rattle.trellis.proofs.Xor.{xor_assoc, xor_lt}
+use Rattle.trellis.proofs.Xor.{xor_assoc}
 use Rattle.trellis.proofs.Loops.{length-tab, tab_ext}
 use Rattle.tables.specs.inner.Lanes.{lanes, Flips, flipped_to}
 use Rattle.tables.proofs.Blocks.{align, tab-append}

@@ -1,4 +1,6 @@
 // The engine of one check: tables of rests over the columns before and after each one, sixteen rows at a time.
+#![tactic(auto)]
+
 mod block;
 mod copies;
 mod grow;

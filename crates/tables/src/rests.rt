@@ -5,7 +5,7 @@ ghost use Rattle.tables.specs.inner.Lanes.{cut, taken, two_of};
 
 // Tables of l rows, of which q are asked for; one for each number of deviations from 1 to k; costs joined to their sum, or to their
 // greatest.
-#[derive(Drop)]
+#[derive(Clone, Copy)]
 pub struct Shape {
     pub q: usize,
     pub l: usize,
@@ -14,7 +14,7 @@ pub struct Shape {
 }
 
 // Four rests, each as it is taken from others.
-#[derive(Drop)]
+#[derive(Clone, Copy)]
 pub struct Four {
     pub greatest: bool,
     pub x: u8,
