@@ -1,4 +1,6 @@
 // The groups of a record, from the rests of the costs sent: for each a the extra column and the columns whose rest is below the best.
+#![tactic(auto)]
+
 mod lane;
 mod layout;
 mod list;
