@@ -1,5 +1,7 @@
 // The field of 2 ^ p elements: the product of two, the products of weights with every symbol, and the tests of a first code byte and
 // weights. The answer of every call that writes bytes stands here too, below all crates that give it.
+#![tactic(auto)]
+
 mod field;
 mod products;
 mod refusals;
@@ -9,14 +11,14 @@ ghost use Rattle.std.specs.Prelude.{◌≡◌};
 ghost use Rattle.field.specs.Answers.{element_reply, product_reply, weights_fault, rows_leave};
 
 // A product, or the number of the refusal.
-#[derive(Drop)]
+#[derive(Clone, Copy)]
 pub enum Element {
     Is(u8),
     Refused(u8),
 }
 
 // How many bytes were written, or the number of the refusal.
-#[derive(Drop)]
+#[derive(Clone, Copy)]
 pub enum Written {
     Bytes(usize),
     Refused(u8),

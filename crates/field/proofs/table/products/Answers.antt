@@ -2,12 +2,8 @@
 use Rattle.trellis.specs.Field.{xor}
 use Rattle.field.specs.inner.Table.{product_table}
 use Rattle.field.proofs.Tables.{same_is}
-use Rattle.field.proofs.table.products.Statement.{statement}
-use Rattle.field.proofs.table.products.Tie as tie
+use Rattle.field.proofs.table.products.Goals as goal
 
-returns : tie.Need-returns
+pub returns : goal.returns
 unfolding product_table xor
 returns c = same_is _ product_table tt
-
-pub products-spec : {M : Type 1} → statement M
-products-spec = tie.close (tie.spec returns)
