@@ -1,4 +1,6 @@
 // One check: the packed record of a check's messages, alone and beside the messages.
+#![tactic(auto)]
+
 mod lines;
 mod record;
 mod refusals;
