@@ -44,8 +44,7 @@ fn pairs_ok(r: &[u8], at: usize, d: usize, k: usize) -> bool
 
 fn groups_ok(r: &[u8], d: usize, n: usize, k: usize) -> bool
     requires { (k ≤ 3) × (d + (1 + 2 * k) * n ≤ length r.now) }
-    ensures* { λ b. ⌜
-        b ≡ all_to (λ b. pairs_ok k r.now (d + (1 + 2 * k) * b + 1) (get_or r.now (d + (1 + 2 * k) * b) 0) d 0) n ⌝ }
+    ensures { result ≡ all_to (λ b. pairs_ok k r.now (d + (1 + 2 * k) * b + 1) (get_or r.now (d + (1 + 2 * k) * b) 0) d 0) n }
 {
     let g = 1 + 2 * k;
     let mut ok = true;

@@ -1,4 +1,6 @@
 // The expansion of a packed record: what a check sends, by symbols.
+#![tactic(auto)]
+
 mod expansion;
 pub mod form;
 
