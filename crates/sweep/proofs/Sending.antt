@@ -25,7 +25,7 @@ use Rattle.checknode.specs.inner.Asks.{shifts_of}
 use Rattle.field.proofs.Blocks.{block_at, in_block, part_room}
 use Rattle.checknode.proofs.Resting.{column-bytes, shift-at, shifts-length, parts}
 use Rattle.sweep.specs.Kept.{cell_count, cell_at, KeptCells}
-use Rattle.sweep.specs.inner.Cells.{turns_of, cells_after, table_of, Swept}
+use Rattle.sweep.specs.inner.Cells.{cells_of, turns_of, cells_after, table_of, Swept}
 use Rattle.sweep.specs.inner.Joins.{join_at, cells_before, cells_behind, column_sent, JoinRoom}
 use Rattle.sweep.specs.inner.Groups.{lowest_to, sent_of, group_by, PairsRoom}
 use Rattle.sweep.proofs.Laws.{sums_of}
@@ -112,8 +112,8 @@ module _ (f : ℕ) (ws cs : List ℕ) (D : Ready f ws cs) where
     sent-joined n a h l =
         let e : length C - (length ws - suc n) ≡ suc n = omega (arith, d-is) in
         let j : n < length C = omega (arith, d-is) in
-        rw e
-        (join_is (power_of f) (greatest_of f) (most_of f) (swept R (take n C)) (swept R (drop (suc n) C)) (xor a (shift R C n)) (xor_lt (power_of f) a _ l (shift-below n h))
+        ap (λ (m : ℕ). join_at (greatest_of f) q (most_of f) (cells_of q (most_of f) (swept R (take n C))) (cells_of q (most_of f) (swept R (drop m C))) (xor a (shift R C n))) e
+        ∙ (join_is (power_of f) (greatest_of f) (most_of f) (swept R (take n C)) (swept R (drop (suc n) C)) (xor a (shift R C n)) (xor_lt (power_of f) a _ l (shift-below n h))
         ∙ swept-sent R C P n a j l (omega (arith, S-byte a l n j)))
 
     module _ (before after : List ℕ) (T : Swept f ws cs before after) where

@@ -114,7 +114,8 @@ module _ (R : Rule) (cs : List Column) (P : Proper R cs) where
   unfolding cells_after
   turn_is true i l =
       let m : length cs - i ≡ suc (length cs - suc i) = omega arith in
-      rw m (cells_ext R.size R.most _ _ (λ j t u v. swept-after R cs P (length cs - suc i) (omega arith) j t))
+      cells_ext R.size R.most _ _ (λ j t u v. swept-after R cs P (length cs - suc i) (omega arith) j t)
+      ∙ ap (λ (n : ℕ). cells_of R.size R.most (stepped R (column cs (length cs - suc i)) (swept R (drop n cs)))) (sym m)
   turn_is false i l = cells_ext R.size R.most _ _ (λ j t u v. swept-before R cs P i l j t)
 
   -- S is a byte
@@ -135,7 +136,8 @@ module _ (p : ℕ) (g : Bool) (k : ℕ) (f h : ℕ → ℕ → ℕ) (t : ℕ) (s
       rw e
       (least_to_ext _ _ (suc k) (λ i l.
       let u : k - i + 1 ≡ suc (k - i) = omega arith in
-      rw (u, cell-part (2 ^ p) k f i l) (least_to_ext _ _ (suc (k - i)) (λ j m. rw (cell-part (2 ^ p) k h j (omega arith)) (across-is i j)))))
+      let inner : least_to (λ (j : ℕ). across_at g (part (cells_of (2 ^ p) k f) (i * 2 ^ p) (2 ^ p)) (part (cells_of (2 ^ p) k h) (j * 2 ^ p) (2 ^ p)) t) (suc (k - i)) ≡ least_to (across (rule_of p (join_of g) k) f h t i) (suc (k - i)) = least_to_ext _ _ (suc (k - i)) (λ j m. rw (cell-part (2 ^ p) k f i l, cell-part (2 ^ p) k h j (omega arith)) (across-is i j)) in
+      rw u inner))
 
 pub join-within : (g : Bool) (a b : ℕ) → join_of g a b ≤ a + b
 join-within true a b = omega arith

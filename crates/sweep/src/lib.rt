@@ -1,4 +1,6 @@
 // One check by two sweeps over its columns, beside `check`: the same record, by an engine that can be followed on paper.
+#![tactic(auto)]
+
 mod cells;
 mod columns;
 mod group;

@@ -1,0 +1,27 @@
+-- The rule's numbers are those of the first byte; the column's products and costs make one step.
+use mathlib.Core.Path.{ap, ◌∙◌, sym, subst}
+use Prim.Native.Nat.{◌^◌}
+use Rattle.rules.specs.declared.Rule.{Rule}
+use Rattle.sweep.proofs.Laws.{step_asks, step-done}
+use Rattle.checknode.specs.inner.Asks.{Times}
+use Rattle.sweep.specs.inner.Cells.{Sized}
+use Rattle.sweep.proofs.columns.advance.Goals as goal
+
+pub column-requires : goal.column-requires
+column-requires c =
+    record {
+      times = subst (λ p. Times p c.args.h) (sym (ap (λ (r : Rule). r.p) c.rule_of-rule.ensures)) c.requires.times;
+      sized = subst (λ p. Sized (2 ^ p) c.args.costs.now c.args.row.now c.args.moves.now) (sym (ap (λ (r : Rule). r.p) c.rule_of-rule.ensures)) c.requires.sized;
+    }
+
+pub step-requires : goal.step-requires
+step-requires c =
+    record {
+      steps = (step_asks c.args.first c.args.h c.args.costs.now c.requires.times (ap (λ (r : Rule). r.p) c.rule_of-rule.ensures) c.column.ensures.term c.column.ensures.row_then c.column.ensures.moves_then c.u8_to_usize-s.ensures.0 c.size.ensures.0 (c.u8_to_usize.ensures.0 ∙ ap (λ (r : Rule). r.k) c.rule_of-rule.ensures) (ap (λ (r : Rule). r.greatest) c.rule_of-rule.ensures) c.args.cells.now c.args.out.now c.requires.sized.has_zero c.requires.cells_len.0 c.requires.cells_len.1).0;
+      row_len = (step_asks c.args.first c.args.h c.args.costs.now c.requires.times (ap (λ (r : Rule). r.p) c.rule_of-rule.ensures) c.column.ensures.term c.column.ensures.row_then c.column.ensures.moves_then c.u8_to_usize-s.ensures.0 c.size.ensures.0 (c.u8_to_usize.ensures.0 ∙ ap (λ (r : Rule). r.k) c.rule_of-rule.ensures) (ap (λ (r : Rule). r.greatest) c.rule_of-rule.ensures) c.args.cells.now c.args.out.now c.requires.sized.has_zero c.requires.cells_len.0 c.requires.cells_len.1).1.0;
+      cells_len = (step_asks c.args.first c.args.h c.args.costs.now c.requires.times (ap (λ (r : Rule). r.p) c.rule_of-rule.ensures) c.column.ensures.term c.column.ensures.row_then c.column.ensures.moves_then c.u8_to_usize-s.ensures.0 c.size.ensures.0 (c.u8_to_usize.ensures.0 ∙ ap (λ (r : Rule). r.k) c.rule_of-rule.ensures) (ap (λ (r : Rule). r.greatest) c.rule_of-rule.ensures) c.args.cells.now c.args.out.now c.requires.sized.has_zero c.requires.cells_len.0 c.requires.cells_len.1).1.1;
+    }
+
+pub returns : goal.returns
+returns c =
+    step-done c.args.first c.args.h c.args.costs.now c.requires.times (ap (λ (r : Rule). r.p) c.rule_of-rule.ensures) c.column.ensures.term c.column.ensures.row_then c.column.ensures.moves_then c.u8_to_usize-s.ensures.0 c.size.ensures.0 (c.u8_to_usize.ensures.0 ∙ ap (λ (r : Rule). r.k) c.rule_of-rule.ensures) (ap (λ (r : Rule). r.greatest) c.rule_of-rule.ensures) c.args.cells.now c.step.ensures

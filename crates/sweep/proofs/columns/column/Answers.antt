@@ -1,0 +1,31 @@
+-- The decision's product stands in the row at its symbol.
+use mathlib.Core.Path.{ap₂, ◌∙◌}
+use native.Mathlib.Omega.{arith}
+use Rattle.trellis.specs.Lists.{tab}
+use Rattle.sweep.specs.inner.Cells.{move_cost}
+use Rattle.checknode.proofs.Lining.{column-term}
+use Rattle.sweep.proofs.columns.column.Goals as goal
+
+pub products-requires : goal.products-requires
+products-requires c =
+    record {
+      times = c.requires.times;
+      row_len = (c.requires.sized.of_row, omega (arith, c.requires.sized.of_row, c.requires.sized.limit));
+    }
+
+pub move_costs-requires : goal.move_costs-requires
+move_costs-requires c =
+    omega (arith, c.requires.sized.of_costs, c.requires.sized.of_moves)
+
+pub bounds-row-z : goal.bounds-row-z
+bounds-row-z c =
+    omega (arith, c.decide_u8-z.ensures.0.0, c.requires.sized.has_zero, c.requires.sized.of_row, c.products.auto)
+
+pub returns : goal.returns
+returns c =
+    let costs = c.args.costs.now in
+    record {
+      term = column-term c.args.p c.args.h costs c.products.ensures c.decide_u8-z.ensures.0.0 c.requires.sized.has_zero;
+      row_then = c.products.ensures;
+      moves_then = c.move_costs.ensures ∙ ap₂ (λ z n. tab (move_cost costs z) n) c.decide_u8-z.ensures.0.0 c.requires.sized.of_moves;
+    }

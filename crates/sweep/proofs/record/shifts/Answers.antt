@@ -1,0 +1,14 @@
+-- The sum of all terms and one term make a shift.
+use Rattle.checknode.proofs.Resting.{shifts_law}
+use Rattle.sweep.proofs.record.shifts.Goals as goal
+
+pub terms-sum-requires : goal.terms-sum-requires
+terms-sum-requires c =
+    record {
+      ready = c.requires.ready;
+      out_len = c.requires.out_len;
+    }
+
+pub returns : goal.returns
+returns c =
+    shifts_law c.args.first c.args.weights.now c.args.costs.now c.requires.ready c.terms-sum.ensures.sum c.terms-sum.ensures.out_then c.shift_all.ensures
