@@ -1,5 +1,7 @@
 // Division in the field: a product with the inverse, which is read from a table. `times` and `divide` are total, so that every crate above
 // can call them with what it has.
+#![tactic(auto)]
+
 ghost use Rattle.std.specs.Prelude.{◌≡◌, ◌^◌, ◌≤◌, ◌<◌, T};
 ghost use Rattle.trellis.specs.Field.{product};
 ghost use Rattle.trellis.specs.Sizes.{most_size};
