@@ -1,4 +1,6 @@
 // The display's view of a stored record. The bench's view is the expansion.
+#![tactic(auto)]
+
 mod showing;
 
 ghost use Rattle.std.specs.Prelude.{◌≡◌};
