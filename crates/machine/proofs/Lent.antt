@@ -3,7 +3,7 @@ use mathlib.Core.Path.{◌≡◌, refl, sym, ap, ap₂, ◌∙◌}
 use mathlib.Core.Bool.{Bool, true, false}
 use mathlib.Core.Logic.{◌≢◌}
 use mathlib.Core.List.{List, ◌++◌, append_assoc}
-use Prim.Native.Nat.{ℕ, zero, suc, ◌+◌, ◌-◌, ◌≤◌, ◌<◌}
+use Prim.Native.Nat.{ℕ, zero, suc, ◌+◌, ◌*◌, ◌≤◌, ◌<◌}
 use native.Mathlib.Nat.{not-suc-le-zero}
 use native.Mathlib.Decide.{ℕ_discrete}
 use native.Mathlib.Omega.{arith}
@@ -12,10 +12,10 @@ use lib.ListN.{length, take, drop, length-take, length-drop, length-replicate, g
 use lib.Seq.{take_at, drop_at, take-add}
 use borrow.Author.Tests.{ne_eqb}
 use Rattle.trellis.specs.Lists.{pick, upto, part, patch, blocks}
-use Rattle.trellis.specs.Check.{Column}
+use Rattle.trellis.specs.Check.{Column, column}
 use Rattle.trellis.specs.Record.{record_length, record_of}
-use Rattle.machine.specs.CodeLine.{Edge, Code, size, rule, check}
-use Rattle.machine.specs.Machine.{Last, none, made, State, last_of, scaled, message, arriving, spread, update, iteration, start, Result, result, go, run, settled, found, not_found, place, used, record_in, records, piece_of, held}
+use Rattle.machine.specs.CodeLine.{Edge, Code, size, rule, check, edge_at}
+use Rattle.machine.specs.Machine.{Last, none, made, State, last_of, scaled, message, arriving, outgoing, spread, update, iteration, start, Result, result, go, run, settled, found, not_found, place, used, record_in, records, piece_of, held}
 use Rattle.machine.specs.Lent.{Lent, weights_of, message_lent, arriving_lent, costs_lent, record_lent, update_lent, iteration_lent, Ended, ended, go_lent}
 use Rattle.trellis.proofs.Lists.{of_up_to}
 use Rattle.trellis.proofs.Places.{map_ext}
@@ -52,8 +52,11 @@ arriving_ext p es f g P h = map_ext (λ n i. rw (h n (of_up_to i)))
 
 pub spread_ext : (p : ℕ) (es : List Edge) (cs : List Column) (f g : ℕ → List ℕ) (P : List ℕ) → ((n : ℕ) → n < length es → f n ≡ g n) → spread p es cs f P ≡ spread p es cs g P
 unfolding spread
-spread_ext p es cs f g P h = upto_ext (length es) _ _ P (λ n i Q. rw (h n i))
+spread_ext p es cs f g P h = upto_ext (length es) (put f) (put g) P (λ n i Q. rw (h n i))
   where
+    put : (ℕ → List ℕ) → ℕ → List ℕ → List ℕ
+    put k n Q = patch Q ((edge_at es n).column * p) p (outgoing p (column cs n).costs (k n))
+
     upto_ext : (k : ℕ) (a b : ℕ → List ℕ → List ℕ) (P : List ℕ) → ((n : ℕ) → n < k → (Q : List ℕ) → a n Q ≡ b n Q) → upto a k P ≡ upto b k P
     upto_ext zero a b P h = refl
     upto_ext (suc k) a b P h = h k (omega arith) (upto a k P) ∙ ap (b k) (upto_ext k a b P (λ n i. h n (omega arith)))

@@ -4,7 +4,7 @@ use mathlib.Core.Bool.{Bool, true, false, ◌||◌}
 use mathlib.Core.List.{List, ◌++◌}
 use Prim.Native.Nat.{ℕ, ◌+◌, ◌*◌, ◌≤◌, ◌<◌}
 use native.Mathlib.Omega.{arith}
-use lib.Dec.{eqb, ltb, leb, lt→ltb, le→leb}
+use lib.Dec.{eqb, leb, lt→ltb, le→leb}
 use lib.ListN.{length, get_or, drop, length-take, length-drop, get_or-append}
 use lib.Seq.{take_at}
 use Rattle.trellis.specs.Lists.{part, all_to}
