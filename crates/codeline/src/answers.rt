@@ -1,7 +1,7 @@
 // The numbers of a code line, and what the calls answer.
 
 // The numbers of a code line: the first byte, N, M, g and I.
-#[derive(Drop)]
+#[derive(Clone, Copy)]
 pub struct Numbers {
     pub first: u8,
     pub columns: u16,
@@ -11,7 +11,7 @@ pub struct Numbers {
 }
 
 // They, or the number of the refusal.
-#[derive(Drop)]
+#[derive(Clone, Copy)]
 pub enum Header {
     Read(Numbers),
     Refused(u8),
@@ -19,7 +19,7 @@ pub enum Header {
 
 // What a code line says to whoever lends the buffers: 0 or the number of its refusal, its numbers, and the length of its store in bytes.
 #[repr(C)]
-#[derive(Drop)]
+#[derive(Clone, Copy)]
 pub struct Summary {
     pub number: u8,
     pub first: u8,

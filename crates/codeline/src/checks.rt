@@ -9,28 +9,28 @@ use crate::reader;
 use scalar::sizes;
 
 // An edge's column and weight, and the place behind it; or the number of the refusal.
-#[derive(Drop)]
+#[derive(Clone, Copy)]
 enum Edge {
     Is(u16, u8, usize),
     Refused(u8),
 }
 
 // The place behind a check's edges, or the number of the refusal.
-#[derive(Drop)]
+#[derive(Clone, Copy)]
 enum Edges {
     Read(usize),
     Refused(u8),
 }
 
 // A check's degree, and the place behind the check; or the number of the refusal.
-#[derive(Drop)]
+#[derive(Clone, Copy)]
 enum Check {
     Degree(usize, usize),
     Refused(u8),
 }
 
 // How many edges all checks have together, or the number of the refusal.
-#[derive(Drop)]
+#[derive(Clone, Copy)]
 pub enum Checks {
     Total(usize),
     Refused(u8),

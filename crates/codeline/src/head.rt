@@ -9,7 +9,7 @@ use crate::reader;
 use scalar::sizes;
 
 // What stands before the checks, and the place behind it.
-#[derive(Drop)]
+#[derive(Clone, Copy)]
 pub struct Front {
     pub header: Header,
     pub next: usize,

@@ -1,4 +1,6 @@
 // The code line: its numbers, and its checks in tables.
+#![tactic(auto)]
+
 pub mod answers;
 mod checks;
 mod head;

@@ -10,7 +10,7 @@ use crate::checks::Checks;
 use crate::{checks, head};
 
 // The header, and how many edges the checks have together.
-#[derive(Drop)]
+#[derive(Clone, Copy)]
 pub struct LineRead {
     pub header: Header,
     pub edges: usize,
