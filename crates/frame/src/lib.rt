@@ -1,5 +1,7 @@
 // A frame under a code: its tests, those of the buffers, its costs in the cost buffer, and the tests of costs and records from which an
 // iteration goes on.
+#![tactic(auto)]
+
 mod columns;
 mod stored;
 
