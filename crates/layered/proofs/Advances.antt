@@ -19,7 +19,8 @@ use Rattle.machine.specs.inner.LentEarly.{next_lent, stop_lent}
 use Rattle.machine.specs.inner.Tables.{edges_before, bytes_before, table_at}
 use Rattle.machine.specs.inner.InRange.{Advancing}
 use Rattle.trellis.proofs.Loops.{length-tab}
-use Rattle.machine.proofs.Changed.{redone, redecided_lent}
+use Rattle.machine.proofs.Changed.{redone}
+use Rattle.machine.proofs.Redone.{redecided_lent}
 use Rattle.machine.proofs.EarlyPassing.{next-check, check-small, advancing-start, advanced, next-formed}
 use Rattle.machine.proofs.InTables.{columns-length, degree_is, column-part}
 use Rattle.codeline.specs.declared.answers.Numbers.{Numbers}

@@ -1,4 +1,6 @@
 // Above the check layer and the code line: the layered decoder.
+#![tactic(auto)]
+
 pub mod answers;
 mod column;
 mod decoding;

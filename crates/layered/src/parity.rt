@@ -74,7 +74,7 @@ fn term_at(numbers: Numbers, columns: &[u16], weights: &[u8], symbols: &[u8], ed
 }
 
 // A check by its number, with its first edge in the tables.
-#[derive(Drop)]
+#[derive(Clone, Copy)]
 pub struct CheckAt {
     pub check: usize,
     pub edge: usize,

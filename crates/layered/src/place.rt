@@ -8,7 +8,7 @@ use crate::update;
 use codeline::answers::Numbers;
 
 // The check's number, its first edge in the tables, its record's first byte in the store.
-#[derive(Drop)]
+#[derive(Clone, Copy)]
 pub struct Place {
     pub check: usize,
     pub edge: usize,

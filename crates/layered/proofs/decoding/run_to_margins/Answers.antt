@@ -1,0 +1,23 @@
+-- The margins have as many columns as the symbols, whose costs the run keeps in number.
+use mathlib.Core.Path.{◌≡◌, ap₂, ◌∙◌}
+use Prim.Native.Nat.{◌*◌}
+use native.Mathlib.Omega.{arith}
+use Rattle.machine.specs.Machine.{margins}
+use Rattle.trellis.specs.Lists.{tab}
+use Rattle.trellis.specs.Check.{decide}
+use Rattle.trellis.specs.Rules.{size_of}
+use Rattle.machine.specs.CodeLine.{column_of}
+use Rattle.layered.proofs.Satisfied.{margins_are}
+use Rattle.layered.proofs.decoding.run_to_margins.Goals as goal
+
+pub margins-requires : goal.margins-requires
+margins-requires c =
+    let e : c.size.result ≡ size_of c.args.numbers.first = c.size.ensures.0 in omega (arith, c.requires.0.iterate.running.passable.ranged.full, ap₂ (λ a b. a * b) c.requires.1 e, c.run-o.auto)
+
+pub returns : goal.returns
+returns c =
+    record {
+      ends = c.run-o.ensures.ends;
+      symbols_then = c.run-o.ensures.symbols_then;
+      margins_then = c.margins.ensures ∙ ap₂ (λ q n. tab (λ c₁. (decide (column_of q c.run-o.new.costs c₁)).margin) n) c.size.ensures.0 c.requires.1 ∙ margins_are c.args.numbers c.args.degrees.now c.args.columns.now c.args.weights.now c.run-o.new.costs;
+    }

@@ -1,0 +1,16 @@
+-- No check that is not satisfied, of all.
+use mathlib.Core.Path.{refl, ◌∙◌, sym}
+use native.Mathlib.Omega.{arith}
+use Rattle.codeline.specs.inner.Coding.{code_of}
+use Rattle.machine.specs.Machine.{symbols}
+use Rattle.layered.proofs.Satisfied.{first-not-all}
+use Rattle.layered.proofs.Runs.{checks-count}
+use Rattle.layered.proofs.parity.holds.Goals as goal
+
+pub unsatisfied-requires : goal.unsatisfied-requires
+unsatisfied-requires c =
+    (c.requires, record { edge_is = refl; ordered = omega arith; inside = omega (arith, c.u8_to_usize-count.ensures.0) })
+
+pub returns : goal.returns
+returns c =
+    first-not-all (code_of c.args.numbers c.args.degrees.now c.args.columns.now c.args.weights.now) c.args.symbols.now c.args.degrees.now c.unsatisfied.result c.u8_to_usize-count.result (c.u8_to_usize-count.ensures.0 ∙ sym (checks-count c.args.numbers c.args.degrees.now c.args.columns.now c.args.weights.now c.requires.coded)) c.unsatisfied.ensures

@@ -1,0 +1,18 @@
+-- What an iteration leaves may be tested.
+use mathlib.Core.Path.{refl}
+use Rattle.machine.specs.Machine.{symbols, margins}
+use Rattle.layered.proofs.Steps.{after-room}
+use Rattle.layered.proofs.stages.iterated.Goals as goal
+
+pub tested-requires : goal.tested-requires
+tested-requires c =
+    after-room c.args.numbers c.args.degrees.now c.args.columns.now c.args.weights.now c.args.costs.now c.args.store.now c.args.symbols.now c.args.margins.now c.args.arrived.now c.args.sent.now c.args.start c.requires _ _ _ _ c.iterate.ensures refl refl
+
+pub returns : goal.returns
+returns c =
+    record {
+      test = c.tested.ensures.test;
+      buffers = c.iterate.ensures;
+      symbols_then = c.tested.ensures.symbols_then;
+      margins_then = c.tested.ensures.margins_then;
+    }
