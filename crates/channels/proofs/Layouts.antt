@@ -112,14 +112,14 @@ module _ (z : Layout) (ds cs ws : List ℕ) (H : Fitted z ds cs ws) where
             symbols = full-symbols;
             margins = full-margins;
             costs = full-costs;
-            store = length_part b.store (c * used C) (used C) (rw H.Store-is at for_store);
+            store = length_part b.store (c * used C) (used C) (rw H.store_is at for_store);
           }
 
       abbrev pub store_part : List ℕ
       store_part = part b.store (c * z.store) (c * z.store + z.store - c * z.store)
 
       store-own : store_part ≡ own.store
-      store-own = between b.store z.store (used C) H.Store-is c
+      store-own = between b.store z.store (used C) H.store_is c
 
       -- put back
       abbrev pub put_back : List ℕ → List ℕ → List ℕ → List ℕ → Buffers
@@ -135,7 +135,7 @@ module _ (z : Layout) (ds cs ws : List ℕ) (H : Fitted z ds cs ws) where
           rw (
             put-between b.symbols x z.columns C.columns H.columns_is c,
             put-between b.costs P z.costs (C.columns * size C) H.costs_is c,
-            put-between b.store u z.store (used C) H.Store-is c,
+            put-between b.store u z.store (used C) H.store_is c,
             put-between b.margins x' z.columns C.columns H.columns_is c,
           )
 

@@ -24,7 +24,7 @@ one-room z ds cs ws H n b W c h =
     record {
       for_symbols = rw H.columns_is (omega (arith, W.for_symbols, column-room c n C.columns h));
       for_costs = rw H.costs_is (omega (arith, W.for_costs, column-room c n (C.columns * size C) h));
-      for_store = rw H.Store-is (omega (arith, W.for_store, column-room c n (used C) h));
+      for_store = rw H.store_is (omega (arith, W.for_store, column-room c n (used C) h));
       for_margins = rw H.columns_is (omega (arith, W.for_margins, column-room c n C.columns h));
     }
 

@@ -4,7 +4,7 @@ ghost use Rattle.channels.specs.inner.Layouts.{LaidOut};
 use codeline::answers::Numbers;
 
 // The numbers of the code line, and the lengths of a channel's parts: N, N times q, and the M record lengths added up.
-#[derive(Drop)]
+#[derive(Clone, Copy)]
 pub struct Layout {
     pub numbers: Numbers,
     pub columns: usize,

@@ -1,4 +1,6 @@
 // One check layer, eight channels: up to eight frames under one code line, with one allowance of iterations for all.
+#![tactic(auto)]
+
 pub mod answers;
 mod channel;
 mod layout;
