@@ -1,4 +1,6 @@
 // Encoding: "Given an accepted code line and N - M message symbols, write the N symbols."
+#![tactic(auto)]
+
 mod encoding;
 mod fill;
 mod form;
