@@ -1,4 +1,6 @@
 // Two frames of the same symbols as one.
+#![tactic(auto)]
+
 mod columns;
 mod combining;
 
