@@ -8,7 +8,7 @@ use field::Written;
 use scalar::sizes;
 
 // A digit's value, or the number of the refusal.
-#[derive(Drop)]
+#[derive(Clone, Copy)]
 enum Digit {
     Is(u8),
     Refused(u8),

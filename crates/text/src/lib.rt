@@ -1,5 +1,7 @@
 // Text: a line of hexadecimal digits, the printed line of a frame, and the program's whole output, block by block. No input or output is
 // done here.
+#![tactic(auto)]
+
 mod cut;
 mod hex;
 mod line_end;

@@ -2,7 +2,7 @@
 
 // What is kept from block to block beside the two buffers: how many bytes of the line so far, how many of the code line (0 before it is
 // read), and whether a refused code line has ended the program; and how many bytes the last call printed. All 0 and false at the start.
-#[derive(Drop)]
+#[derive(Clone, Copy)]
 pub struct State {
     pub len: usize,
     pub code: usize,
