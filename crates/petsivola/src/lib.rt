@@ -1,4 +1,7 @@
-// The public calls for C and Rust: include/petsivola.h has each with its parameters. A slice is a pointer and a length.
+// The public calls for C and Rust, with what each answers packed in a number: include/petsivola.h has each with its parameters. The crate
+// petsivola_c exports them to C.
+#![tactic(auto)]
+
 ghost use Rattle.std.specs.Prelude.{◌≡◌, ◌≤◌};
 ghost use Rattle.field.specs.Answers.{element_reply, product_reply, written_reply};
 ghost use Rattle.checknode.specs.Answers.{check_reply, check_leaves};
@@ -63,62 +66,54 @@ fn of_answer(a: Answer) -> u32
     }
 }
 
-#[unsafe(no_mangle)]
-pub extern "C" fn petsivola_product(p: u8, a: u8, b: u8) -> u32
+pub fn petsivola_product(p: u8, a: u8, b: u8) -> u32
     ensures { Packs result (product_reply p a b) }
 {
     of_element(field::product(p, a, b))
 }
 
-#[unsafe(no_mangle)]
-pub extern "C" fn petsivola_check(first: u8, weights: &[u8], costs: &[u8], out: &mut [u8]) -> u32
+pub fn petsivola_check(first: u8, weights: &[u8], costs: &[u8], out: &mut [u8]) -> u32
     ensures reply { Packs result (check_reply first weights.now costs.now out.old) }
     ensures out_then { out.new ≡ check_leaves first weights.now costs.now out.old }
 {
     of_written(checknode::check(first, weights, costs, out))
 }
 
-#[unsafe(no_mangle)]
-pub extern "C" fn petsivola_sweep(first: u8, weights: &[u8], costs: &[u8], out: &mut [u8]) -> u32
+pub fn petsivola_sweep(first: u8, weights: &[u8], costs: &[u8], out: &mut [u8]) -> u32
     ensures reply { Packs result (check_reply first weights.now costs.now out.old) }
     ensures out_then { out.new ≡ check_leaves first weights.now costs.now out.old }
 {
     of_written(sweep::sweep(first, weights, costs, out))
 }
 
-#[unsafe(no_mangle)]
-pub extern "C" fn petsivola_expand(first: u8, weights: &[u8], bytes: &[u8], out: &mut [u8]) -> u32
+pub fn petsivola_expand(first: u8, weights: &[u8], bytes: &[u8], out: &mut [u8]) -> u32
     ensures reply { Packs result (expand_reply first weights.now bytes.now out.old) }
     ensures out_then { out.new ≡ expand_leaves first weights.now bytes.now out.old }
 {
     of_written(expansion::expand(first, weights, bytes, out))
 }
 
-#[unsafe(no_mangle)]
-pub extern "C" fn petsivola_display(first: u8, weights: &[u8], bytes: &[u8], out: &mut [u8]) -> u32
+pub fn petsivola_display(first: u8, weights: &[u8], bytes: &[u8], out: &mut [u8]) -> u32
     ensures reply { Packs result (display_reply first weights.now bytes.now out.old) }
     ensures out_then { out.new ≡ display_leaves first weights.now bytes.now out.old }
 {
     of_written(display::display(first, weights, bytes, out))
 }
 
-#[unsafe(no_mangle)]
-pub extern "C" fn petsivola_line(text: &[u8], out: &mut [u8]) -> u32
+pub fn petsivola_line(text: &[u8], out: &mut [u8]) -> u32
     ensures reply { Packs result (line_reply text.now out.old) }
     ensures out_then { out.new ≡ line_leaves text.now out.old }
 {
     of_written(text::line(text, out))
 }
 
-#[unsafe(no_mangle)]
-pub extern "C" fn petsivola_code_line(code: &[u8]) -> Summary
+pub fn petsivola_code_line(code: &[u8]) -> Summary
     ensures { Tells (summary_of (parse code.now)) result }
 {
     codeline::describe(code)
 }
 
-#[unsafe(no_mangle)]
-pub extern "C" fn petsivola_decode(
+pub fn petsivola_decode(
     code: &[u8],
     frame: &[u8],
     symbols: &mut [u8],
@@ -144,8 +139,7 @@ pub extern "C" fn petsivola_decode(
     of_answer(layered::decode(code, frame, symbols, costs, store, margins))
 }
 
-#[unsafe(no_mangle)]
-pub extern "C" fn petsivola_decode_early(
+pub fn petsivola_decode_early(
     code: &[u8],
     frame: &[u8],
     symbols: &mut [u8],
@@ -171,16 +165,14 @@ pub extern "C" fn petsivola_decode_early(
     of_answer(layered::decode_early(code, frame, symbols, costs, store, margins))
 }
 
-#[unsafe(no_mangle)]
-pub extern "C" fn petsivola_encode(code: &[u8], message: &[u8], symbols: &mut [u8]) -> u32
+pub fn petsivola_encode(code: &[u8], message: &[u8], symbols: &mut [u8]) -> u32
     ensures reply { Packs result (encoding code.now message.now symbols.old).reply }
     ensures symbols_then { symbols.new ≡ (encoding code.now message.now symbols.old).out }
 {
     of_written(encoder::encode(code, message, symbols))
 }
 
-#[unsafe(no_mangle)]
-pub extern "C" fn petsivola_window_write(
+pub fn petsivola_window_write(
     window: Registers,
     address: u8,
     value: u8,
@@ -200,16 +192,14 @@ pub extern "C" fn petsivola_window_write(
     )
 }
 
-#[unsafe(no_mangle)]
-pub extern "C" fn petsivola_window_read(window: Registers, address: u8) -> u8
+pub fn petsivola_window_read(window: Registers, address: u8) -> u8
     ensures { result ≡ read (bytes_of window) address }
 {
     window::read(window, address)
 }
 
 // 1 where the interrupt is raised, else 0.
-#[unsafe(no_mangle)]
-pub extern "C" fn petsivola_window_interrupt(window: Registers) -> u8
+pub fn petsivola_window_interrupt(window: Registers) -> u8
     ensures { result ≡ pick (interrupt (bytes_of window)) 1 0 }
 {
     if window::interrupt(window) {
@@ -218,8 +208,7 @@ pub extern "C" fn petsivola_window_interrupt(window: Registers) -> u8
     0
 }
 
-#[unsafe(no_mangle)]
-pub extern "C" fn petsivola_channels(
+pub fn petsivola_channels(
     count: u8,
     allowance: u32,
     code: &[u8],
@@ -238,8 +227,7 @@ pub extern "C" fn petsivola_channels(
     )
 }
 
-#[unsafe(no_mangle)]
-pub extern "C" fn petsivola_combine(code: &[u8], first: &[u8], second: &[u8], out: &mut [u8]) -> u32
+pub fn petsivola_combine(code: &[u8], first: &[u8], second: &[u8], out: &mut [u8]) -> u32
     ensures reply { Packs result (combining code.now first.now second.now out.old).reply }
     ensures out_then { out.new
         ≡ (combining code.now first.now second.now out.old).out }

@@ -1,0 +1,15 @@
+-- The reply of the call, packed; what it writes is short enough for the lower half.
+use mathlib.Core.Path.{subst}
+use Rattle.petsivola.specs.Packed.{Packs}
+use Rattle.petsivola.proofs.Short.{word-short}
+use Rattle.petsivola.proofs.petsivola_encode.Goals as goal
+
+pub of_written-requires : goal.of_written-requires
+of_written-requires c = rw c.encode.ensures.reply (word-short _ _ _)
+
+pub returns : goal.returns
+returns c =
+    record {
+      reply = subst (Packs _) c.encode.ensures.reply c.of_written.ensures;
+      symbols_then = c.encode.ensures.symbols_then;
+    }

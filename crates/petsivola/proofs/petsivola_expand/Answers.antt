@@ -1,0 +1,17 @@
+-- The reply of the call, packed; what it writes is short enough for the lower half.
+use mathlib.Core.Path.{subst}
+use native.Mathlib.Omega.{arith}
+use native.Mathlib.Nat.{le_trans}
+use Rattle.expansion.proofs.Values.{expand_short}
+use Rattle.petsivola.specs.Packed.{Packs}
+use Rattle.petsivola.proofs.petsivola_expand.Goals as goal
+
+pub of_written-requires : goal.of_written-requires
+of_written-requires c = rw c.expand.ensures.reply (le_trans (expand_short _ _ _ _) (omega arith))
+
+pub returns : goal.returns
+returns c =
+    record {
+      reply = subst (Packs _) c.expand.ensures.reply c.of_written.ensures;
+      out_then = c.expand.ensures.out_then;
+    }
