@@ -1,157 +1,154 @@
 // Runs the cases of the specification's bench table, with the degrees of today, through the public calls and prints what they answer, a
 // line each; the file stdout beside src/ holds what is expected.
+#![tactic(auto)]
+
 use field::{Element, Written};
-use libc::STDOUT_FILENO;
+use std::io;
 
 fn digit(n: u8) -> u8 {
     let k = n % 16;
     if k < 10 { b'0' + k } else { b'A' + (k - 10) }
 }
 
-fn print_byte(b: u8) {
+fn print_byte(rt: &impl Print, b: u8) -> io::Result<()> {
     let digits = [digit(b / 16), digit(b)];
-    io::write_all(STDOUT_FILENO, &digits);
+    rt.write_all(&digits)
 }
 
-fn print_bytes(s: &[u8]) {
-    let mut i = 0;
-    while i < s.len() {
-        print_byte(s[i]);
-        i += 1;
+fn print_bytes(rt: &impl Print, s: &[u8]) -> io::Result<()> {
+    for b in s {
+        print_byte(rt, *b)?;
     }
+    Ok(())
 }
 
-fn end_line() {
-    io::write_all(STDOUT_FILENO, b"\n");
+fn end_line(rt: &impl Print) -> io::Result<()> {
+    rt.write_all(b"\n")
 }
 
-fn product_case(p: u8, a: u8, b: u8) {
+fn product_case(rt: &impl Print, p: u8, a: u8, b: u8) -> io::Result<()> {
     match field::product(p, a, b) {
         Element::Is(x) => {
-            io::write_all(STDOUT_FILENO, b"product ");
-            print_byte(x);
+            rt.write_all(b"product ")?;
+            print_byte(rt, x)?;
         }
-        Element::Refused(k) => {
-            io::write_all(STDOUT_FILENO, b"refused ");
-            io::print_decimal(STDOUT_FILENO, k as u64);
-        }
+        Element::Refused(k) => print!(rt; "refused {k}")?,
     }
-    end_line();
+    end_line(rt)
 }
 
 // What a check writes, or its refusal.
-fn record_case(first: u8, weights: &[u8], costs: &[u8]) {
+fn record_case(rt: &impl Print, first: u8, weights: &[u8], costs: &[u8]) -> io::Result<()> {
     let mut record = [0u8; 473];
     print_record(
+        rt,
         checknode::check(first, weights, costs, &mut record),
         &record,
-    );
+    )
 }
 
-fn print_record(answer: Written, record: &[u8]) {
+fn print_record(rt: &impl Print, answer: Written, record: &[u8]) -> io::Result<()> {
     match answer {
         Written::Bytes(n) => {
-            io::write_all(STDOUT_FILENO, b"record ");
+            rt.write_all(b"record ")?;
             if n <= record.len() {
-                print_bytes(&record[..n]);
+                print_bytes(rt, &record[..n])?;
             }
         }
-        Written::Refused(k) => {
-            io::write_all(STDOUT_FILENO, b"refused ");
-            io::print_decimal(STDOUT_FILENO, k as u64);
-        }
+        Written::Refused(k) => print!(rt; "refused {k}")?,
     }
-    end_line();
+    end_line(rt)
 }
 
 // A check of d columns of cost 0, weights 1, and the expansion of its record (of no record where the check is refused): how many bytes each
 // writes, or its refusal.
-fn degree_case(weights: &[u8], costs: &[u8]) {
+fn degree_case(rt: &impl Print, weights: &[u8], costs: &[u8]) -> io::Result<()> {
     let mut record = [0u8; 473];
     let answer = checknode::check(2, weights, costs, &mut record);
-    print_count(answer);
-    expand_case(answer, weights, &record);
+    print_count(rt, answer)?;
+    expand_case(rt, answer, weights, &record)
 }
 
-fn expand_case(answer: Written, weights: &[u8], record: &[u8]) {
+fn expand_case(rt: &impl Print, answer: Written, weights: &[u8], record: &[u8]) -> io::Result<()> {
     let mut out = [0u8; 128];
     match answer {
         Written::Bytes(n) => {
             if n <= record.len() {
-                print_count(expansion::expand(2, weights, &record[..n], &mut out));
+                print_count(rt, expansion::expand(2, weights, &record[..n], &mut out))?;
             }
         }
-        Written::Refused(_) => print_count(expansion::expand(2, weights, b"", &mut out)),
+        Written::Refused(_) => print_count(rt, expansion::expand(2, weights, b"", &mut out))?,
     }
+    Ok(())
 }
 
-fn print_count(answer: Written) {
+fn print_count(rt: &impl Print, answer: Written) -> io::Result<()> {
     match answer {
-        Written::Bytes(n) => {
-            io::write_all(STDOUT_FILENO, b"bytes ");
-            io::print_decimal(STDOUT_FILENO, n as u64);
-        }
-        Written::Refused(k) => {
-            io::write_all(STDOUT_FILENO, b"refused ");
-            io::print_decimal(STDOUT_FILENO, k as u64);
-        }
+        Written::Bytes(n) => print!(rt; "bytes {n}")?,
+        Written::Refused(k) => print!(rt; "refused {k}")?,
     }
-    end_line();
+    end_line(rt)
 }
 
-fn product_cases() {
-    product_case(3, 3, 3);
-    product_case(3, 4, 4);
-    product_case(4, 2, 9);
-    product_case(6, 2, 32);
-    product_case(7, 0, 0);
-    product_case(2, 4, 0);
+fn product_cases(rt: &impl Print) -> io::Result<()> {
+    product_case(rt, 3, 3, 3)?;
+    product_case(rt, 3, 4, 4)?;
+    product_case(rt, 4, 2, 9)?;
+    product_case(rt, 6, 2, 32)?;
+    product_case(rt, 7, 0, 0)?;
+    product_case(rt, 2, 4, 0)
 }
 
-fn record_cases() {
+fn record_cases(rt: &impl Print) -> io::Result<()> {
     record_case(
+        rt,
         2,
         b"\x01\x01\x01",
         b"\x00\x05\x07\x09\x00\x04\x08\x03\x00\x06\x02\x0A",
-    );
+    )?;
     record_case(
+        rt,
         2,
         b"\x01\x01\x01",
         b"\x05\x00\x09\x07\x00\x04\x08\x03\x00\x06\x02\x0A",
-    );
+    )?;
     record_case(
+        rt,
         2,
         b"\x01\x01\x01",
         b"\x00\x01\x09\x09\x00\x09\x01\x09\x00\x09\x09\x09",
-    );
+    )?;
     record_case(
+        rt,
         2,
         b"\x01\x01\x01",
         b"\x00\x00\x00\x00\x00\x00\x00\x00\x00\x00\x00\x00",
-    );
+    )?;
     record_case(
+        rt,
         2,
         b"\x01\x01\x01",
         b"\x00\xFF\xFF\xFF\x00\xFF\xFF\xFF\x00\xFF\xFF\xFF",
-    );
+    )?;
     record_case(
+        rt,
         2,
         b"\x01\x02\x03",
         b"\x09\x00\x09\x09\x09\x00\x09\x09\x09\x00\x09\x09",
-    );
+    )
 }
 
-fn degree_cases() {
+fn degree_cases(rt: &impl Print) -> io::Result<()> {
     let weights = [1u8; 33];
     let costs = [0u8; 132];
-    degree_case(&weights[..1], &costs[..4]);
-    degree_case(&weights[..2], &costs[..8]);
-    degree_case(&weights[..32], &costs[..128]);
-    degree_case(&weights, &costs);
+    degree_case(rt, &weights[..1], &costs[..4])?;
+    degree_case(rt, &weights[..2], &costs[..8])?;
+    degree_case(rt, &weights[..32], &costs[..128])?;
+    degree_case(rt, &weights, &costs)
 }
 
-fn main() {
-    product_cases();
-    record_cases();
-    degree_cases();
+fn main(rt: HostRuntime) -> io::Result<()> {
+    product_cases(&rt)?;
+    record_cases(&rt)?;
+    degree_cases(&rt)
 }
