@@ -16,18 +16,20 @@ test:
 
 # Proves what changed.
 check:
-	rt check
+	rt all check
 
 # The must-fail edits that stand outside the gate: every one must be refused.
 mutants:
 	bash scripts/mutants
 
 library:
-	rt staticlib petsivola < /dev/null
+	cd crates/petsivola_c && rt lib < /dev/null
+	@install -C -D -m 644 crates/petsivola_c/out/libpetsivola_c.a $(archive)
 
-# On standard error, since run is a filter.
+# rt run builds the program and runs it, here on no input; what rt says comes on standard error, since run is a filter.
 program:
-	@rt check decode < /dev/null >&2
+	@cd crates/decode && rt run < /dev/null > /dev/null
+	@install -C -D -m 755 crates/decode/out/decode $(decode)
 
 # The static library and the program beside the independent decoder: ROUNDS rounds, each as long as in the gate.
 compare: library program

@@ -2,7 +2,7 @@
  * boxes: a clean frame, two with errors, and one that is refused. An allowance of 3 iterations is too
  * small for all: one frame with errors is found and the other is spent. With an allowance that is
  * enough both are found. Prints what became of each channel, as in channels.out. From the repository's
- * root, after rt staticlib petsivola:
+ * root, after make library:
  *
  *     gcc -std=c99 -Wall -Wextra -Werror -pedantic -Iinclude examples/channels.c \
  *         target/staticlib/libpetsivola.a -o target/example-channels && target/example-channels

@@ -2,7 +2,7 @@
  * box sends the same six symbols after each blow. Three of them arrive wrong each time, and neither frame
  * is found; combined, two are still wrong, and decoding corrects them. A second frame that is cut short is
  * refused. Prints what became of each frame, as in combine.out. From the repository's root, after
- * rt staticlib petsivola:
+ * make library:
  *
  *     gcc -std=c99 -Wall -Wextra -Werror -pedantic -Iinclude examples/combine.c \
  *         target/staticlib/libpetsivola.a -o target/example-combine && target/example-combine

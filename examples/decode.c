@@ -2,7 +2,7 @@
  * found, one iteration, symbols 1, 1, 0. The margins, not printed, are 1, 1, 1: with each symbol the
  * next one costs 1 more. The code line says how long the buffers have to be, so that main would do the
  * same for any other; encode.c has buffers for one code, without a heap. From the repository's root,
- * after rt staticlib petsivola:
+ * after make library:
  *
  *     gcc -std=c99 -Wall -Wextra -Werror -pedantic -Iinclude examples/decode.c \
  *         target/staticlib/libpetsivola.a -o target/example-c && target/example-c

@@ -2,7 +2,7 @@
  * towards and nothing else, and the bench gets every cost that was sent. Two checks with the same decisions
  * and other costs look the same in the truck, and not at the bench. A damaged record is refused by both.
  * Prints what each of them reads, as in display.out. From the repository's root, after
- * rt staticlib petsivola:
+ * make library:
  *
  *     gcc -std=c99 -Wall -Wextra -Werror -pedantic -Iinclude examples/display.c \
  *         target/staticlib/libpetsivola.a -o target/example-display && target/example-display

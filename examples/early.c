@@ -3,7 +3,7 @@
  * petsivola_decode tests after each iteration, which is four check updates, and petsivola_decode_early
  * after each update, so it needs fewer. Stopped inside the first iteration it writes the records of the
  * updated checks alone. A frame that is cut short is refused. Prints the updates of both calls, as in
- * early.out. From the repository's root, after rt staticlib petsivola:
+ * early.out. From the repository's root, after make library:
  *
  *     gcc -std=c99 -Wall -Wextra -Werror -pedantic -Iinclude examples/early.c \
  *         target/staticlib/libpetsivola.a -o target/example-early && target/example-early

@@ -1,6 +1,6 @@
 /* Encodes a message, sends it bit by bit through noise, and decodes what arrives. Prints the message,
  * the word that was sent, the symbols that arrived, the word that was decoded and how sure each of its
- * symbols is, as in encode.out. From the repository's root, after rt staticlib petsivola:
+ * symbols is, as in encode.out. From the repository's root, after make library:
  *
  *     gcc -std=c99 -Wall -Wextra -Werror -pedantic -Iinclude examples/encode.c \
  *         target/staticlib/libpetsivola.a -o target/example-encode && target/example-encode

@@ -1,7 +1,7 @@
 /* Decodes frames with several threads: prints what the program decode prints for the same input, in the
  * same order, and on standard error how many frames a second that were. The library keeps no state, so
  * a frame is the unit of work and each thread needs no more than lent buffers of its own. From the
- * repository's root, after rt staticlib petsivola:
+ * repository's root, after make library:
  *
  *     gcc -std=c99 -Wall -Wextra -Werror -pedantic -O2 -pthread -Iinclude examples/parallel.c \
  *         target/staticlib/libpetsivola.a -o target/example-parallel

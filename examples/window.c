@@ -1,7 +1,7 @@
 /* Decodes through the register window, as a receiver board does: unmask, load, one iteration after
  * another until the interrupt is raised, read what came, clear it. A second frame is refused. Prints the
  * registers after each step, and the symbols of that moment, as in window.out. From the repository's
- * root, after rt staticlib petsivola:
+ * root, after make library:
  *
  *     gcc -std=c99 -Wall -Wextra -Werror -pedantic -Iinclude examples/window.c \
  *         target/staticlib/libpetsivola.a -o target/example-window && target/example-window

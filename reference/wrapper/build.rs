@@ -1,4 +1,4 @@
-//! Links the proved static library, `libpetsivola.a`. It is not built here: `rt staticlib petsivola`
+//! Links the proved static library, `libpetsivola.a`. It is not built here: `make library`
 //! proves it and writes it.
 
 use std::env;
@@ -8,7 +8,7 @@ use std::path::{Path, PathBuf};
 /// starts at this package.
 const DIRECTORY_VARIABLE: &str = "PETSIVOLA_LIB_DIR";
 
-/// Where `rt staticlib` writes in this repository, from this package.
+/// Where `make library` writes in this repository, from this package.
 const BUILT_HERE: &str = "../../target/staticlib";
 
 const ARCHIVE: &str = "libpetsivola.a";
@@ -22,7 +22,7 @@ fn main() {
     println!("cargo::rerun-if-changed={}", archive.display());
     if !archive.is_file() {
         println!(
-            "cargo::error=there is no {}: build it with 'rt staticlib petsivola' at the \
+            "cargo::error=there is no {}: build it with 'make library' at the \
              repository's root, or name its directory in {DIRECTORY_VARIABLE}",
             archive.display()
         );
