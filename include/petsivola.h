@@ -1,7 +1,7 @@
 /* petsivola.h - decoder and encoder for nonbinary LDPC frames, over buffers that the caller lends.
  *
- * C99. Link with libpetsivola.a or libpetsivola.so (x86-64 Linux). No heap, no files, no state between
- * calls, so calls from several threads need no lock.
+ * C99. Link with libpetsivola.a or libpetsivola.so (Linux on x86-64-v2: a processor with SSE4.2). No
+ * heap, no files, no state between calls, so calls from several threads need no lock.
  *
  * Stack of a call, as measured: decode, decode_early, window_write and channels 30 KB, check 19 KB,
  * sweep 36 KB, expand and display 5 KB, encode 9 KB, combine and code_line 4 KB, product and line under
@@ -42,8 +42,8 @@ extern "C" {
 /* The version; CHANGELOG.md says what each one brought. */
 #define PETSIVOLA_VERSION_MAJOR 1
 #define PETSIVOLA_VERSION_MINOR 14
-#define PETSIVOLA_VERSION_PATCH 0
-#define PETSIVOLA_VERSION "1.14.0"
+#define PETSIVOLA_VERSION_PATCH 1
+#define PETSIVOLA_VERSION "1.14.1"
 
 #define PETSIVOLA_NUMBER(result) ((uint32_t)(result) >> 16)
 #define PETSIVOLA_VALUE(result) ((uint32_t)(result) & 0xFFFFu)

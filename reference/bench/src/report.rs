@@ -77,12 +77,13 @@ impl Report<'_> {
              | C, SSE2 and AVX2 | for a check: the same algorithm by hand with intrinsics, gcc -O3 |\n\
              | sweeps | the textbook forward and backward sweeps in Rust; the proved library's own sweep, \
              `petsivola_sweep`, has a section further down |\n\n\
-             The library and all but AVX2 use what every x86-64 processor has. They run in turn, in one \
-             process and in short stretches; a time is the median over all stretches of {} rounds, and a \
-             ratio the median of the ratios within each stretch. Each round has checks of its own, and \
-             none is taken twice in a race: a processor that sees the same checks again learns to foretell \
-             their jumps. No lent buffer is cleared first: before each stretch, and outside its time, all \
-             are filled with A5, and after each round the results are compared byte for byte. A \
+             The library is compiled for x86-64-v2, which has SSE4.2; the others, all but AVX2, use what \
+             every x86-64 processor has. They run in turn, in one process and in short stretches; a time \
+             is the median over all stretches of {} rounds, and a ratio the median of the ratios within \
+             each stretch. Each round has checks of its own, and none is taken twice in a race: a \
+             processor that sees the same checks again learns to foretell their jumps. No lent buffer is \
+             cleared first: before each stretch, and outside its time, all are filled with A5, and after \
+             each round the results are compared byte for byte. A \
              difference stops the run.\n\n",
             self.rounds
         )
