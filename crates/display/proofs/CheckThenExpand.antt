@@ -1,5 +1,5 @@
 -- Claim 2 for the messages, as a claim about two calls: a check that is accepted, and an expansion of the record that it wrote. Over what the
--- calls promise (Demand-2-messages), and stated of the two functions' own contracts (check-then-expand).
+-- calls promise (Demand2Messages), and stated of the two functions' own contracts (check-then_expand).
 use mathlib.Core.Path.{◌≡◌, refl, sym, ap, ◌∙◌}
 use mathlib.Core.Bool.{Bool, true, false}
 use mathlib.Core.List.{List, ◌++◌}

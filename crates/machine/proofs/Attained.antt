@@ -1,4 +1,4 @@
--- The offset of 255 is used whole: on frame-6, in the second iteration, column 2 of check 0 has a symbol of cost 0 whose old scaled cost is 255.
+-- The offset of 255 is used whole: on frame_6, in the second iteration, column 2 of check 0 has a symbol of cost 0 whose old scaled cost is 255.
 --
 -- The check takes the files by name, each after what it imports. Through this one the examples come first: an edit of a definition then meets an
 -- equation that it makes false before a proof whose text it no longer fits.

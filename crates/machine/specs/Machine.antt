@@ -63,7 +63,7 @@ abbrev pub capped : List ℕ → List ℕ
 capped l = map (λ v. min 255 v) l
 
 -- "subtract the old record's scaled cost (0 if none), subtract the least over x, and cap at 255; this is Q." A difference may be below 0;
--- 255, which no scaled cost exceeds, is added first, and goes away again with the least: no difference of a run is cut off (never-cut,
+-- 255, which no scaled cost exceeds, is added first, and goes away again with the least: no difference of a run is cut off (never_cut,
 -- proofs/Offset.antt) (SPEC 6.5, 6.7)
 unfoldable pub incoming : ℕ → List ℕ → List ℕ → List ℕ
 incoming q P old = capped (less_least (map (λ x. get_or P x 0 + 255 - get_or old x 0) (up_to q)))

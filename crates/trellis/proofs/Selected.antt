@@ -70,9 +70,9 @@ of_selections (suc k) es l m =
     }))
     (Memᴰ.cases_cons m)
 
-not__t : (b : Bool) → T (not b) → T b → ⊥
-not__t true s t = s
-not__t false s t = t
+not_T : (b : Bool) → T (not b) → T b → ⊥
+not_T true s t = s
+not_T false s t = t
 
 T_not : (b : Bool) → (T b → ⊥) → T (not b)
 T_not true h = h tt
@@ -141,7 +141,7 @@ module _ (R : Rule) (cs : List Column) (P : Proper R cs) where
         few = omega (arith, few-set R cs P e.place j B.fits d s.1, deviates-small (column cs e.place) y, B.few);
         sum = sum-set R cs P e.place j B.fits d s.1 ∙ rw (s.0, B.sum) (sym (xor_assoc e.row (rows_of l) _));
         rest = λ m i k.
-            let m≢ : m ≢ e.place = λ q. not__t (among e.place ns) (fst_T (not (among e.place ns)) _ t) (rw q at k) in
+            let m≢ : m ≢ e.place = λ q. not_T (among e.place ns) (fst_T (not (among e.place ns)) _ t) (rw q at k) in
             get_or-set_other B.word e.place m y 0 m≢ ∙ B.rest m i (or_right (eqb m e.place) _ k);
       }
 

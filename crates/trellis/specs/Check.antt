@@ -129,7 +129,7 @@ unfoldable pub extra : Rule → List Column → ℕ → ℕ
 extra R cs a = smallest (map (λ n. sent_at R cs n a) (up_to (length cs)))
 
 -- The other words for it: "the least cost over choices for all columns with at most two deviations whose weighted sum is a plus the sum
--- of all h_k times z_k." Where the degree exceeds k it is E(a) (proofs/Sent.antt, extra-of-all) (SPEC 2.10)
+-- of all h_k times z_k." Where the degree exceeds k it is E(a) (proofs/Sent.antt, extra_of_all_lem) (SPEC 2.10)
 unfoldable pub extra_of_all : Rule → List Column → ℕ → ℕ
 extra_of_all R cs a = least_cost R cs (xor a (decided R cs))
 

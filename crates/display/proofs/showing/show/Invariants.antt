@@ -1,4 +1,4 @@
--- The loop fills the buffer from the front; at its end it is the display (shown-done).
+-- The loop fills the buffer from the front; at its end it is the display (shown_done).
 use mathlib.Core.Path.{◌≡◌}
 use mathlib.Core.List.{◌++◌}
 use Prim.Native.Nat.{◌-◌, ◌≤◌}

@@ -1,4 +1,4 @@
--- The loop leaves the first k columns' Q in front of the rest; a turn patches column k (gather-turn).
+-- The loop leaves the first k columns' Q in front of the rest; a turn patches column k (gather_turn).
 use mathlib.Core.Path.{◌≡◌}
 use Prim.Native.Nat.{◌-◌, ◌≤◌}
 use lib.ListN.{length}

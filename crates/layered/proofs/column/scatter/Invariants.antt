@@ -1,4 +1,4 @@
--- A turn patches one column of P, as the definition's recursion does (scatter-turn).
+-- A turn patches one column of P, as the definition's recursion does (scatter_turn).
 use mathlib.Core.Path.{◌≡◌}
 use Prim.Native.Nat.{◌-◌, ◌≤◌}
 use lib.ListN.{length}

@@ -1,4 +1,4 @@
--- Each call's equation is one hypothesis of update-is; the lengths that the calls ask for are kept by the calls before them.
+-- Each call's equation is one hypothesis of update_is; the lengths that the calls ask for are kept by the calls before them.
 use native.Mathlib.Omega.{arith}
 use Rattle.layered.proofs.Updates.{gather_fits, send_fits, scatter_fits, update_is}
 use Rattle.layered.proofs.update.update.Goals as goal

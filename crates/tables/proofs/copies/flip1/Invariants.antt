@@ -1,4 +1,4 @@
--- The rows of the block are written one behind the other (flip-turn).
+-- The rows of the block are written one behind the other (flip_turn).
 use Prim.Native.Nat.{◌-◌}
 use Rattle.tables.proofs.Flipping.{Flipped}
 use Rattle.tables.proofs.copies.flip1.Given as goal

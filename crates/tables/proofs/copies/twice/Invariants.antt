@@ -1,4 +1,4 @@
--- Each of the four loops writes the blocks one behind the other, by one law (doubling-turn).
+-- Each of the four loops writes the blocks one behind the other, by one law (doubling_turn).
 use Prim.Native.Nat.{◌-◌}
 use Rattle.tables.proofs.Copying.{Doubling}
 use Rattle.tables.proofs.copies.twice.Given as goal
