@@ -1,7 +1,7 @@
 //! The built program `decode` where its output takes no more: a reader that goes away, and a reader
 //! that is slow behind an output that does not wait. The program ends at the first write that fails.
-//! So it ends, and what was printed is the start of what the reference decoder's program prints: no
-//! line is missing before a printed one.
+//! So it ends, with status 1, and what was printed is the start of what the reference decoder's
+//! program prints: no line is missing before a printed one.
 
 mod built;
 mod numbered;
@@ -11,7 +11,7 @@ use std::io::{self, PipeReader, Read, Write};
 use std::os::fd::{AsRawFd, OwnedFd};
 use std::os::unix::fs::OpenOptionsExt;
 use std::os::unix::net::UnixStream;
-use std::process::{Child, Command, Stdio};
+use std::process::{Child, Command, ExitStatus, Stdio};
 use std::sync::mpsc;
 use std::thread;
 use std::time::{Duration, Instant};
@@ -49,6 +49,7 @@ fn reader_goes_away(mut command: Command) {
     let mut child = command
         .stdin(Stdio::piped())
         .stdout(Stdio::piped())
+        .stderr(Stdio::null())
         .spawn()
         .expect("the program starts");
     let mut stdin = child.stdin.take().expect("a piped input");
@@ -61,7 +62,7 @@ fn reader_goes_away(mut command: Command) {
         (read.map(|()| printed), ended_in_time(&mut child))
     });
     assert_start(&printed.expect("the program prints"), &expected);
-    assert!(ended, "the program goes on without a reader");
+    assert_failed(ended.expect("the program goes on without a reader"));
 }
 
 #[test]
@@ -124,7 +125,7 @@ fn full_output_does_not_wait(program: &Program, mut reader: impl Read + Send, ou
         (reading.join().expect("the reader reads"), ended)
     });
     assert_start(&printed.expect("the program prints"), &expected);
-    assert!(ended, "the program does not end");
+    assert_failed(ended.expect("the program does not end"));
 }
 
 /// The program with this output, which no one else keeps open.
@@ -133,22 +134,29 @@ fn start(program: &Program, output: OwnedFd) -> Child {
         .command()
         .stdin(Stdio::piped())
         .stdout(output)
+        .stderr(Stdio::null())
         .spawn()
         .expect("the program starts")
 }
 
-/// Whether the program ends in time; it is stopped if not.
-fn ended_in_time(child: &mut Child) -> bool {
+/// How the program ends, if it does in time; it is stopped if not.
+fn ended_in_time(child: &mut Child) -> Option<ExitStatus> {
     let start = Instant::now();
     while start.elapsed() < PATIENCE {
-        if child.try_wait().expect("a child to wait for").is_some() {
-            return true;
+        let ended = child.try_wait().expect("a child to wait for");
+        if ended.is_some() {
+            return ended;
         }
         thread::sleep(Duration::from_millis(5));
     }
     child.kill().expect("a child to stop");
     child.wait().expect("a child to wait for");
-    false
+    None
+}
+
+/// The program itself says that a write failed: no signal ended it.
+fn assert_failed(status: ExitStatus) {
+    assert_eq!(status.code(), Some(1), "the program ends with {status}");
 }
 
 /// Something was printed, and it is the start of what is expected.
