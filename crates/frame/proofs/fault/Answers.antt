@@ -1,7 +1,6 @@
 -- The frame's faults come first, then those of the buffers.
 use mathlib.Core.Path.{refl}
 use lib.ListN.{length}
-use Rattle.machine.specs.Machine.{symbols, margins}
 use Rattle.frame.proofs.Frames.{fault_frame, fault_room}
 use Rattle.frame.proofs.fault.Goals as goal
 

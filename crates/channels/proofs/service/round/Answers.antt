@@ -1,5 +1,4 @@
 use mathlib.Core.Path.{refl}
-use Prim.Native.Nat.{◌-◌}
 use native.Mathlib.Omega.{arith}
 use Rattle.channels.specs.inner.Layouts.{code_for}
 use Rattle.channels.proofs.Moves.{serve-next, round_more, round_done}

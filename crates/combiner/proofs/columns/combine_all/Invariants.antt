@@ -1,7 +1,7 @@
 -- The columns before the loop's are combined, the rest is as it was.
 use mathlib.Core.Path.{◌≡◌}
 use mathlib.Core.List.{◌++◌}
-use Prim.Native.Nat.{◌+◌, ◌-◌, ◌*◌, ◌≤◌}
+use Prim.Native.Nat.{◌-◌, ◌*◌, ◌≤◌}
 use lib.ListN.{length, drop}
 use Rattle.machine.specs.Combining.{combined_to}
 use Rattle.combiner.proofs.columns.combine_all.Given as goal

@@ -1,6 +1,6 @@
 -- With pair j still to come the rows say what the pairs from j on say.
 use mathlib.Core.Path.{◌≡◌}
-use Prim.Native.Nat.{◌-◌, ◌≤◌}
+use Prim.Native.Nat.{◌≤◌}
 use lib.ListN.{length}
 use Rattle.trellis.specs.Lists.{tab}
 use Rattle.expansion.proofs.Transposing.{said_from}

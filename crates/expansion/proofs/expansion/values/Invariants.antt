@@ -1,7 +1,7 @@
 -- After a rows, a multiple of 16, the first a values stand.
 use mathlib.Core.Path.{◌≡◌}
 use mathlib.Core.List.{◌++◌}
-use Prim.Native.Nat.{◌+◌, ◌-◌, ◌%◌, ◌≤◌}
+use Prim.Native.Nat.{◌-◌, ◌%◌, ◌≤◌}
 use lib.ListN.{length, drop}
 use Rattle.trellis.specs.Lists.{tab}
 use Rattle.expansion.specs.inner.Transposed.{value_in}

@@ -1,5 +1,4 @@
 use mathlib.Core.Path.{sym}
-use Prim.Native.Nat.{◌-◌}
 use native.Mathlib.Omega.{arith}
 use Rattle.frame.proofs.Frames.{passed_all}
 use Rattle.frame.proofs.Resuming.{low-more, low-not}

@@ -1,6 +1,5 @@
 use mathlib.Core.Bool.{not}
 use mathlib.Core.Path.{ap}
-use Prim.Native.Nat.{◌-◌}
 use native.Mathlib.Omega.{arith}
 use Rattle.machine.proofs.Ranges.{column-room}
 use Rattle.frame.proofs.Frames.{passed_all, passed_more, passed_not}

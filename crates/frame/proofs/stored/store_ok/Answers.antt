@@ -1,7 +1,6 @@
 use mathlib.Core.Path.{◌≡◌, refl, ap, ◌∙◌, sym}
-use Prim.Native.Nat.{◌+◌, ◌-◌}
+use Prim.Native.Nat.{◌+◌}
 use native.Mathlib.Omega.{arith}
-use mathlib.Core.Bool.{true}
 use Rattle.trellis.specs.Lists.{all_to}
 use Rattle.machine.specs.inner.Tables.{bytes_before}
 use Rattle.frame.specs.Answers.{formed_at}

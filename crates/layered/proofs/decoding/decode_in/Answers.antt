@@ -2,7 +2,6 @@
 use mathlib.Core.Path.{ap, ◌∙◌}
 use native.Mathlib.Omega.{arith}
 use Rattle.codeline.specs.inner.Coding.{code_of}
-use Rattle.machine.specs.Machine.{symbols, margins}
 use Rattle.machine.specs.CodeLine.{columns_read}
 use Rattle.machine.specs.Decoding.{lending}
 use Rattle.codeline.proofs.Says.{line_says, line-coded}

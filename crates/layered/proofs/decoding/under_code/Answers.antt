@@ -3,7 +3,6 @@ use mathlib.Core.Path.{◌∙◌, sym}
 use native.Mathlib.Omega.{arith}
 use lib.ListN.{length, take, length-take}
 use lib.Seq.{length-take-le}
-use Rattle.machine.specs.Machine.{symbols, margins}
 use Rattle.layered.proofs.Columns.{front-room}
 use Rattle.slices.proofs.Copies.{copied_is}
 use Rattle.layered.proofs.Decoded.{fits, refused-leaves, copied_room, copied_leaves}

@@ -1,9 +1,7 @@
 use mathlib.Core.Path.{refl, ap₂}
-use Prim.Native.Nat.{◌-◌}
 use native.Mathlib.Omega.{arith}
 use lib.Dec.{ltb}
 use Rattle.machine.specs.Lent.{lent}
-use Rattle.machine.specs.Machine.{symbols}
 use Rattle.layered.proofs.Advances.{going_start, going_end, going_updatable, going_retest, going_found, going_next}
 use Rattle.layered.proofs.early.go_on.Goals as goal
 

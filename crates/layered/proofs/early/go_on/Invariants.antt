@@ -3,7 +3,6 @@ use mathlib.Core.Path.{◌≡◌}
 use Prim.Native.Nat.{◌-◌}
 use lib.ListN.{length}
 use Rattle.machine.specs.Lent.{lent}
-use Rattle.machine.specs.Machine.{symbols}
 use Rattle.layered.specs.inner.Early.{Going}
 use Rattle.layered.proofs.early.go_on.Given as goal
 

@@ -3,7 +3,6 @@ use mathlib.Core.Path.{ap, ◌∙◌, sym}
 use Prim.Native.Nat.{◌*◌}
 use Rattle.codeline.specs.inner.Coding.{code_of}
 use Rattle.machine.specs.Lent.{lent}
-use Rattle.machine.specs.Machine.{symbols}
 use Rattle.machine.specs.inner.LentEarly.{stop_lent}
 use Rattle.layered.proofs.Advances.{stop_first, first-unsettled}
 use Rattle.layered.proofs.early.run.Goals as goal

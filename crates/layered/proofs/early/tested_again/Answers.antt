@@ -1,6 +1,5 @@
 -- The columns decided again give the decisions of these costs; without a new symbol the test is what it was.
 use native.Mathlib.Omega.{arith}
-use Rattle.machine.specs.Machine.{symbols}
 use Rattle.layered.proofs.Retests.{edges-inside, check_there as check-in, again_asks, again-decided, again-same, again-room, again_tested}
 use Rattle.layered.proofs.early.tested_again.Goals as goal
 

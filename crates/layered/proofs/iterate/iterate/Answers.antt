@@ -1,5 +1,4 @@
 use mathlib.Core.Path.{refl}
-use Prim.Native.Nat.{◌-◌}
 use native.Mathlib.Omega.{arith}
 use Rattle.codeline.specs.inner.Coding.{code_of}
 use Rattle.machine.specs.Lent.{lent}

@@ -4,7 +4,6 @@ use native.Mathlib.Omega.{arith}
 use lib.Dec.{eqb}
 use Rattle.codeline.specs.inner.Coding.{code_of}
 use Rattle.machine.specs.Lent.{lent}
-use Rattle.machine.specs.Machine.{symbols}
 use Rattle.layered.proofs.Iterations.{run_found, run_end, run_more}
 use Rattle.layered.proofs.Runs.{next-running, test_room}
 use Rattle.layered.proofs.iterate.run.Goals as goal

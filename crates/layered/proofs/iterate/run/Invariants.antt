@@ -5,7 +5,6 @@ use lib.Dec.{eqb}
 use lib.ListN.{length}
 use Rattle.codeline.specs.inner.Coding.{code_of}
 use Rattle.machine.specs.Lent.{lent, go_lent}
-use Rattle.machine.specs.Machine.{symbols}
 use Rattle.layered.specs.inner.Iterations.{Running}
 use Rattle.layered.proofs.iterate.run.Given as goal
 

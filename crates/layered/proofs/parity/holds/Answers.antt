@@ -2,7 +2,6 @@
 use mathlib.Core.Path.{refl, ◌∙◌, sym}
 use native.Mathlib.Omega.{arith}
 use Rattle.codeline.specs.inner.Coding.{code_of}
-use Rattle.machine.specs.Machine.{symbols}
 use Rattle.layered.proofs.Satisfied.{first-not-all}
 use Rattle.layered.proofs.Runs.{checks-count}
 use Rattle.layered.proofs.parity.holds.Goals as goal

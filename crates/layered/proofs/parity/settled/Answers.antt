@@ -3,7 +3,6 @@ use mathlib.Core.Path.{◌≡◌, ap, ap₂, ◌∙◌}
 use Prim.Native.Nat.{◌*◌}
 use native.Mathlib.Omega.{arith}
 use Rattle.codeline.specs.inner.Coding.{code_of}
-use Rattle.machine.specs.Machine.{symbols}
 use Rattle.trellis.specs.Lists.{tab}
 use Rattle.trellis.specs.Check.{decide}
 use Rattle.trellis.specs.Rules.{power_of, size_of}

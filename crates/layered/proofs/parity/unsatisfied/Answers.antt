@@ -1,8 +1,6 @@
 use mathlib.Core.Path.{refl}
-use mathlib.Core.Bool.{true}
-use Prim.Native.Nat.{◌-◌, ◌<◌}
+use Prim.Native.Nat.{◌<◌}
 use native.Mathlib.Omega.{arith}
-use Rattle.machine.specs.CodeLine.{check}
 use Rattle.codeline.specs.inner.Coding.{code_of}
 use Rattle.machine.proofs.Places.{before_more}
 use Rattle.layered.proofs.Satisfied.{degree, edge-room, edges-end, sum_more, sum-holds, sum-not, between_more}

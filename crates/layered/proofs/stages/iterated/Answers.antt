@@ -1,6 +1,5 @@
 -- What an iteration leaves may be tested.
 use mathlib.Core.Path.{refl}
-use Rattle.machine.specs.Machine.{symbols, margins}
 use Rattle.layered.proofs.Steps.{after-room}
 use Rattle.layered.proofs.stages.iterated.Goals as goal
 

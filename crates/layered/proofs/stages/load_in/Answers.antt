@@ -1,6 +1,5 @@
 -- The reader's answer is the line's refusal, or the numbers and tables of its code; under these the rest is promised.
 use Rattle.codeline.specs.inner.Coding.{code_of}
-use Rattle.machine.specs.Machine.{symbols, margins}
 use Rattle.machine.specs.Decoding.{lending}
 use Rattle.codeline.proofs.Says.{line_says, line-coded}
 use Rattle.layered.proofs.Steps.{refused_loads, said_loads}

@@ -1,7 +1,6 @@
 -- The reader's answer is the line's refusal, or the numbers and tables of its code; under these the rest is promised.
 use native.Mathlib.Omega.{arith}
 use Rattle.codeline.specs.inner.Coding.{code_of}
-use Rattle.machine.specs.Machine.{symbols, margins}
 use Rattle.machine.specs.Decoding.{lending}
 use Rattle.codeline.proofs.Says.{line_says, line-coded}
 use Rattle.layered.proofs.Steps.{refused_steps, said_steps}

@@ -3,7 +3,6 @@ use mathlib.Core.Path.{sym}
 use native.Mathlib.Omega.{arith}
 use lib.ListN.{length, take}
 use lib.Seq.{length-take-le}
-use Rattle.machine.specs.Machine.{symbols, margins}
 use Rattle.layered.proofs.Decoded.{fits}
 use Rattle.layered.proofs.Steps.{step-refused, resume_refused, step_room, step-leaves}
 use Rattle.layered.proofs.stages.step_under.Goals as goal

@@ -1,7 +1,7 @@
 -- After i parts the table starts with the cells kept over 0, 1, .. i - 1 columns; the next follows from the last of them.
 use mathlib.Core.Path.{◌≡◌}
 use mathlib.Core.List.{◌++◌}
-use Prim.Native.Nat.{◌+◌, ◌-◌, ◌*◌, ◌≤◌}
+use Prim.Native.Nat.{◌-◌, ◌*◌, ◌≤◌}
 use lib.ListN.{length, drop}
 use Rattle.trellis.specs.Lists.{blocks}
 use Rattle.trellis.specs.Rules.{rule_for, size_of, columns_of}

@@ -1,5 +1,4 @@
 -- Neither factor is refused, so the answer is the product.
-use Rattle.trellis.specs.Field.{product}
 use Rattle.field.proofs.ProductCall.{is_product, never_refused}
 use Rattle.sweep.proofs.columns.times.Goals as goal
 

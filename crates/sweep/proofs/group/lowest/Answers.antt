@@ -1,5 +1,4 @@
 use mathlib.Core.Path.{◌≡◌, refl, ap, ◌∙◌}
-use Prim.Native.Nat.{◌-◌}
 use native.Mathlib.Omega.{arith}
 use Rattle.sweep.specs.inner.Groups.{lowest_to, sent_of}
 use Rattle.field.proofs.Blocks.{part_room}

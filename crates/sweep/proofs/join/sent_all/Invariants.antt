@@ -1,7 +1,7 @@
 -- After n turns the first n columns stand, end to end; each part is inside its table.
 use mathlib.Core.Path.{◌≡◌}
 use mathlib.Core.List.{◌++◌}
-use Prim.Native.Nat.{◌+◌, ◌-◌, ◌*◌, ◌≤◌}
+use Prim.Native.Nat.{◌-◌, ◌*◌, ◌≤◌}
 use lib.ListN.{length, drop}
 use Rattle.trellis.specs.Lists.{blocks}
 use Rattle.sweep.specs.inner.Joins.{column_sent}

@@ -1,7 +1,7 @@
 -- The invariant: the bytes so far stand in front of the rest of the buffer.
 use mathlib.Core.Path.{◌≡◌}
 use mathlib.Core.List.{◌++◌}
-use Prim.Native.Nat.{◌+◌, ◌-◌, ◌≤◌}
+use Prim.Native.Nat.{◌-◌, ◌≤◌}
 use lib.ListN.{length, drop}
 use Rattle.trellis.specs.Lists.{tab}
 use Rattle.machine.specs.Line.{byte_at}
