@@ -1,4 +1,4 @@
--- Claim 2 for the messages, as a claim about two calls: a check that is accepted, and an expansion of the record that it wrote. Over what the
+-- SPEC 10.2 for the messages, as a claim about two calls: a check that is accepted, and an expansion of the record that it wrote. Over what the
 -- calls promise (Demand2Messages), and stated of the two functions' own contracts (check-then_expand).
 use mathlib.Core.Path.{◌≡◌, refl, sym, ap, ◌∙◌}
 use mathlib.Core.Bool.{Bool, true, false}

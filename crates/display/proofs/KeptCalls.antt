@@ -1,4 +1,4 @@
--- Of the calls: over what they promise, and of the functions' own contracts.
+-- The kept entries (SPEC 10.18) of the calls: over what these promise, and of the functions' own contracts.
 use mathlib.Core.Path.{◌≡◌, refl, sym, ap, ◌∙◌}
 use mathlib.Core.Bool.{false}
 use mathlib.Core.List.{List, ◌++◌}

@@ -1,4 +1,4 @@
--- Claim 2 for the messages, as a claim about two calls: a check that is accepted, and an expansion of the record that it wrote.
+-- SPEC 10.2 for the messages, as a claim about two calls: a check that is accepted, and an expansion of the record that it wrote.
 use Rattle.std.specs.Prelude.{◌≡◌, List, ℕ, ◌+◌, ◌*◌, ◌≤◌, ◌<◌, length, get_or, take, drop}
 use Rattle.trellis.specs.Lists.{others}
 use Rattle.trellis.specs.Field.{product}
@@ -35,7 +35,7 @@ pub record Sends (f : ℕ) (weights costs : List ℕ) (n : ℕ) (out out' : List
   pub out-rest : drop n out' ≡ drop n out
   pub buffer_rest : drop (length weights * size_of f) buffer' ≡ drop (length weights * size_of f) buffer
 
--- claim 2 for the messages: any check that is accepted, with n bytes written, and any expansion of these n bytes under the same first
+-- SPEC 10.2 for the messages: any check that is accepted, with n bytes written, and any expansion of these n bytes under the same first
 -- byte and weights, in a buffer long enough, whatever this held before (SPEC 10.2)
 abbrev pub Demand2Messages : Type 0
 Demand2Messages =

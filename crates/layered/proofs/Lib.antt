@@ -1,4 +1,4 @@
--- Laws by topic, and claim 3 bound to decode's own contract (TwoCalls); a function's own proof stands in a folder of its name.
+-- Laws by topic, and SPEC 10.3 bound to decode's own contract (TwoCalls); a function's own proof stands in a folder of its name.
 pub mod Columns
 pub mod Satisfied
 pub mod Updates

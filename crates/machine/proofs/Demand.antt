@@ -1,4 +1,4 @@
--- Claim 3: an accepted call's store starts with the records of its run, records lie end to end at places that the code line fixes, and
+-- SPEC 10.3: an accepted call's store starts with the records of its run, records lie end to end at places that the code line fixes, and
 -- two records of one check are equal exactly when its shifts and sent costs are.
 use mathlib.Core.Path.{◌≡◌, refl, sym, ap, ◌∙◌}
 use mathlib.Core.Bool.{false}

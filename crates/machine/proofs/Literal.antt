@@ -1,4 +1,4 @@
--- The sent cost in claim 3's words.
+-- The sent cost in the words of SPEC 10.3.
 use mathlib.Core.Path.{◌≡◌, sym, ap, ◌∙◌}
 use mathlib.Core.List.{List}
 use Prim.Native.Nat.{ℕ, ◌<◌}

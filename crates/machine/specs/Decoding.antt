@@ -1,4 +1,4 @@
--- What a decode call replies and leaves in its buffers, refused calls included; and claim 3. SPEC 7.6, 10.3.
+-- What a decode call replies and leaves in its buffers, refused calls included; and when two stores are equal. SPEC 7.6, 10.3.
 use Rattle.std.specs.Prelude.{◌≡◌, ◌↔◌, false, List, [], ◌∷◌, ◌++◌, ℕ, ◌*◌, ◌≤◌, ◌<◌, eqb, ltb, length, take, drop}
 use Rattle.trellis.specs.Lists.{pick, others, put}
 use Rattle.trellis.specs.Check.{Rule, Column, Fits, deviations, weighted_sum, cost_of, shift, sent}
@@ -120,7 +120,7 @@ pub record LeastSent (R : Rule) (cs : List Column) (n x v : ℕ) : Type 0 where
   pub least : (w : List ℕ) → Completes R cs n x w → v ≤ cost_of R (others n cs) w
 
 -- one run, and what its decoding left: it is not refused, every check was updated, the store's used part is the records of the last
--- updates, and each sent cost is the least that claim 3 names
+-- updates, and each sent cost is the least that SPEC 10.3 names
 pub record Kept (C : Code) (f : List ℕ) (reply : Reply) (store : List ℕ) : Type 0 where
   pub not-refused : reply.refused ≡ false
   pub replies : reply ≡ outcome (run C f).status (run C f).end.t
@@ -143,7 +143,7 @@ pub record Compared (C : Code) (f f' : List ℕ) (reply reply' : Reply) (store s
   pub other : Kept C f' reply' store'
   pub equal : (take (used C) store ≡ take (used C) store') ↔ Agree C f f'
 
--- claim 3: any code line, two frames accepted under it on which the machine makes at least one iteration, any decoding of each in
+-- SPEC 10.3: any code line, two frames accepted under it on which the machine makes at least one iteration, any decoding of each in
 -- buffers long enough, whatever these held before. "Stores are compared only between decodings of the same edition, which the same code
 -- line ensures": the rule of both is that of C (SPEC 10.3)
 abbrev pub Demand3 : Type 0

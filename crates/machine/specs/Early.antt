@@ -106,7 +106,7 @@ abbrev pub last_early : Code → List ℕ → ℕ → List Column
 last_early C f m = columns_in (last_of (state_early C f) m)
 
 -- one run, and what its decoding left: it is not refused, the checks updated have made an update and the others none, each place in the
--- store is its record or as it was, and each sent cost is the least that claim 3 names
+-- store is its record or as it was, and each sent cost is the least that SPEC 10.3 names
 pub record KeptEarly (C : Code) (f old : List ℕ) (reply : Reply) (store : List ℕ) : Type 0 where
   pub not-refused : reply.refused ≡ false
   pub replies : reply ≡ outcome (status_early C f) (updates C f)

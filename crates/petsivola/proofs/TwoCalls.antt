@@ -1,4 +1,4 @@
--- Claim 3, stated of petsivola_decode's own contract: any two calls with one code line, whatever their buffers held before. The results are
+-- SPEC 10.3, stated of petsivola_decode's own contract: any two calls with one code line, whatever their buffers held before. The results are
 -- numbers, as include/petsivola.h reads them: PETSIVOLA_NUMBER(r) is r / 65536, PETSIVOLA_VALUE(r) is r % 65536.
 use mathlib.Core.Path.{◌≡◌, refl, ◌∙◌, subst}
 use mathlib.Core.List.{List}

@@ -128,8 +128,8 @@ sent_at R cs n a = least_cost R (others n cs) (xor a (shift R cs n))
 unfoldable pub extra : Rule → List Column → ℕ → ℕ
 extra R cs a = smallest (map (λ n. sent_at R cs n a) (up_to (length cs)))
 
--- The other words for it: "the least cost over choices for all columns with at most two deviations whose weighted sum is a plus the sum
--- of all h_k times z_k." Where the degree exceeds k it is E(a) (proofs/Sent.antt, extra_of_all_lem) (SPEC 2.10)
+-- The extra column by the choices for all columns: "the least cost over choices for all columns with at most two deviations whose weighted
+-- sum is a plus the sum of all h_k times z_k." Where the degree exceeds k it is E(a) (proofs/Sent.antt, extra_of_all_lem) (SPEC 2.10)
 unfoldable pub extra_of_all : Rule → List Column → ℕ → ℕ
 extra_of_all R cs a = least_cost R cs (xor a (decided R cs))
 
