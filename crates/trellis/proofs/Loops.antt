@@ -7,8 +7,11 @@ use native.Mathlib.Nat.{add-zero, zero-mul, suc-mul, mul-le-mul_right, add-sub_c
 use native.Mathlib.Decide.{ℕ_discrete}
 use native.Mathlib.Numerals.{add-one}
 use native.Mathlib.Omega.{arith}
+use borrow.Rule.Slice.PartMut.{put_mid}
 use lib.ListN.{length, take, drop, get_or, set, length-set, length-append, length-drop, get_or-append}
 use lib.Seq.{drop-cons, set_at, append_snoc, get_or_at, drop-length, drop-drop, take_at, drop_at, get_or-set_same, get_or-set_other}
+use Rattle.std.proofs.Math.Seq.{take-suc-set}
+use Rattle.std.proofs.lemmas.Slice.{take-put_mid}
 use Rattle.trellis.specs.Lists.{count_from, each, upto, tab, blocks}
 
 pub length-tab : (f : ℕ → ℕ) (n : ℕ) → length (tab f n) ≡ n
@@ -137,3 +140,14 @@ module _ (f : ℕ → List ℕ) (w : ℕ) (full : (j : ℕ) → length (f j) ≡
 
   pub block-end : (l out : List ℕ) (i : ℕ) → out ≡ blocks f i ++ drop (i * w) l → length l ≡ i * w → out ≡ blocks f i
   block-end l out i e h = rw (e, ← h, drop-length) (append-nil (blocks f i))
+
+-- a turn of a loop that fills out from the front
+pub fill_next : (f : ℕ → ℕ) (out : List ℕ) (i v : ℕ) → i < length out → take i out ≡ tab f i → v ≡ f i → take (i + 1) (set out i v) ≡ tab f (i + 1)
+fill_next f out i v h e w = rw (add-one i, take-suc-set out i v h, e, w) refl
+
+-- a turn of a loop that fills out by blocks of w: the next one is put from n * w on, up to k
+pub block_next : (f : ℕ → List ℕ) (n w k : ℕ) (out new : List ℕ) → n * w ≤ length out → length new ≡ w → new ≡ f n → take (n * w) out ≡ blocks f n
+    → take ((n + 1) * w) (put_mid (n * w) k out new) ≡ blocks f (n + 1)
+block_next f n w k out new h e v t =
+    let l : (n + 1) * w ≡ n * w + length new = rw (e, add-one n) (suc-mul n w) in
+    take-put_mid (n * w) k out new ((n + 1) * w) l h ∙ rw (add-one n, t, v) refl
