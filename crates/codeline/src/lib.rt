@@ -3,6 +3,7 @@
 
 pub mod answers;
 mod checks;
+pub mod code;
 mod head;
 mod lending;
 mod reader;

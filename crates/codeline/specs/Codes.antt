@@ -1,0 +1,7 @@
+-- A code whose tables are lent, as the code that they say.
+use Rattle.machine.specs.CodeLine.{Code}
+use Rattle.codeline.specs.inner.Coding.{code_of}
+use Rattle.codeline.specs.declared.code.Code.{Code as LentCode}
+
+abbrev pub code_in : LentCode → Code
+code_in c = code_of c.numbers c.degrees.now c.columns.now c.weights.now
