@@ -14,39 +14,15 @@ use Rattle.checknode.proofs.lines.lines.Goals as goal
 
 pub loop-n-init : goal.loop-n-init
 loop-n-init c =
-    (omega arith, ((refl, refl), (rw (zero-mul c.args.l) refl, (refl, refl))))
-
-pub overflow_mul-a : goal.overflow_mul-a
-overflow_mul-a c =
-    let b = lines_room c.args.first c.args.l c.args.weights.now c.args.costs.now c.args.rows.now c.args.lines.now c.args.out.now c.requires.ready c.requires.rows_value c.requires.lines_room c.loop-n.n (omega arith) c.size-q.result c.size-q.ensures.0 in omega (arith, b.0, b.2)
-
-pub overflow_add-e : goal.overflow_add-e
-overflow_add-e c =
-    let b = lines_room c.args.first c.args.l c.args.weights.now c.args.costs.now c.args.rows.now c.args.lines.now c.args.out.now c.requires.ready c.requires.rows_value c.requires.lines_room c.loop-n.n (omega arith) c.size-q.result c.size-q.ensures.0 in omega (arith, b.0, b.2)
-
-pub overflow_mul-b : goal.overflow_mul-b
-overflow_mul-b c =
-    let b = lines_room c.args.first c.args.l c.args.weights.now c.args.costs.now c.args.rows.now c.args.lines.now c.args.out.now c.requires.ready c.requires.rows_value c.requires.lines_room c.loop-n.n (omega arith) c.size-q.result c.size-q.ensures.0 in omega (arith, b.0, b.2)
-
-pub overflow_add-f : goal.overflow_add-f
-overflow_add-f c =
-    let b = lines_room c.args.first c.args.l c.args.weights.now c.args.costs.now c.args.rows.now c.args.lines.now c.args.out.now c.requires.ready c.requires.rows_value c.requires.lines_room c.loop-n.n (omega arith) c.size-q.result c.size-q.ensures.0 in omega (arith, b.0, b.2)
-
-pub slice_bounds-column-end : goal.slice_bounds-column-end
-slice_bounds-column-end c =
-    let b = lines_room c.args.first c.args.l c.args.weights.now c.args.costs.now c.args.rows.now c.args.lines.now c.args.out.now c.requires.ready c.requires.rows_value c.requires.lines_room c.loop-n.n (omega arith) c.size-q.result c.size-q.ensures.0 in omega (arith, b.0, b.1, b.2, c.loop-n.invariant.1.0)
+    ((refl, refl), (rw (zero-mul c.args.l) refl, (refl, refl)))
 
 pub slice_bounds-column-end-in-loop-n : goal.slice_bounds-column-end-in-loop-n
 slice_bounds-column-end-in-loop-n c =
-    let b = lines_room c.args.first c.args.l c.args.weights.now c.args.costs.now c.args.rows.now c.args.lines.now c.args.out.now c.requires.ready c.requires.rows_value c.requires.lines_room c.loop-n.n (omega arith) c.size-q.result c.size-q.ensures.0 in omega (arith, b.0, b.1, b.2, c.loop-n.invariant.1.0)
-
-pub slice_bounds-column-end-in-loop-n-2 : goal.slice_bounds-column-end-in-loop-n-2
-slice_bounds-column-end-in-loop-n-2 c =
-    let b = lines_room c.args.first c.args.l c.args.weights.now c.args.costs.now c.args.rows.now c.args.lines.now c.args.out.now c.requires.ready c.requires.rows_value c.requires.lines_room c.loop-n.n (omega arith) c.size-q.result c.size-q.ensures.0 in omega (arith, b.0, b.1, b.2, c.loop-n.invariant.1.0)
+    let b = lines_room c.args.first c.args.l c.args.weights.now c.args.costs.now c.args.rows.now c.args.lines.now c.args.out.now c.requires.ready c.requires.rows_value c.requires.lines_room c.loop-n.n (omega arith) c.size-q.result c.size-q.ensures.0 in omega (arith, b.1)
 
 pub column-s-requires : goal.column-s-requires
 column-s-requires c =
-    let b = lines_room c.args.first c.args.l c.args.weights.now c.args.costs.now c.args.rows.now c.args.lines.now c.args.out.now c.requires.ready c.requires.rows_value c.requires.lines_room c.loop-n.n (omega arith) c.size-q.result c.size-q.ensures.0 in column-room c.args.first c.args.l c.args.weights.now c.args.costs.now c.args.rows.now c.args.lines.now c.args.out.now c.requires.ready c.requires.rows_value c.loop-n.n (omega arith) c.size-q.result c.size-q.ensures.0 _ (simp (length-take, length-drop) (omega (arith, b.2, c.loop-n.invariant.1.0.0, c.requires.lines_room.wide)))
+    let b = lines_room c.args.first c.args.l c.args.weights.now c.args.costs.now c.args.rows.now c.args.lines.now c.args.out.now c.requires.ready c.requires.rows_value c.requires.lines_room c.loop-n.n (omega arith) c.size-q.result c.size-q.ensures.0 in column-room c.args.first c.args.l c.args.weights.now c.args.costs.now c.args.rows.now c.args.lines.now c.args.out.now c.requires.ready c.requires.rows_value c.loop-n.n (omega arith) c.size-q.result c.size-q.ensures.0 _ (simp (length-take, length-drop) (omega (arith, b.2, c.loop-n.invariant.0.0, c.requires.lines_room.wide)))
 
 pub loop-n-preserved : goal.loop-n-preserved
 loop-n-preserved c =
@@ -57,8 +33,8 @@ loop-n-preserved c =
     let n = c.loop-n.n in
     let h : n < length ws = omega arith in
     let t = term_turn f ws cs c.requires.ready n h _ c.size-q.ensures.0 (column_turn c.args.first c.args.l c.args.weights.now c.args.costs.now c.args.rows.now c.args.lines.now c.args.out.now c.requires.ready c.requires.rows_value n h c.size-q.result c.size-q.ensures.0 c.column-s.ensures.term) in
-    let o = line_turn c.args.first c.args.l c.args.weights.now c.args.costs.now c.args.rows.now c.args.lines.now c.args.out.now c.requires.ready c.requires.rows_value n h c.size-q.result c.size-q.ensures.0 (line-cleared (power_of c.args.first) c.args.weights.now c.args.costs.now c.args.l c.loop-n.n c.args.lines.now c.loop-n.lines c.requires.lines_room.cleared c.loop-n.invariant.1.1.0) c.column-s.ensures.line_then in
-    (omega arith, ((search rules, search rules), (lines_turn f ws cs c.args.l n c.requires.ready h _ c.args.lines.now c.loop-n.lines c.size-q.ensures.0 c.loop-n.invariant.1.1.0 c.requires.lines_room.of_lines c.loop-n.invariant.1.0.0 o, (out_turn f ws cs c.requires.ready n h c.loop-n.out c.args.out.now (omega (arith, c.requires.lines_room.of_out)) c.loop-n.invariant.1.1.1.0 t, sum_turn f ws cs c.requires.ready n h c.loop-n.invariant.1.1.1.1 t))))
+    let o = line_turn c.args.first c.args.l c.args.weights.now c.args.costs.now c.args.rows.now c.args.lines.now c.args.out.now c.requires.ready c.requires.rows_value n h c.size-q.result c.size-q.ensures.0 (line-cleared (power_of c.args.first) c.args.weights.now c.args.costs.now c.args.l c.loop-n.n c.args.lines.now c.loop-n.lines c.requires.lines_room.cleared c.loop-n.invariant.1.0) c.column-s.ensures.line_then in
+    ((search rules, search rules), (lines_turn f ws cs c.args.l n c.requires.ready h _ c.args.lines.now c.loop-n.lines c.size-q.ensures.0 c.loop-n.invariant.1.0 c.requires.lines_room.of_lines c.loop-n.invariant.0.0 o, (out_turn f ws cs c.requires.ready n h c.loop-n.out c.args.out.now (omega (arith, c.requires.lines_room.of_out)) c.loop-n.invariant.1.1.0 t, sum_turn f ws cs c.requires.ready n h c.loop-n.invariant.1.1.1 t)))
 
 pub returns : goal.returns
 returns c =
@@ -70,6 +46,6 @@ returns c =
     let f = c.requires.lines_room.of_out in
     record {
       sum = cc;
-      lines_then = rw e at (block-end (rests_of p ws cs l) l (rests_full p ws cs l) c.args.lines.now c.loop-n.lines c.loop-n.n c.loop-n.invariant.1.1.0 (rw e c.requires.lines_room.of_lines));
-      out_then = c.loop-n.invariant.1.1.1.0 ∙ rw (e, ← f) (tab_whole (term_of p ws cs) c.args.out.now);
+      lines_then = rw e at (block-end (rests_of p ws cs l) l (rests_full p ws cs l) c.args.lines.now c.loop-n.lines c.loop-n.n c.loop-n.invariant.1.0 (rw e c.requires.lines_room.of_lines));
+      out_then = c.loop-n.invariant.1.1.0 ∙ rw (e, ← f) (tab_whole (term_of p ws cs) c.args.out.now);
     }
