@@ -6,18 +6,6 @@ use Rattle.trellis.specs.Rules.{first_ok, size_of}
 use Rattle.trellis.specs.Refusals.{Test, when, unless, refused_by}
 use Rattle.trellis.specs.Reply.{Reply, accepted, refusal}
 use Rattle.trellis.specs.Sizes.{most_degree}
-use Rattle.field.specs.declared.Element.{Element}
-use Rattle.field.specs.declared.Element.TheVariants.{Is, Refused as NoElement}
-use Rattle.field.specs.declared.Written.{Written}
-use Rattle.field.specs.declared.Written.TheVariants.{Bytes, Refused as NotWritten}
-
-abbrev pub element_reply : Element → Reply
-element_reply (Is x) = accepted x
-element_reply (NoElement k) = refusal k
-
-abbrev pub written_reply : Written → Reply
-written_reply (Bytes n) = accepted n
-written_reply (NotWritten k) = refusal k
 
 -- "Product: 6, 11." "a weight or element not below q (0 is allowed in the product)" (SPEC 8.7)
 unfoldable pub product_reply : ℕ → ℕ → ℕ → Reply

@@ -1,8 +1,10 @@
 // The tests of a first code byte and of weights.
 ghost use Rattle.std.specs.Prelude.{◌≡◌};
+ghost use Rattle.refusal.specs.Replies.{fault_of};
 ghost use Rattle.field.specs.Answers.{weight_ok, weights_ok, weights_fault};
 
 use crate::field;
+use refusal::Refusal;
 use scalar::sizes;
 
 // A weight is an element other than 0.
@@ -27,21 +29,19 @@ fn weights_ok(q: u8, weights: &[u8]) -> bool
     ok
 }
 
-// 6, 9 or 11, in this order, or 0 for none of them.
-pub fn weights_fault(first: u8, weights: &[u8]) -> u8
-    ensures { result ≡ weights_fault first weights.now }
+// 6, 9 or 11, in this order.
+#[tactic(auto, unfolding(crate::specs::Answers::weights_fault))]
+pub fn validate_weights(first: u8, weights: &[u8]) -> Result<(), Refusal>
+    ensures { fault_of result ≡ weights_fault first weights.now }
 {
     if !rules::accepted(first) {
-        return 6;
+        return Err(Refusal::FirstByte);
     }
-    if weights.len() < 2 {
-        return 9;
+    if weights.len() < 2 || sizes::MOST_DEGREE < weights.len() {
+        return Err(Refusal::Degree);
     }
-    if sizes::MOST_DEGREE < weights.len() {
-        return 9;
+    if !weights_ok(field::size(rules::power(first)), weights) {
+        return Err(Refusal::Weight);
     }
-    if weights_ok(field::size(rules::power(first)), weights) {
-        return 0;
-    }
-    11
+    Ok(())
 }
