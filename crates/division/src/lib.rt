@@ -9,8 +9,6 @@ ghost use Rattle.field.specs.Answers.{product_reply};
 ghost use Rattle.division.specs.inner.Table.{all_inverted};
 ghost use Rattle.division.specs.Numbers.{divisor_ok, quotient_or, DivisorRoom};
 
-use field::Element;
-
 // The inverse of h in the field of q elements stands at q + h; 0 has none, and its place is not read.
 const INVERSES: [u8; 128] = [
     // no field
@@ -82,10 +80,7 @@ fn inverse(p: u8, h: u8) -> u8
 pub fn times(p: u8, a: u8, b: u8) -> u8
     ensures { result ≡ (product_reply p a b).value }
 {
-    match field::product(p, a, b) {
-        Element::Is(x) => x,
-        Element::Refused(_) => 0,
-    }
+    field::product(p, a, b).unwrap_or(0)
 }
 
 // s divided by h: the element that times h is s; 0 where p is no field's, h is 0 or no element, or s is no element.
