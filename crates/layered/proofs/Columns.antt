@@ -8,9 +8,9 @@ use native.Mathlib.Numerals.{add-one}
 use native.Mathlib.Omega.{arith}
 use lib.ListN.{length, take, drop, get_or, length-append, length-drop, get_or-map}
 use lib.Seq.{take_at, drop_at, drop-drop, length-take-le}
+use Rattle.std.proofs.lemmas.List.{take_all}
 use Rattle.trellis.specs.Lists.{up_to, upto, tab, part, patch, blocks}
 use Rattle.trellis.proofs.Places.{map_ext}
-use Rattle.trellis.proofs.Loops.{tab_whole}
 use Rattle.machine.specs.Machine.{scaled, incoming, outgoing}
 use Rattle.machine.proofs.Lists.{map-after}
 use Rattle.machine.proofs.Leasts.{least_le, smallest_loop, up_to_tab}
@@ -27,6 +27,10 @@ mul_small g w h k = mul-le-mul h (le_of_suc-le-suc k)
 pub scaled_at : (g : ℕ) (l : List ℕ) (x : ℕ) → get_or (map (scaled g) l) x 0 ≡ scaled g (get_or l x 0)
 scaled_at g l x = let z : scaled g 0 ≡ 0 = rw (mul-zero g) in ap (get_or (map (scaled g) l) x) (sym z) ∙ get_or-map (scaled g) l x 0
 
+-- a list that is filled from the front, whole
+pub filled : (f : ℕ → ℕ) (out : List ℕ) (i n : ℕ) → take i out ≡ tab f i → length out ≡ n → i ≡ n → out ≡ tab f n
+filled f out i n t l e = sym (take_all i out (omega arith)) ∙ t ∙ ap (tab f) e
+
 -- Q as the loop makes it
 pub incoming-tab : (g n : ℕ) (P old : List ℕ) → 0 < n → g ≤ 16 → Below 510 P
     → incoming n P (map (scaled g) old) ≡ tab (λ x. min 255 (raised g P old x - least_raised g P old n)) n
@@ -40,10 +44,9 @@ pub least-raised_le : (g n : ℕ) (P old : List ℕ) (i : ℕ) → i < n → lea
 unfolding least_raised
 least-raised_le g n P old i h = least_le (raised g P old) n i h
 
-pub incoming-done : (g : ℕ) (P old d out : List ℕ) (least i : ℕ) → 0 < length P → g ≤ 16 → Below 510 P → length d ≡ length P → i ≡ length d → least ≡ least_raised g P old (length P)
-    → out ≡ tab (λ x. min 255 (raised g P old x - least)) i ++ drop i d → out ≡ incoming (length P) P (map (scaled g) old)
-incoming-done g P old d out least i some h b k e m o =
-    o ∙ rw (e, m) (tab_whole (λ x. min 255 (raised g P old x - least_raised g P old (length P))) d ∙ rw k (sym (incoming-tab g (length P) P old some h b)))
+pub incoming_done : (g : ℕ) (P old out : List ℕ) (least : ℕ) → 0 < length P → g ≤ 16 → Below 510 P → least ≡ least_raised g P old (length P)
+    → out ≡ tab (λ x. min 255 (raised g P old x - least)) (length P) → out ≡ incoming (length P) P (map (scaled g) old)
+incoming_done g P old out least some h b m o = o ∙ rw m (sym (incoming-tab g (length P) P old some h b))
 
 -- the loop over a check's columns
 pub room_at : (P cols old : List ℕ) (g q : ℕ) (out : List ℕ) → GatherRoom P cols old g q out → (k : ℕ) → k < length cols → (w : ℕ) → w ≡ get_or cols k 0
@@ -109,10 +112,9 @@ pub least-summed_le : (g n : ℕ) (Q new : List ℕ) (i : ℕ) → i < n → lea
 unfolding least_summed
 least-summed_le g n Q new i h = least_le (summed g Q new) n i h
 
-pub outgoing-done : (g : ℕ) (Q new d out : List ℕ) (least i : ℕ) → 0 < length Q → ((x : ℕ) → summed g Q new x ≤ 1000) → length d ≡ length Q → i ≡ length d → least ≡ least_summed g Q new (length Q)
-    → out ≡ tab (λ x. summed g Q new x - least) i ++ drop i d → out ≡ outgoing (length Q) Q (map (scaled g) new)
-outgoing-done g Q new d out least i some b k e m o =
-    o ∙ rw (e, m) (tab_whole (λ x. summed g Q new x - least_summed g Q new (length Q)) d ∙ rw k (sym (outgoing-tab g (length Q) Q new some b)))
+pub outgoing_done : (g : ℕ) (Q new out : List ℕ) (least : ℕ) → 0 < length Q → ((x : ℕ) → summed g Q new x ≤ 1000) → least ≡ least_summed g Q new (length Q)
+    → out ≡ tab (λ x. summed g Q new x - least) (length Q) → out ≡ outgoing (length Q) Q (map (scaled g) new)
+outgoing_done g Q new out least some b m o = o ∙ rw m (sym (outgoing-tab g (length Q) Q new some b))
 
 pub scatter_room : (Q new cols : List ℕ) (g q : ℕ) (P : List ℕ) → ScatterRoom Q new cols g q P → (k : ℕ) → k < length cols → (w : ℕ) → w ≡ get_or cols k 0
     → (w * q + q ≤ length P) × ((k * q + q ≤ length Q) × (k * q + q ≤ length new))

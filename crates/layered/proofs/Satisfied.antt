@@ -2,20 +2,20 @@
 -- however many come after it.
 use mathlib.Core.Path.{◌≡◌, refl, sym, ap, ◌∙◌}
 use mathlib.Core.Bool.{Bool, true, false}
-use mathlib.Core.List.{List, ◌++◌}
+use mathlib.Core.List.{List}
 use Prim.Native.Nat.{ℕ, zero, suc, ◌+◌, ◌*◌, ◌≤◌, ◌<◌}
 use native.Mathlib.Decide.{ℕ_discrete}
 use native.Mathlib.Numerals.{add-one}
 use native.Mathlib.Omega.{arith}
 use lib.Bits.{bit_xor}
 use lib.Dec.{eqb}
-use lib.ListN.{length, get_or, drop, set}
+use lib.ListN.{length, get_or}
 use borrow.Author.Tests.{eq-eqb, ne_eqb}
 use Rattle.trellis.specs.Lists.{tab, all_to}
 use Rattle.trellis.specs.Field.{xor, product}
 use Rattle.trellis.specs.Check.{first_zero, decide}
 use Rattle.trellis.specs.Rules.{power_of, size_of}
-use Rattle.trellis.proofs.Loops.{tab-more, tab_whole, length-tab, get_d_tab}
+use Rattle.trellis.proofs.Loops.{length-tab, get_d_tab}
 use Rattle.trellis.proofs.Instances.{first-zero}
 use Rattle.machine.specs.CodeLine.{Code, power, check, edge_at, column_of}
 use Rattle.machine.specs.Machine.{symbols, margins, settled, parity_sum}
@@ -31,15 +31,6 @@ use Rattle.machine.specs.inner.Tables.{EdgeRoom}
 use Rattle.layered.specs.inner.Parity.{holds_at, all_hold, ParityRoom, FirstNot, SettledRoom}
 use Rattle.machine.proofs.Leasts.{up_to_tab}
 use Rattle.machine.proofs.Places.{length_part}
-
--- a loop over the columns of q costs, which leaves g of each: its turn and its end
-pub each_turn : (g : List ℕ → ℕ) (q : ℕ) (P d now : List ℕ) (c z : ℕ) → c < length d → now ≡ tab (λ k. g (column_of q P k)) c ++ drop c d
-    → z ≡ g (column_of q P c) → set now c z ≡ tab (λ k. g (column_of q P k)) (c + 1) ++ drop (c + 1) d
-each_turn g q P d now c z h o i = rw (o, i) (tab-more (λ k. g (column_of q P k)) d c h)
-
-pub each-done : (g : List ℕ → ℕ) (q : ℕ) (P d now : List ℕ) (c : ℕ) → c ≡ length d → now ≡ tab (λ k. g (column_of q P k)) c ++ drop c d
-    → now ≡ tab (λ k. g (column_of q P k)) (length d)
-each-done g q P d now c e o = o ∙ rw e (tab_whole (λ k. g (column_of q P k)) d)
 
 -- a check by its sum
 module _ (C : Code) (z : List ℕ) where

@@ -8,7 +8,8 @@ use native.Mathlib.Nat.{mul-zero, mul_comm, not-suc-le-zero, suc-mul}
 use native.Mathlib.Decide.{ℕ_discrete}
 use native.Mathlib.Omega.{arith}
 use lib.Dec.{lt→ltb}
-use lib.ListN.{length, get_or, length-map, length-append}
+use lib.ListN.{length, get_or, replicate, length-map, length-append}
+use Rattle.std.proofs.lemmas.List.{length-replicate, get_or-replicate}
 use lib.Seq.{take_at, drop_at, drop-length, ext_get_or, get_or-take, get_or-drop}
 use lib.Pow.{pow_pos}
 use borrow.Author.Tests.{eq-eqb, le-ltb}
@@ -138,10 +139,14 @@ expand_accepts first ws r out W f e =
     sym (expand_case first ws (weights-accepted first ws W.accepted W.two W.few W.some W.small) (length out) (λ k. out) _ r f (omega arith))
     ∙ rw (← e, drop-length out) (append-nil (expansion (rule_for first) ws r))
 
+zeros : (n : ℕ) → replicate n 0 ≡ tab (λ x. 0) n
+zeros n = ext_get_or 0 (replicate n 0) (tab (λ x. 0) n) (length-replicate n 0 ∙ sym (length-tab (λ x. 0) n)) (λ i h.
+    let j : i < n = omega (arith, length-replicate {A = ℕ} n 0) in get_or-replicate n i 0 0 j ∙ sym (get_d_tab (λ x. 0) n i j))
+
 -- what the old record sent
-pub recall-first : (first : ℕ) (start : Bool) (ws r out new : List ℕ) → RecallRoom first start ws r out → start ≡ true → new ≡ tab (λ x. 0) (length out) → new ≡ old_costs first start ws r
+pub recall-first : (first : ℕ) (start : Bool) (ws r out new : List ℕ) → RecallRoom first start ws r out → start ≡ true → new ≡ replicate (length out) 0 → new ≡ old_costs first start ws r
 unfolding old_costs
-recall-first first start ws r out new R f e = e ∙ rw (f, R.full)
+recall-first first start ws r out new R f e = e ∙ zeros (length out) ∙ rw (f, R.full)
 
 pub recall-later : (first : ℕ) (start : Bool) (ws r out new : List ℕ) → RecallRoom first start ws r out → start ≡ false → new ≡ expand_leaves first ws r out → new ≡ old_costs first start ws r
 unfolding old_costs

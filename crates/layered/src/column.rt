@@ -9,21 +9,18 @@ fn raise(c: u16, s: u8, g: u16) -> u16
     requires { (c ≤ 510) × (g ≤ 16) }
     ensures { (result ≡ c + 255 - scaled g s) × (result ≤ 765) }
 {
-    let w = scalar::u8_to_u16(s);
-    let m = g * w / 16;
+    let m = g * u16::from(s) / 16;
     c + 255 - m
 }
 
+#[tactic(auto, unfolding(crate::specs::inner::Columns::least_raised))]
 fn least_raised(costs: &[u16], old: &[u8], g: u16) -> u16
     requires { (length old.now ≡ length costs.now) × (Below 510 costs.now × (g ≤ 16)) }
     ensures { result ≡ least_raised g costs.now old.now (length costs.now) }
 {
     let mut least: u16 = 1000;
-    let mut i = 0;
-    while i < costs.len() {
-        let v = raise(costs[i], old[i], g);
-        least = scalar::min_u16(least, v);
-        i += 1;
+    for (i, &c) in costs.iter().enumerate() {
+        least = least.min(raise(c, old[i], g));
     }
     least
 }
@@ -36,11 +33,9 @@ fn incoming_column(costs: &[u16], old: &[u8], g: u16, out: &mut [u8])
     ensures { out.new ≡ incoming (length costs.now) costs.now (map (scaled g) old.now) }
 {
     let least = least_raised(costs, old, g);
-    let mut i = 0;
-    while i < out.len() {
+    for (i, x) in out.iter_mut().enumerate() {
         let v = raise(costs[i], old[i], g);
-        out[i] = scalar::cap_u8(v - least);
-        i += 1;
+        *x = (v - least).min(255) as u8;
     }
 }
 
@@ -50,14 +45,15 @@ pub fn gather(costs: &[u16], cols: &[u16], old: &[u8], g: u16, q: usize, out: &m
     ensures { out.new
         ≡ gathered costs.now cols.now old.now g q (length cols.now) out.old }
 {
-    let mut k = 0;
-    while k < cols.len() {
-        let a = scalar::u16_to_usize(cols[k]) * q;
-        let e = a + q;
-        let b = k * q;
-        let f = b + q;
-        incoming_column(&costs[a..e], &old[b..f], g, &mut out[b..f]);
-        k += 1;
+    for (k, &c) in cols.iter().enumerate() {
+        let from = usize::from(c) * q;
+        let at = k * q;
+        incoming_column(
+            &costs[from..from + q],
+            &old[at..at + q],
+            g,
+            &mut out[at..at + q],
+        );
     }
 }
 
@@ -66,21 +62,18 @@ fn sum(c: u8, s: u8, g: u16) -> u16
     requires { g ≤ 16 }
     ensures { (result ≡ c + scaled g s) × (result ≤ 510) }
 {
-    let w = scalar::u8_to_u16(s);
-    let m = g * w / 16;
-    ((c as u32) + (m as u32)) as u16
+    let m = g * u16::from(s) / 16;
+    (u32::from(c) + u32::from(m)) as u16
 }
 
+#[tactic(auto, unfolding(crate::specs::inner::Columns::least_summed))]
 fn least_summed(qs: &[u8], new: &[u8], g: u16) -> u16
     requires { (length new.now ≡ length qs.now) × (g ≤ 16) }
     ensures { result ≡ least_summed g qs.now new.now (length qs.now) }
 {
     let mut least: u16 = 1000;
-    let mut i = 0;
-    while i < qs.len() {
-        let v = sum(qs[i], new[i], g);
-        least = scalar::min_u16(least, v);
-        i += 1;
+    for (i, &c) in qs.iter().enumerate() {
+        least = least.min(sum(c, new[i], g));
     }
     least
 }
@@ -91,11 +84,8 @@ fn outgoing_column(qs: &[u8], new: &[u8], g: u16, costs: &mut [u16])
     ensures { costs.new ≡ outgoing (length qs.now) qs.now (map (scaled g) new.now) }
 {
     let least = least_summed(qs, new, g);
-    let mut i = 0;
-    while i < costs.len() {
-        let v = sum(qs[i], new[i], g);
-        costs[i] = v - least;
-        i += 1;
+    for (i, x) in costs.iter_mut().enumerate() {
+        *x = sum(qs[i], new[i], g) - least;
     }
 }
 
@@ -105,13 +95,9 @@ pub fn scatter(qs: &[u8], new: &[u8], cols: &[u16], g: u16, q: usize, costs: &mu
     ensures { costs.new
         ≡ scattered qs.now new.now cols.now g q (length cols.now) costs.old }
 {
-    let mut k = 0;
-    while k < cols.len() {
-        let a = scalar::u16_to_usize(cols[k]) * q;
-        let e = a + q;
-        let b = k * q;
-        let f = b + q;
-        outgoing_column(&qs[b..f], &new[b..f], g, &mut costs[a..e]);
-        k += 1;
+    for (k, &c) in cols.iter().enumerate() {
+        let to = usize::from(c) * q;
+        let at = k * q;
+        outgoing_column(&qs[at..at + q], &new[at..at + q], g, &mut costs[to..to + q]);
     }
 }

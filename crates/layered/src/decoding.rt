@@ -104,7 +104,7 @@ fn under_code(
         (answer_reply result)
         (lending symbols.new costs.new store.new margins.new) }
 {
-    let n = scalar::u16_to_usize(numbers.columns);
+    let n = usize::from(numbers.columns);
     let k = frame::fault(numbers, degrees, frame, symbols, costs, store, margins);
     if k != 0 {
         return Answer::Refused(k);
@@ -160,7 +160,7 @@ pub fn decode_in(
             );
             Counted {
                 answer,
-                columns: scalar::u16_to_usize(numbers.columns),
+                columns: usize::from(numbers.columns),
             }
         }
     }

@@ -1,6 +1,6 @@
 // Stopping inside an iteration: the checks are updated one after the other, and after each update its columns are decided again and the
 // test is made where a symbol changed, from a check on that was not satisfied at the last test.
-ghost use Rattle.std.specs.Prelude.{◌≡◌, true, ◌+◌, ◌*◌, ◌≤◌, ◌<◌, length, set};
+ghost use Rattle.std.specs.Prelude.{◌≡◌, true, false, ◌+◌, ◌*◌, ◌≤◌, ◌<◌, length, set};
 ghost use Rattle.trellis.specs.Check.{decide as decide_of};
 ghost use Rattle.trellis.specs.Sizes.{most_size};
 ghost use Rattle.machine.specs.CodeLine.{column_of};
@@ -18,22 +18,23 @@ use crate::place::Place;
 use crate::{parity, place};
 use codeline::answers::Numbers;
 
-// Decides column c again; 1 where its symbol is another one now, else 0.
-fn decide_at(costs: &[u16], q: usize, c: usize, symbols: &mut [u8]) -> usize
+// Decides column c again; whether its symbol is another one now.
+fn decide_at(costs: &[u16], q: usize, c: usize, symbols: &mut [u8]) -> bool
     requires { (c * q + q ≤ length costs.now) × ((c < length symbols.old) × (q ≤ most_size)) }
     ensures symbols_then { symbols.new
         ≡ set symbols.old c (decide_of (column_of q costs.now c)).symbol }
-    ensures changed { (result ≤ 1) × (result ≡ 0 → symbols.new ≡ symbols.old) }
+    ensures changed { result ≡ false → symbols.new ≡ symbols.old }
 {
     let z = parity::decided(costs, q, c).symbol as u8;
     if symbols[c] == z {
-        return 0;
+        return false;
     }
     symbols[c] = z;
-    1
+    true
 }
 
 // Decides a check's columns again; how many symbols are others now.
+#[tactic(auto, unfolding(crate::specs::inner::Early::decided_again))]
 fn decide_again(costs: &[u16], q: usize, columns: &[u16], symbols: &mut [u8]) -> usize
     requires { AgainRoom q costs.now columns.now symbols.old }
     ensures symbols_then { symbols.new
@@ -41,11 +42,8 @@ fn decide_again(costs: &[u16], q: usize, columns: &[u16], symbols: &mut [u8]) ->
     ensures changed { result ≡ 0 → symbols.new ≡ symbols.old }
 {
     let mut changed = 0;
-    let mut k = 0;
-    while k < columns.len() {
-        let c = scalar::u16_to_usize(columns[k]);
-        changed += decide_at(costs, q, c, symbols);
-        k += 1;
+    for &c in columns {
+        changed += usize::from(decide_at(costs, q, usize::from(c), symbols));
     }
     changed
 }
@@ -65,7 +63,7 @@ fn unsatisfied_from(
     ensures { SomeNot (code_of numbers degrees.now columns.now weights.now)
         degrees.now symbols.now result }
 {
-    let count = scalar::u8_to_usize(numbers.checks);
+    let count = usize::from(numbers.checks);
     let behind = parity::unsatisfied(numbers, from, count, degrees, columns, weights, symbols);
     if behind.check != count {
         return behind;
@@ -102,7 +100,7 @@ fn tested_again(
 {
     let m = here.check;
     let at = here.edge;
-    let d = scalar::u8_to_usize(degrees[m]);
+    let d = usize::from(degrees[m]);
     let e = at + d;
     let q = rules::size(numbers.first);
     if decide_again(costs, q, &columns[at..e], symbols) == 0 {
@@ -133,7 +131,7 @@ fn go_on(
         ≡ symbols_of (code_of numbers degrees.now columns.now weights.now)
         costs.new }
 {
-    let count = scalar::u8_to_usize(numbers.checks);
+    let count = usize::from(numbers.checks);
     let mut here = Place {
         check: 0,
         edge: 0,
@@ -147,7 +145,7 @@ fn go_on(
         }
         let next = place::update_at(
             numbers,
-            scalar::u16_to_usize(u) < count,
+            usize::from(u) < count,
             here,
             degrees,
             columns,
@@ -172,7 +170,7 @@ fn go_on(
 fn most_updates(numbers: Numbers) -> u16
     ensures { result ≡ numbers.checks * numbers.limit }
 {
-    scalar::u8_to_u16(numbers.checks) * scalar::u8_to_u16(numbers.limit)
+    u16::from(numbers.checks) * u16::from(numbers.limit)
 }
 
 // The machine on the costs in `costs`, "tested at the start and after each check update".

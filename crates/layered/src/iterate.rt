@@ -28,7 +28,7 @@ pub fn iterate(
         ≡ iteration_lent (code_of numbers degrees.now columns.now weights.now)
         start (lent costs.old store.old) }
 {
-    let count = scalar::u8_to_usize(numbers.checks);
+    let count = usize::from(numbers.checks);
     let mut here = Place {
         check: 0,
         edge: 0,
@@ -62,7 +62,7 @@ pub fn run(
         ≡ symbols_of (code_of numbers degrees.now columns.now weights.now)
         costs.new }
 {
-    let limit = scalar::u8_to_u16(numbers.limit);
+    let limit = u16::from(numbers.limit);
     let mut t: u16 = 0;
     loop {
         if parity::settled(numbers, degrees, columns, weights, costs, symbols) {

@@ -22,9 +22,8 @@ pub fn decided(costs: &[u16], q: usize, c: usize) -> Decision
     ensures symbol { (result.symbol ≡ (decide_of (column_of q costs.now c)).symbol) × (result.symbol ≤ q) }
     ensures margin { result.margin ≡ (decide_of (column_of q costs.now c)).margin }
 {
-    let a = c * q;
-    let e = a + q;
-    decision::decide_u16(&costs[a..e])
+    let at = c * q;
+    decision::decide_u16(&costs[at..at + q])
 }
 
 // The symbol of each column.
@@ -33,10 +32,8 @@ fn decisions(costs: &[u16], q: usize, symbols: &mut [u8])
     ensures { symbols.new
         ≡ tab (λ c. (decide_of (column_of q costs.now c)).symbol) (length symbols.old) }
 {
-    let mut c = 0;
-    while c < symbols.len() {
-        symbols[c] = decided(costs, q, c).symbol as u8;
-        c += 1;
+    for (c, x) in symbols.iter_mut().enumerate() {
+        *x = decided(costs, q, c).symbol as u8;
     }
 }
 
@@ -46,10 +43,8 @@ pub fn margins(costs: &[u16], q: usize, margins: &mut [u16])
     ensures { margins.new
         ≡ tab (λ c. (decide_of (column_of q costs.now c)).margin) (length margins.old) }
 {
-    let mut c = 0;
-    while c < margins.len() {
-        margins[c] = decided(costs, q, c).margin;
-        c += 1;
+    for (c, x) in margins.iter_mut().enumerate() {
+        *x = decided(costs, q, c).margin;
     }
 }
 
@@ -69,7 +64,7 @@ fn term_at(numbers: Numbers, columns: &[u16], weights: &[u8], symbols: &[u8], ed
     requires { EdgeRoom (power_of numbers.first) columns.now weights.now symbols.now edge }
     ensures { result ≡ term (power_of numbers.first) columns.now weights.now symbols.now edge }
 {
-    let c = scalar::u16_to_usize(columns[edge]);
+    let c = usize::from(columns[edge]);
     times(rules::power(numbers.first), weights[edge], symbols[c])
 }
 
@@ -102,7 +97,7 @@ pub fn unsatisfied(
         if m == to {
             break 'checks CheckAt { check: m, edge: at };
         }
-        let d = scalar::u8_to_usize(degrees[m]);
+        let d = usize::from(degrees[m]);
         let mut sum = 0u8;
         let mut n = 0;
         loop {
@@ -112,7 +107,7 @@ pub fn unsatisfied(
                 }
                 break;
             }
-            sum = sum ^ term_at(numbers, columns, weights, symbols, at + n);
+            sum ^= term_at(numbers, columns, weights, symbols, at + n);
             n += 1;
         }
         at += d;
@@ -126,7 +121,7 @@ fn holds(numbers: Numbers, degrees: &[u8], columns: &[u16], weights: &[u8], symb
     ensures { result ≡ all_hold (code_of numbers degrees.now columns.now weights.now)
         symbols.now }
 {
-    let count = scalar::u8_to_usize(numbers.checks);
+    let count = usize::from(numbers.checks);
     let from = CheckAt { check: 0, edge: 0 };
     unsatisfied(numbers, from, count, degrees, columns, weights, symbols).check == count
 }

@@ -40,7 +40,7 @@ pub fn update_at(
     let place = here.byte;
     let q = rules::size(numbers.first);
     let groups = rules::groups(numbers.first);
-    let d = scalar::u8_to_usize(degrees[m]);
+    let d = usize::from(degrees[m]);
     let n = d * q;
     let e = at + d;
     let f = place + (d + groups);

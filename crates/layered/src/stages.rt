@@ -22,7 +22,7 @@ pub fn stage_after(found: bool, t: u16, limit: u8) -> Stage
     if found {
         return Stage::Found;
     }
-    if scalar::u8_to_u16(limit) <= t {
+    if u16::from(limit) <= t {
         return Stage::NotFound;
     }
     Stage::Running
@@ -106,7 +106,7 @@ fn load_under(
         (stage_of result)
         (lending symbols.new costs.new store.now margins.new) }
 {
-    let n = scalar::u16_to_usize(numbers.columns);
+    let n = usize::from(numbers.columns);
     let k = frame::fault(numbers, degrees, frame, symbols, costs, store, margins);
     if k != 0 {
         return Stage::Refused(k);
@@ -148,7 +148,7 @@ fn step_under(
         (stage_of result)
         (lending symbols.new costs.new store.new margins.new) }
 {
-    let n = scalar::u16_to_usize(numbers.columns);
+    let n = usize::from(numbers.columns);
     let k = frame::fault(numbers, degrees, frame, symbols, costs, store, margins);
     if k != 0 {
         return Stage::Refused(k);
@@ -171,7 +171,7 @@ fn step_under(
         arrived,
         sent,
     );
-    stage_after(found, scalar::u8_to_u16(t) + 1, numbers.limit)
+    stage_after(found, u16::from(t) + 1, numbers.limit)
 }
 
 // Over the tables of load.

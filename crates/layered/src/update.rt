@@ -1,6 +1,5 @@
 // One update of a check: Q from the costs and the old record, the new record, and the costs again.
-ghost use Rattle.std.specs.Prelude.{◌≡◌, length};
-ghost use Rattle.trellis.specs.Lists.{tab};
+ghost use Rattle.std.specs.Prelude.{◌≡◌};
 ghost use Rattle.trellis.specs.Check.{all_sent};
 ghost use Rattle.trellis.specs.Record.{record_of};
 ghost use Rattle.trellis.specs.Rules.{rule_for, size_of, columns_of};
@@ -11,23 +10,13 @@ ghost use Rattle.layered.specs.inner.Updates.{old_costs, RecallRoom, SendRoom, U
 use crate::column;
 use codeline::answers::Numbers;
 
-fn clear(out: &mut [u8])
-    ensures { out.new ≡ tab (λ x. 0) (length out.old) }
-{
-    let mut i = 0;
-    while i < out.len() {
-        out[i] = 0;
-        i += 1;
-    }
-}
-
 // What the old record sent, before scaling; "0 if none".
 fn recall(first: u8, start: bool, weights: &[u8], bytes: &[u8], out: &mut [u8])
     requires { RecallRoom first start weights.now bytes.now out.old }
     ensures { out.new ≡ old_costs first start weights.now bytes.now }
 {
     if start {
-        clear(out);
+        out.fill(0);
         return;
     }
     expansion::expand(first, weights, bytes, out);
@@ -65,7 +54,7 @@ pub fn update(
         (edges_of columns.now weights.now) bytes.old costs.old }
 {
     let q = rules::size(numbers.first);
-    let g = scalar::u8_to_u16(numbers.scale);
+    let g = u16::from(numbers.scale);
     recall(numbers.first, start, weights, bytes, sent);
     column::gather(costs, columns, sent, g, q, arrived);
     send(numbers.first, weights, arrived, bytes, sent);

@@ -25,5 +25,5 @@ returns-in-Read c =
     let e = rw c.in-Read.is at c.code_tables.ensures.numbers in
     record {
       leaves = said-calls c.args.code.now c.args.frame.now (lending c.args.symbols.now c.args.costs.now c.args.store.now c.args.margins.now) c.args.early (code_of c.in-Read.numbers c.code_tables.new.degrees c.code_tables.new.columns c.code_tables.new.weights) (line_says c.args.code.now c.code_tables.result c.code_tables.ensures.numbers c.in-Read.numbers c.in-Read.is _ _ _ c.code_tables.new.degrees c.code_tables.new.columns c.code_tables.new.weights c.code_tables.ensures.degrees_then c.code_tables.ensures.columns_then c.code_tables.ensures.weights_then) _ _ c.under_code-answer.ensures;
-      columns = (c.u16_to_usize.ensures.0 ∙ ap columns_read e, rw c.u16_to_usize.ensures.0 (columns-small c.args.code.now _ e));
+      columns = (c.from.ensures ∙ ap columns_read e, rw c.from.ensures (columns-small c.args.code.now _ e));
     }

@@ -8,11 +8,11 @@ use Rattle.layered.proofs.early.unsatisfied_from.Goals as goal
 
 pub unsatisfied-behind-requires : goal.unsatisfied-behind-requires
 unsatisfied-behind-requires c =
-    (c.requires.0, record { edge_is = c.requires.1.edge_is; ordered = omega (arith, c.requires.1.ordered, c.u8_to_usize-count.ensures.0); inside = omega (arith, c.u8_to_usize-count.ensures.0) })
+    (c.requires.0, record { edge_is = c.requires.1.edge_is; ordered = omega (arith, c.requires.1.ordered, c.from-count.ensures); inside = omega (arith, c.from-count.ensures) })
 
 pub returns-then-behind-count : goal.returns-then-behind-count
 returns-then-behind-count c =
-    not_behind (code_of c.args.numbers c.args.degrees.now c.args.columns.now c.args.weights.now) c.args.degrees.now c.args.symbols.now c.u8_to_usize-count.result (c.u8_to_usize-count.ensures.0 ∙ sym (checks-count c.args.numbers c.args.degrees.now c.args.columns.now c.args.weights.now c.requires.0.coded)) c.args.from c.unsatisfied-behind.result c.unsatisfied-behind.ensures c.if-behind-count.true
+    not_behind (code_of c.args.numbers c.args.degrees.now c.args.columns.now c.args.weights.now) c.args.degrees.now c.args.symbols.now c.from-count.result (c.from-count.ensures ∙ sym (checks-count c.args.numbers c.args.degrees.now c.args.columns.now c.args.weights.now c.requires.0.coded)) c.args.from c.unsatisfied-behind.result c.unsatisfied-behind.ensures c.if-behind-count.true
 
 pub unsatisfied-before-requires : goal.unsatisfied-before-requires
 unsatisfied-before-requires c =
@@ -20,8 +20,8 @@ unsatisfied-before-requires c =
 
 pub returns-then-before-from : goal.returns-then-before-from
 returns-then-before-from c =
-    not-before (code_of c.args.numbers c.args.degrees.now c.args.columns.now c.args.weights.now) c.args.degrees.now c.args.symbols.now c.u8_to_usize-count.result (c.u8_to_usize-count.ensures.0 ∙ sym (checks-count c.args.numbers c.args.degrees.now c.args.columns.now c.args.weights.now c.requires.0.coded)) c.args.from c.unsatisfied-behind.result c.unsatisfied-behind.ensures (omega (arith, c.requires.1.ordered, c.u8_to_usize-count.ensures.0)) c.if-behind-count.false c.unsatisfied-before.result c.unsatisfied-before.ensures c.if-before-from.true
+    not-before (code_of c.args.numbers c.args.degrees.now c.args.columns.now c.args.weights.now) c.args.degrees.now c.args.symbols.now c.from-count.result (c.from-count.ensures ∙ sym (checks-count c.args.numbers c.args.degrees.now c.args.columns.now c.args.weights.now c.requires.0.coded)) c.args.from c.unsatisfied-behind.result c.unsatisfied-behind.ensures (omega (arith, c.requires.1.ordered, c.from-count.ensures)) c.if-behind-count.false c.unsatisfied-before.result c.unsatisfied-before.ensures c.if-before-from.true
 
 pub returns : goal.returns
 returns c =
-    none-not (code_of c.args.numbers c.args.degrees.now c.args.columns.now c.args.weights.now) c.args.degrees.now c.args.symbols.now c.u8_to_usize-count.result (c.u8_to_usize-count.ensures.0 ∙ sym (checks-count c.args.numbers c.args.degrees.now c.args.columns.now c.args.weights.now c.requires.0.coded)) c.args.from c.unsatisfied-behind.result c.unsatisfied-behind.ensures (omega (arith, c.requires.1.ordered, c.u8_to_usize-count.ensures.0)) c.if-behind-count.false c.unsatisfied-before.result c.unsatisfied-before.ensures c.if-before-from.false
+    none-not (code_of c.args.numbers c.args.degrees.now c.args.columns.now c.args.weights.now) c.args.degrees.now c.args.symbols.now c.from-count.result (c.from-count.ensures ∙ sym (checks-count c.args.numbers c.args.degrees.now c.args.columns.now c.args.weights.now c.requires.0.coded)) c.args.from c.unsatisfied-behind.result c.unsatisfied-behind.ensures (omega (arith, c.requires.1.ordered, c.from-count.ensures)) c.if-behind-count.false c.unsatisfied-before.result c.unsatisfied-before.ensures c.if-before-from.false

@@ -14,7 +14,7 @@ loop-here-init c = (omega arith, (record { check_is = refl; edge_is = refl; byte
 
 pub update_at-here-requires : goal.update_at-here-requires
 update_at-here-requires c =
-    record { updatable = update-updatable c.args.numbers c.args.degrees.now c.args.columns.now c.args.weights.now c.args.costs.now c.args.store.now c.args.start c.requires.running c.loop-here.here.check (omega (arith, c.u8_to_usize-count.ensures.0)) _ c.loop-here.invariant.1.1.0; stands = c.loop-here.invariant.1.0; arrived = omega (arith, c.requires.arrived, c.loop-here.invariant.1.1.1.1.1.0); sent = omega (arith, c.requires.sent, c.loop-here.invariant.1.1.1.1.1.1) }
+    record { updatable = update-updatable c.args.numbers c.args.degrees.now c.args.columns.now c.args.weights.now c.args.costs.now c.args.store.now c.args.start c.requires.running c.loop-here.here.check (omega (arith, c.from-count.ensures)) _ c.loop-here.invariant.1.1.0; stands = c.loop-here.invariant.1.0; arrived = omega (arith, c.requires.arrived, c.loop-here.invariant.1.1.1.1.1.0); sent = omega (arith, c.requires.sent, c.loop-here.invariant.1.1.1.1.1.1) }
 
 pub loop-here-smaller : goal.loop-here-smaller
 loop-here-smaller c =
@@ -26,4 +26,4 @@ loop-here-preserved c =
 
 pub returns : goal.returns
 returns c =
-    iteration-done (code_of c.args.numbers c.args.degrees.now c.args.columns.now c.args.weights.now) c.args.start (lent c.args.costs.now c.args.store.now) _ c.loop-here.here.check (omega (arith, c.u8_to_usize-count.ensures.0, checks-count c.args.numbers c.args.degrees.now c.args.columns.now c.args.weights.now c.requires.running.coded)) c.loop-here.invariant.1.1.0
+    iteration-done (code_of c.args.numbers c.args.degrees.now c.args.columns.now c.args.weights.now) c.args.start (lent c.args.costs.now c.args.store.now) _ c.loop-here.here.check (omega (arith, c.from-count.ensures, checks-count c.args.numbers c.args.degrees.now c.args.columns.now c.args.weights.now c.requires.running.coded)) c.loop-here.invariant.1.1.0

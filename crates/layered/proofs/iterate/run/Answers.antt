@@ -26,7 +26,7 @@ returns-then-settled c =
 pub returns-then-t-limit : goal.returns-then-t-limit
 returns-then-t-limit c =
     record {
-      ends = run_end (code_of c.args.numbers c.args.degrees.now c.args.columns.now c.args.weights.now) c.args.numbers.limit c.loop-numbers.t (lent c.loop-numbers.costs c.loop-numbers.store) (lent c.args.costs.now c.args.store.now) c.settled.result c.settled.ensures.test c.loop-numbers.invariant.1.1.0 c.if-settled.false (c.if-t-limit.true ∙ c.u8_to_u16-limit.ensures.0);
+      ends = run_end (code_of c.args.numbers c.args.degrees.now c.args.columns.now c.args.weights.now) c.args.numbers.limit c.loop-numbers.t (lent c.loop-numbers.costs c.loop-numbers.store) (lent c.args.costs.now c.args.store.now) c.settled.result c.settled.ensures.test c.loop-numbers.invariant.1.1.0 c.if-settled.false (c.if-t-limit.true ∙ c.from-limit.ensures);
       symbols_then = c.settled.ensures.symbols_then;
     }
 
@@ -36,12 +36,12 @@ iterate-requires c =
 
 pub overflow_add-t : goal.overflow_add-t
 overflow_add-t c =
-    omega (arith, c.loop-numbers.invariant.0, c.if-t-limit.false, c.u8_to_u16-limit.ensures)
+    omega (arith, c.loop-numbers.invariant.0, c.if-t-limit.false, c.from-limit.ensures)
 
 pub loop-numbers-smaller : goal.loop-numbers-smaller
 loop-numbers-smaller c =
-    omega (arith, c.loop-numbers.invariant.0, c.if-t-limit.false, c.u8_to_u16-limit.ensures)
+    omega (arith, c.loop-numbers.invariant.0, c.if-t-limit.false, c.from-limit.ensures)
 
 pub loop-numbers-preserved : goal.loop-numbers-preserved
 loop-numbers-preserved c =
-    (omega (arith, c.loop-numbers.invariant.0, c.if-t-limit.false, c.u8_to_u16-limit.ensures), (next-running c.args.numbers c.args.degrees.now c.args.columns.now c.args.weights.now c.loop-numbers.costs c.loop-numbers.store (eqb c.loop-numbers.t 0) c.loop-numbers.invariant.1.0 _ _ c.loop-numbers.t c.iterate.ensures, (run_more (code_of c.args.numbers c.args.degrees.now c.args.columns.now c.args.weights.now) c.args.numbers.limit c.loop-numbers.t (lent c.loop-numbers.costs c.loop-numbers.store) (lent c.args.costs.now c.args.store.now) c.settled.result c.settled.ensures.test c.loop-numbers.invariant.1.1.0 c.if-settled.false (omega (arith, c.loop-numbers.invariant.0, c.if-t-limit.false, c.u8_to_u16-limit.ensures)) _ c.iterate.ensures, (omega (arith, c.settled.auto, c.loop-numbers.invariant.1.1.1.0), (omega (arith, c.iterate.auto, c.loop-numbers.invariant.1.1.1.1.0), (omega (arith, c.iterate.auto, c.loop-numbers.invariant.1.1.1.1.1.0), (omega (arith, c.iterate.auto, c.loop-numbers.invariant.1.1.1.1.1.1.0), omega (arith, c.iterate.auto, c.loop-numbers.invariant.1.1.1.1.1.1.1))))))))
+    (omega (arith, c.loop-numbers.invariant.0, c.if-t-limit.false, c.from-limit.ensures), (next-running c.args.numbers c.args.degrees.now c.args.columns.now c.args.weights.now c.loop-numbers.costs c.loop-numbers.store (eqb c.loop-numbers.t 0) c.loop-numbers.invariant.1.0 _ _ c.loop-numbers.t c.iterate.ensures, (run_more (code_of c.args.numbers c.args.degrees.now c.args.columns.now c.args.weights.now) c.args.numbers.limit c.loop-numbers.t (lent c.loop-numbers.costs c.loop-numbers.store) (lent c.args.costs.now c.args.store.now) c.settled.result c.settled.ensures.test c.loop-numbers.invariant.1.1.0 c.if-settled.false (omega (arith, c.loop-numbers.invariant.0, c.if-t-limit.false, c.from-limit.ensures)) _ c.iterate.ensures, (omega (arith, c.settled.auto, c.loop-numbers.invariant.1.1.1.0), (omega (arith, c.iterate.auto, c.loop-numbers.invariant.1.1.1.1.0), (omega (arith, c.iterate.auto, c.loop-numbers.invariant.1.1.1.1.1.0), (omega (arith, c.iterate.auto, c.loop-numbers.invariant.1.1.1.1.1.1.0), omega (arith, c.iterate.auto, c.loop-numbers.invariant.1.1.1.1.1.1.1))))))))

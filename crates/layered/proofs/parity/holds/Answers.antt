@@ -8,8 +8,8 @@ use Rattle.layered.proofs.parity.holds.Goals as goal
 
 pub unsatisfied-requires : goal.unsatisfied-requires
 unsatisfied-requires c =
-    (c.requires, record { edge_is = refl; ordered = omega arith; inside = omega (arith, c.u8_to_usize-count.ensures.0) })
+    (c.requires, record { edge_is = refl; ordered = omega arith; inside = omega (arith, c.from-count.ensures) })
 
 pub returns : goal.returns
 returns c =
-    first-not-all (code_of c.args.numbers c.args.degrees.now c.args.columns.now c.args.weights.now) c.args.symbols.now c.args.degrees.now c.unsatisfied.result c.u8_to_usize-count.result (c.u8_to_usize-count.ensures.0 ∙ sym (checks-count c.args.numbers c.args.degrees.now c.args.columns.now c.args.weights.now c.requires.coded)) c.unsatisfied.ensures
+    first-not-all (code_of c.args.numbers c.args.degrees.now c.args.columns.now c.args.weights.now) c.args.symbols.now c.args.degrees.now c.unsatisfied.result c.from-count.result (c.from-count.ensures ∙ sym (checks-count c.args.numbers c.args.degrees.now c.args.columns.now c.args.weights.now c.requires.coded)) c.unsatisfied.ensures

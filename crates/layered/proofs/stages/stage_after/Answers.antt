@@ -10,12 +10,12 @@ returns-then-found c =
     let a = c.args in
     stage_found a.t a.limit a.found c.if-found.true
 
-pub returns-then-u8_to_u16-t : goal.returns-then-u8_to_u16-t
-returns-then-u8_to_u16-t c =
+pub returns-then-from-t : goal.returns-then-from-t
+returns-then-from-t c =
     let a = c.args in
-    stage-by a.t a.limit a.found c.if-found.false true (le-leb a.limit a.t (rw c.u8_to_u16.ensures.0 at c.if-u8_to_u16-t.true))
+    stage-by a.t a.limit a.found c.if-found.false true (le-leb a.limit a.t (rw c.from.ensures at c.if-from-t.true))
 
 pub returns : goal.returns
 returns c =
     let a = c.args in
-    stage-by a.t a.limit a.found c.if-found.false false (lt-leb a.limit a.t (omega (arith, c.if-u8_to_u16-t.false, c.u8_to_u16.ensures.0)))
+    stage-by a.t a.limit a.found c.if-found.false false (lt-leb a.limit a.t (omega (arith, c.if-from-t.false, c.from.ensures)))
