@@ -3,16 +3,18 @@ use mathlib.Core.Path.{◌≡◌, refl, sym, ap, ap₂, ◌∙◌}
 use mathlib.Core.List.Memᴰ
 use mathlib.Core.List.{List, ◌++◌, map}
 use Prim.Native.Nat.{ℕ, ◌+◌, ◌-◌, ◌*◌, ◌≤◌, ◌<◌, min}
-use native.Mathlib.Nat.{add-sub_cancel_left, mul-le-mul_right}
+use native.Mathlib.Nat.{add-sub_cancel_left}
 use native.Mathlib.Omega.{arith}
-use lib.ListN.{length, drop}
+use lib.ListN.{length, take, drop}
+use lib.Seq.{take_all}
+use borrow.Rule.Slice.PartMut.{put_mid}
 use lib.Pow.{pow_pos}
 use borrow.Author.Tests.{eq-eqb, ne_eqb, lt-ltb, le-ltb}
-use Rattle.trellis.specs.Lists.{up_to, smallest, tab, part, patch}
+use Rattle.trellis.specs.Lists.{up_to, smallest, tab, part}
 use Rattle.trellis.specs.Rules.{size_of}
 use Rattle.trellis.specs.Reply.{accepted, refusal}
 use Rattle.trellis.proofs.Lists.{in_up_to, smallest_le}
-use Rattle.trellis.proofs.Loops.{tab_whole, block_start, block-length, block_more, block-end}
+use Rattle.trellis.proofs.Loops.{block_next}
 use Rattle.machine.specs.CodeLine.{good, Code, column_of, parse, numbers_of, frame_fault}
 use Rattle.machine.specs.Combining.{both_costs, combined_column, combined_to, combine_fault, combining_under, combining}
 use Rattle.machine.proofs.Faults.{combine_by}
@@ -38,50 +40,28 @@ pub least_le : (a b : List ℕ) (n : ℕ) → ((x : ℕ) → both_costs a b x �
 least_le a b n s x h = rw (least_is a b n (omega arith) s) (smallest_le (Memᴰ.map (both_costs a b) (in_up_to h)))
 
 -- the column as the loop makes it
-pub column-done : (a b d out : List ℕ) (least i : ℕ) → 0 < length a → ((x : ℕ) → both_costs a b x ≤ 1000) → length d ≡ length a → i ≡ length d → least ≡ least_both a b (length a)
-    → out ≡ tab (λ x. min 255 (both_costs a b x - least)) i ++ drop i d → out ≡ combined_column (length a) a b
+pub column-done : (a b out : List ℕ) (least i : ℕ) → 0 < length a → ((x : ℕ) → both_costs a b x ≤ 1000) → length out ≡ length a → i ≡ length a → least ≡ least_both a b (length a)
+    → take i out ≡ tab (λ x. min 255 (both_costs a b x - least)) i → out ≡ combined_column (length a) a b
 unfolding combined_column
-column-done a b d out least i some s k e m o =
+column-done a b out least i some s k e m o =
     let n : ℕ = length a in
     let v : ℕ → ℕ = λ x. min 255 (both_costs a b x - least) in
     let t : map (λ v. min 255 v) (map (λ v. v - least) (map (both_costs a b) (up_to n))) ≡ tab v n =
     ap (map (λ v. min 255 v)) (map-after (λ v. v - least) (both_costs a b) (up_to n)) ∙ map-after (λ v. min 255 v) (λ x. both_costs a b x - least) (up_to n) ∙ up_to_tab v n in
     let l : smallest (map (both_costs a b) (up_to n)) ≡ least = sym (m ∙ least_is a b n some s) in
-    o ∙ rw e (tab_whole v d) ∙ ap (tab v) k ∙ sym t ∙ ap (λ y. map (λ v. min 255 v) (map (λ v. v - y) (map (both_costs a b) (up_to n)))) (sym l)
+    sym (take_all i out (omega arith)) ∙ o ∙ ap (tab v) e ∙ sym t ∙ ap (λ y. map (λ v. min 255 v) (map (λ v. v - y) (map (both_costs a b) (up_to n)))) (sym l)
 
--- a column's part of a list
-pub column-placed : (f g out x : List ℕ) (q c : ℕ) → c * q + q ≤ length f
+-- one column more
+pub column_next : (f g out x : List ℕ) (q c k : ℕ) → 0 < q → c * q + q ≤ length f → c * q ≤ length out
     → x ≡ combined_column (length (part f (c * q) (c * q + q - c * q))) (part f (c * q) (c * q + q - c * q)) (part g (c * q) (c * q + q - c * q))
-    → patch out (c * q) (c * q + q - c * q) x ≡ patch out (c * q) q (combined_column q (column_of q f c) (column_of q g c))
-column-placed f g out x q c room i =
+    → take (c * q) out ≡ combined_to q f g c → take ((c + 1) * q) (put_mid (c * q) k out x) ≡ combined_to q f g (c + 1)
+unfolding combined_to
+column_next f g out x q c k some room fits i t =
+    let at : ℕ → List ℕ = λ c. combined_column q (column_of q f c) (column_of q g c) in
     let b : c * q + q - c * q ≡ q = add-sub_cancel_left (c * q) q in
     let l : length (part f (c * q) q) ≡ q = length_part f (c * q) q room in
-    let y : x ≡ combined_column q (column_of q f c) (column_of q g c) = i ∙ rw (b, l) in
-    rw (b, y)
-
--- the loop over the columns
-module _ (f g d : List ℕ) (q n : ℕ) (ld : length d ≡ n * q) (some : 0 < q) where
-  abbrev at : ℕ → List ℕ
-  at c = combined_column q (column_of q f c) (column_of q g c)
-
-  full : (c : ℕ) → length (at c) ≡ q
-  full c = length-combined q some (column_of q f c) (column_of q g c)
-
-  pub all_start : d ≡ combined_to q f g 0 ++ drop (0 * q) d
-  unfolding combined_to
-  all_start = block_start at q full d
-
-  pub all_turn : (now : List ℕ) (c : ℕ) → now ≡ combined_to q f g c ++ drop (c * q) d → patch now (c * q) q (at c) ≡ combined_to q f g (c + 1) ++ drop ((c + 1) * q) d
-  unfolding combined_to
-  all_turn now c o = ap (λ w. patch now (c * q) w (at c)) (sym (add-sub_cancel_left (c * q) q)) ∙ block_more at q full d now c o refl
-
-  pub all-length : (c : ℕ) → c ≤ n → length (combined_to q f g c ++ drop (c * q) d) ≡ length d
-  unfolding combined_to
-  all-length c h = block-length at q full d c (omega (arith, mul-le-mul_right q h))
-
-  pub all_done : (now : List ℕ) (c : ℕ) → c ≡ n → now ≡ combined_to q f g c ++ drop (c * q) d → now ≡ combined_to q f g n
-  unfolding combined_to
-  all_done now c e o = block-end at q full d now n (rw (← e) o) ld
+    let y : x ≡ at c = (rw b at i) ∙ ap (λ n. combined_column n (column_of q f c) (column_of q g c)) l in
+    block_next at c q k out x fits (ap length y ∙ length-combined q some (column_of q f c) (column_of q g c)) y t
 
 -- the tests, in their order
 frame_fault_is : (byte n : ℕ) (f : List ℕ) → frame_fault_of byte n f ≡ frame_fault (headed byte n) f

@@ -1,7 +1,5 @@
 // The columns of two frames: the two costs of a symbol, their least over a column, the column, all columns.
 ghost use Rattle.std.specs.Prelude.{◌≡◌, ◌+◌, ◌*◌, ◌≤◌, ◌<◌, length};
-ghost use Rattle.trellis.specs.Lists.{patch};
-ghost use Rattle.machine.specs.CodeLine.{column_of};
 ghost use Rattle.machine.specs.Combining.{combined_column, combined_to};
 ghost use Rattle.combiner.specs.inner.Columns.{least_both};
 
@@ -9,19 +7,17 @@ ghost use Rattle.combiner.specs.inner.Columns.{least_both};
 fn both(a: u8, b: u8) -> u16
     ensures { (result ≡ a + b) × (result ≤ 510) }
 {
-    scalar::u8_to_u16(a) + scalar::u8_to_u16(b)
+    u16::from(a) + u16::from(b)
 }
 
+#[tactic(auto, unfolding(crate::specs::inner::Columns::least_both))]
 fn least(first: &[u8], second: &[u8]) -> u16
     requires { length second.now ≡ length first.now }
     ensures { result ≡ least_both first.now second.now (length first.now) }
 {
-    let mut least: u16 = 1000;
-    let mut i = 0;
-    while i < first.len() {
-        let v = both(first[i], second[i]);
-        least = scalar::min_u16(least, v);
-        i += 1;
+    let mut least = 1000u16;
+    for (i, &a) in first.iter().enumerate() {
+        least = least.min(both(a, second[i]));
     }
     least
 }
@@ -32,23 +28,9 @@ fn combine_column(first: &[u8], second: &[u8], out: &mut [u8])
     ensures { out.new ≡ combined_column (length first.now) first.now second.now }
 {
     let least = least(first, second);
-    let mut i = 0;
-    while i < out.len() {
-        let v = both(first[i], second[i]);
-        out[i] = scalar::cap_u8(v - least);
-        i += 1;
+    for (i, x) in out.iter_mut().enumerate() {
+        *x = (both(first[i], second[i]) - least).min(255) as u8;
     }
-}
-
-// Column c of two frames, in its place.
-fn combine_at(first: &[u8], second: &[u8], q: usize, c: usize, out: &mut [u8])
-    requires { (c * q + q ≤ length first.now) × ((c * q + q ≤ length second.now) × ((c * q + q ≤ length out.old) × (0 < q))) }
-    ensures { out.new
-        ≡ patch out.old (c * q) q (combined_column q (column_of q first.now c) (column_of q second.now c)) }
-{
-    let a = c * q;
-    let e = a + q;
-    combine_column(&first[a..e], &second[a..e], &mut out[a..e]);
 }
 
 // Every column of two frames of n times q costs.
@@ -56,9 +38,12 @@ pub fn combine_all(first: &[u8], second: &[u8], q: usize, n: usize, out: &mut [u
     requires { (length first.now ≡ n * q) × ((length second.now ≡ n * q) × ((length out.old ≡ n * q) × (0 < q))) }
     ensures { out.new ≡ combined_to q first.now second.now n }
 {
-    let mut c = 0;
-    while c < n {
-        combine_at(first, second, q, c, out);
-        c += 1;
+    for c in 0..n {
+        let at = c * q;
+        combine_column(
+            &first[at..at + q],
+            &second[at..at + q],
+            &mut out[at..at + q],
+        );
     }
 }

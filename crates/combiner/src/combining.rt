@@ -43,7 +43,7 @@ pub fn under_code(numbers: Numbers, first: &[u8], second: &[u8], out: &mut [u8])
     }
     let w = first.len();
     let q = rules::size(numbers.first);
-    let n = scalar::u16_to_usize(numbers.columns);
+    let n = usize::from(numbers.columns);
     columns::combine_all(first, second, q, n, &mut out[..w]);
     Written::Bytes(w)
 }

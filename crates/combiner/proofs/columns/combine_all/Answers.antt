@@ -1,28 +1,16 @@
-use mathlib.Core.Path.{refl, ap, ◌∙◌}
-use Prim.Native.Nat.{◌+◌}
 use native.Mathlib.Omega.{arith}
-use lib.ListN.{length}
+use borrow.Author.Rules.{rules}
+use Rattle.machine.specs.Combining.{combined_to}
 use Rattle.machine.proofs.Ranges.{column-room}
-use Rattle.combiner.proofs.Combined.{all_start, all_turn, all-length, all_done}
+use Rattle.combiner.proofs.Combined.{column_next}
 use Rattle.combiner.proofs.columns.combine_all.Goals as goal
 
 pub loop-c-init : goal.loop-c-init
-loop-c-init c =
-    let a = c.args in
-    (omega arith, (refl, all_start a.first.now a.second.now a.out.now a.q a.n c.requires.1.1.0 c.requires.1.1.1))
-
-pub combine_at-requires : goal.combine_at-requires
-combine_at-requires c =
-    let r = column-room c.loop-c.c c.args.n c.args.q (omega arith) in
-    (omega (arith, r), (omega (arith, r), (omega (arith, r), c.requires.1.1.1)))
+unfolding combined_to
+loop-c-init c = (search rules, search rules)
 
 pub loop-c-preserved : goal.loop-c-preserved
 loop-c-preserved c =
     let a = c.args in
-    let t = c.combine_at.ensures ∙ all_turn a.first.now a.second.now a.out.now a.q a.n c.requires.1.1.0 c.requires.1.1.1 c.loop-c.out c.loop-c.c c.loop-c.invariant.1.1 in
-    (omega arith, (ap length t ∙ all-length a.first.now a.second.now a.out.now a.q a.n c.requires.1.1.0 c.requires.1.1.1 (c.loop-c.c + 1) (omega arith), t))
-
-pub returns : goal.returns
-returns c =
-    let a = c.args in
-    all_done a.first.now a.second.now a.out.now a.q a.n c.requires.1.1.0 c.requires.1.1.1 c.loop-c.out c.loop-c.c (omega arith) c.loop-c.invariant.1.1
+    let r = column-room c.loop-c.c a.n a.q (omega arith) in
+    (search rules, column_next a.first.now a.second.now c.loop-c.out c.combine_column.new.out a.q c.loop-c.c _ c.requires.1.1.1 (omega (arith, r)) (omega (arith, r)) c.combine_column.ensures c.loop-c.invariant.1)

@@ -1,14 +1,10 @@
 -- The loop fills the column from the front; at its end it is the combined column (column-done).
 use mathlib.Core.Path.{◌≡◌}
-use mathlib.Core.List.{◌++◌}
-use Prim.Native.Nat.{ℕ, ◌-◌, ◌≤◌, min}
-use lib.ListN.{length, drop}
+use Prim.Native.Nat.{ℕ, ◌-◌, min}
+use lib.ListN.{length, take}
 use Rattle.trellis.specs.Lists.{tab}
 use Rattle.machine.specs.Combining.{both_costs}
 use Rattle.combiner.proofs.columns.combine_column.Given as goal
 
 abbrev pub invariant-loop-i : goal.invariant-loop-i
-invariant-loop-i l = (l.i ≤ length l.initial.out) × ((length l.out ≡ length l.initial.out) × (l.out ≡ tab (λ (x : ℕ). min 255 (both_costs l.first l.second x - l.least)) l.i ++ drop l.i l.initial.out))
-
-abbrev pub decreases-loop-i : goal.decreases-loop-i
-decreases-loop-i l = length l.initial.out - l.i
+invariant-loop-i l = (length l.out ≡ length l.initial.out) × (take l.i l.out ≡ tab (λ (x : ℕ). min 255 (both_costs l.first l.second x - l.least)) l.i)

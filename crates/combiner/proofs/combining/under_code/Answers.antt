@@ -25,11 +25,11 @@ slice_bounds-combine_all-end-2 c =
 
 pub combine_all-requires : goal.combine_all-requires
 combine_all-requires c =
-    let r = (under-room c.args.numbers.first c.args.numbers.columns c.args.first.now c.args.second.now c.args.out.now c.fault-k.result c.fault-k.ensures c.if-k-ne0.false) in let e : c.args.numbers.columns * size_of c.args.numbers.first ≡ c.u16_to_usize-n.result * c.size-q.result = (ap₂ (λ a b. a * b) (sym c.u16_to_usize-n.ensures.0) (sym c.size-q.ensures.0)) in (r.0 ∙ e, (r.1.0 ∙ e, (simp length-take (omega (arith, r, e)), size-some c.args.numbers.first c.args.numbers.columns c.args.first.now c.args.second.now c.args.out.now c.fault-k.result c.fault-k.ensures c.if-k-ne0.false c.size-q.result c.size-q.ensures.0)))
+    let r = (under-room c.args.numbers.first c.args.numbers.columns c.args.first.now c.args.second.now c.args.out.now c.fault-k.result c.fault-k.ensures c.if-k-ne0.false) in let e : c.args.numbers.columns * size_of c.args.numbers.first ≡ c.from-n.result * c.size-q.result = (ap₂ (λ a b. a * b) (sym c.from-n.ensures) (sym c.size-q.ensures.0)) in (r.0 ∙ e, (r.1.0 ∙ e, (simp length-take (omega (arith, r, e)), size-some c.args.numbers.first c.args.numbers.columns c.args.first.now c.args.second.now c.args.out.now c.fault-k.result c.fault-k.ensures c.if-k-ne0.false c.size-q.result c.size-q.ensures.0)))
 
 pub returns : goal.returns
 returns c =
     record {
-      reply = (under_written c.args.numbers.first c.args.numbers.columns c.args.first.now c.args.second.now c.args.out.now c.fault-k.result c.fault-k.ensures c.if-k-ne0.false c.size-q.result c.combine_all.new.out c.size-q.ensures.0 (c.combine_all.ensures ∙ ap (λ n. combined_to c.size-q.result c.args.first.now c.args.second.now n) c.u16_to_usize-n.ensures.0)).0;
-      out_then = (under_written c.args.numbers.first c.args.numbers.columns c.args.first.now c.args.second.now c.args.out.now c.fault-k.result c.fault-k.ensures c.if-k-ne0.false c.size-q.result c.combine_all.new.out c.size-q.ensures.0 (c.combine_all.ensures ∙ ap (λ n. combined_to c.size-q.result c.args.first.now c.args.second.now n) c.u16_to_usize-n.ensures.0)).1;
+      reply = (under_written c.args.numbers.first c.args.numbers.columns c.args.first.now c.args.second.now c.args.out.now c.fault-k.result c.fault-k.ensures c.if-k-ne0.false c.size-q.result c.combine_all.new.out c.size-q.ensures.0 (c.combine_all.ensures ∙ ap (λ n. combined_to c.size-q.result c.args.first.now c.args.second.now n) c.from-n.ensures)).0;
+      out_then = (under_written c.args.numbers.first c.args.numbers.columns c.args.first.now c.args.second.now c.args.out.now c.fault-k.result c.fault-k.ensures c.if-k-ne0.false c.size-q.result c.combine_all.new.out c.size-q.ensures.0 (c.combine_all.ensures ∙ ap (λ n. combined_to c.size-q.result c.args.first.now c.args.second.now n) c.from-n.ensures)).1;
     }
