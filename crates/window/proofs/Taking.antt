@@ -35,11 +35,11 @@ loaded code f b b' s r x M h = taken (loading code f b) s b' 0 r x M (loading-t 
     same false = refl
 
 -- command 2 in a running window
-pub iteration-taken : (code f : List ℕ) (b b' : Buffers) (s : Stage) (r x : Registers) → Moves (iterating code f r.iterations b) s b'
+pub iteration_taken : (code f : List ℕ) (b b' : Buffers) (s : Stage) (r x : Registers) → Moves (iterating code f r.iterations b) s b'
     → x ≡ entering s.state s.number (pick (eqb s.state 4) 0 (r.iterations + 1)) r → r.state ≡ 1 → (r.iterations ≡ 255 → ⊥)
     → record { registers = x; buffers = b' } ≡ second code f (record { registers = r; buffers = b })
 unfolding second
-iteration-taken code f b b' s r x M h e n =
+iteration_taken code f b b' s r x M h e n =
     let w : Window = record { registers = r; buffers = b } in
     let l : second code f w ≡ iterate code f w =
     ap (λ i. pick i (pick (eqb r.iterations 255) w (iterate code f w)) w) (eq-eqb r.state 1 e) ∙ ap (λ i. pick i w (iterate code f w)) (ne_eqb r.iterations 255 n) in

@@ -4,8 +4,8 @@ ghost use Rattle.machine.specs.Decoding.{lending};
 ghost use Rattle.window.specs.Window.{load, second, command};
 ghost use Rattle.window.specs.Meaning.{window_of};
 
-use crate::bytes;
 use crate::registers::Registers;
+use crate::states::{self, State};
 
 // Command 1: "A load from any state starts afresh with byte 3 at 0". It keeps the store.
 fn loaded(
@@ -22,10 +22,11 @@ fn loaded(
         (window_of window (lending symbols.old costs.old store.now margins.old)) }
 {
     let stage = layered::load(code, frame, symbols, costs, store, margins);
-    bytes::taking(window, stage, 0)
+    states::taking(window, stage, 0)
 }
 
 // Command 2: it "runs one iteration if running", and "with byte 3 at 255" does nothing.
+#[tactic(auto, unfolding(crate::specs::Window::second))]
 fn iterated(
     window: Registers,
     code: &[u8],
@@ -39,18 +40,16 @@ fn iterated(
         ≡ second code.now frame.now
         (window_of window (lending symbols.old costs.old store.old margins.old)) }
 {
-    if window.state != bytes::RUNNING {
-        return window;
-    }
-    if window.iterations == 255 {
+    if window.state != State::Running as u8 || window.iterations == 255 {
         return window;
     }
     let t = window.iterations;
     let stage = layered::step(t, code, frame, symbols, costs, store, margins);
-    bytes::taking(window, stage, t + 1)
+    states::taking(window, stage, t + 1)
 }
 
 // Command 3 clears pending; "other values .. do nothing".
+#[tactic(auto, unfolding(crate::specs::Window::command))]
 pub fn command(
     window: Registers,
     value: u8,
@@ -65,14 +64,13 @@ pub fn command(
         ≡ command code.now frame.now value
         (window_of window (lending symbols.old costs.old store.old margins.old)) }
 {
-    if value == 1 {
-        return loaded(window, code, frame, symbols, costs, store, margins);
+    match value {
+        1 => loaded(window, code, frame, symbols, costs, store, margins),
+        2 => iterated(window, code, frame, symbols, costs, store, margins),
+        3 => Registers {
+            pending: 0,
+            ..window
+        },
+        _ => window,
     }
-    if value == 2 {
-        return iterated(window, code, frame, symbols, costs, store, margins);
-    }
-    if value == 3 {
-        return bytes::cleared(window);
-    }
-    window
 }

@@ -2,7 +2,7 @@
 
 // Bytes 1 to 5, in their order; all 0 is the idle window. Byte 0, the command, holds nothing.
 #[repr(C)]
-#[derive(Clone, Copy)]
+#[derive(Clone, Copy, Debug, PartialEq, Eq, Default)]
 pub struct Registers {
     pub state: u8,
     pub refusal: u8,
