@@ -5,6 +5,7 @@ use mathlib.Core.Logic.{◌≢◌}
 use mathlib.Core.List.{List}
 use Prim.Native.Nat.{ℕ, ◌≤◌, ◌<◌}
 use native.Mathlib.Omega.{arith}
+use borrow.Author.Rules.{rules}
 use borrow.Author.Tests.{eq-eqb, ne_eqb, le-ltb, ltb-false, not-false}
 use lib.Dec.{T, ltb, eqb, ltb→lt, lt→ltb}
 use lib.ListN.{length, get_or}
@@ -14,6 +15,8 @@ use Rattle.trellis.specs.Ready.{Ready}
 use Rattle.trellis.proofs.Rules.{first-power}
 use Rattle.trellis.proofs.Refusals.{Numbered, Passed, none_applies, refused-by}
 use Rattle.trellis.proofs.Tests.{of_true, to_true, all-at, all_of}
+use Rattle.refusal.specs.declared.Refusal.{Refusal}
+use Rattle.refusal.specs.Numbers.{number_of}
 use Rattle.field.specs.Answers.{weight_ok, weights_ok, weight_tests, weight_cases, weights_fault}
 
 pub no_true : {b : Bool} → b ≡ true → b ≡ false → ⊥
@@ -47,6 +50,10 @@ weights_passed first ws p =
 pub no_fault : (first : ℕ) (ws : List ℕ) → weights_fault first ws ≡ 0 → WeightsAccepted first ws
 unfolding weights_fault
 no_fault first ws e = weights_passed first ws (none_applies (weight_tests first ws) (numbered first ws) e)
+
+-- no refusal has the number 0
+pub some_number : (r : Refusal) → number_of r ≢ 0
+some_number r = search rules
 
 -- a refusal by its number, and none
 pub fault_case : {A : Type 0} (first : ℕ) (ws : List ℕ) (bad : ℕ → A) (rest : A) {k : ℕ} → k ≡ weights_fault first ws → k ≢ 0 → bad k ≡ weight_cases first ws bad rest
