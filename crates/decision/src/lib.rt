@@ -3,16 +3,19 @@
 #![tactic(auto)]
 
 pub mod answers;
-mod bytes;
-mod words;
+mod cost;
+mod margin;
 
+ghost use Rattle.std.specs.Prelude.{map};
 ghost use Rattle.decision.specs.Answers.{Decides};
 
 use crate::answers::Decision;
+pub use crate::cost::Cost;
+use crate::margin::margin_at;
 
-// Of costs of one byte, as a frame and a check have them.
-pub fn decide_u8(costs: &[u8]) -> Decision
-    ensures { Decides costs.now result }
+// Of costs of one byte, as a frame and a check have them, or of two, as the machine has them.
+pub fn decide<C: Cost>(costs: &[C]) -> Decision
+    ensures { Decides (map C.value costs.now) result }
 {
     let mut x = 0;
     loop {
@@ -22,34 +25,24 @@ pub fn decide_u8(costs: &[u8]) -> Decision
                 margin: 0,
             };
         }
-        if costs[x] == 0 {
+        if costs[x].is_zero() {
             break Decision {
                 symbol: x,
-                margin: bytes::margin_at(costs, x),
+                margin: margin_at(costs, x),
             };
         }
         x += 1;
     }
 }
 
-// Of costs of two bytes, as the machine has them.
+pub fn decide_u8(costs: &[u8]) -> Decision
+    ensures { Decides costs.now result }
+{
+    decide(costs)
+}
+
 pub fn decide_u16(costs: &[u16]) -> Decision
     ensures { Decides costs.now result }
 {
-    let mut x = 0;
-    loop {
-        if x == costs.len() {
-            break Decision {
-                symbol: x,
-                margin: 0,
-            };
-        }
-        if costs[x] == 0 {
-            break Decision {
-                symbol: x,
-                margin: words::margin_at(costs, x),
-            };
-        }
-        x += 1;
-    }
+    decide(costs)
 }
