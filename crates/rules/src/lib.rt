@@ -8,7 +8,7 @@ ghost use Rattle.trellis.specs.Rules.{rule_for, power_of, size_of, most_of, grea
 ghost use Rattle.rules.specs.Numbers.{rule_read};
 
 // The rule as it travels inside the code: q is 2 ^ p, at most k deviations, costs joined to their sum or to their greatest.
-#[derive(Clone, Copy)]
+#[derive(Clone, Copy, Debug, PartialEq, Eq)]
 pub struct Rule {
     pub p: u8,
     pub k: u8,
@@ -16,17 +16,11 @@ pub struct Rule {
 }
 
 // Whether the high digit is 0 to 3 and the low digit 2 to 6: no refusal 6.
+#[tactic(auto, unfolding(trellis::specs::Rules::first_ok))]
 pub fn accepted(first: u8) -> bool
     ensures { result ≡ first_ok first }
 {
-    if first / 16 > 3 {
-        return false;
-    }
-    let p = power(first);
-    if p < 2 {
-        return false;
-    }
-    p <= 6
+    first / 16 <= 3 && (2..=6).contains(&power(first))
 }
 
 // p, the low digit.
@@ -61,7 +55,7 @@ fn greatest(first: u8) -> bool
 pub fn groups(first: u8) -> usize
     ensures { result ≡ group_length (rule_for first) * (size_of first - 1) }
 {
-    (1 + 2 * (most(first) as usize)) * (size(first) - 1)
+    (1 + 2 * usize::from(most(first))) * (size(first) - 1)
 }
 
 pub fn rule_of(first: u8) -> Rule
