@@ -1,19 +1,19 @@
 -- What a header says of the code line that it was read from.
-use mathlib.Core.Path.{◌≡◌, refl, sym, ap, ◌∙◌}
+use mathlib.Core.Path.{◌≡◌, refl, sym, ap, ap₂, ◌∙◌}
 use mathlib.Core.List.{List, ◌++◌}
 use Prim.Native.Nat.{ℕ, ◌≤◌}
 use native.Mathlib.Omega.{arith}
-use lib.ListN.{length, take, drop}
+use lib.ListN.{length, take, drop, length-map}
 use lib.Seq.{length-take-le, take_at}
-use Rattle.slices.specs.Copies.{copied_to}
-use Rattle.slices.proofs.Copies.{copied_is}
+use Rattle.std.specs.Prelude.{Result, Ok, Err}
+use Rattle.refusal.specs.Numbers.{number_of}
+use Rattle.refusal.specs.declared.Refusal.{Refusal}
 use Rattle.machine.specs.CodeLine.{Read, good, bad, Code, Numbers, numbers_of, parse}
 use Rattle.machine.specs.inner.Tables.{Tabled}
-use Rattle.codeline.specs.declared.answers.Header.{Header}
-use Rattle.codeline.specs.declared.answers.Header.TheVariants.{Read as HeaderRead, Refused as HeaderRefused}
 use Rattle.codeline.specs.declared.answers.Numbers.{Numbers as LineNumbers}
+use Rattle.codeline.specs.declared.tables.Tables.{Tables as LineTables}
 use Rattle.codeline.specs.Answers.{numbers_in, header_numbers, degree_table, column_table, weight_table, left_in}
-use Rattle.codeline.specs.inner.Reading.{CountFits, checks_in, handed}
+use Rattle.codeline.specs.inner.Reading.{columns_of, weights_of, Filled}
 
 -- the line is accepted, and these are the numbers of its code
 pub record Accepted (s : List ℕ) (k : LineNumbers) : Type 0 where
@@ -25,15 +25,19 @@ pub record Accepted (s : List ℕ) (k : LineNumbers) : Type 0 where
   pub scale_is : k.scale ≡ code.scale
   pub limit_is : k.limit ≡ code.limit
 
-module _ (s : List ℕ) (h : Header) (e : header_numbers h ≡ numbers_of (parse s)) where
-  pub header_refused : (k : ℕ) → h ≡ HeaderRefused k → parse s ≡ bad k
-  header_refused k i = go (parse s) (sym e ∙ ap header_numbers i)
+module _ (s : List ℕ) (h : Result LineNumbers Refusal) (e : header_numbers h ≡ numbers_of (parse s)) where
+  pub header_refused : (r : Refusal) → h ≡ Err r → parse s ≡ bad (number_of r)
+  header_refused r i = go (parse s) (sym e ∙ ap header_numbers i)
     where
-      go : (r : Read Code) → numbers_of r ≡ bad k → r ≡ bad k
+      go : (x : Read Code) → numbers_of x ≡ bad (number_of r) → x ≡ bad (number_of r)
       go (good C) o = let z : ◌≡◌ {A = ℕ} 0 1 = cc in absurd (omega arith)
       go (bad l) o = cc
 
-  pub header_read : (k : LineNumbers) → h ≡ HeaderRead k → Accepted s k
+  -- then a lent table stays as it is
+  pub refused_left : (r : Refusal) → h ≡ Err r → (f : Code → List ℕ) (l : List ℕ) → l ≡ left_in f (parse s) l
+  refused_left r i f l = rw (header_refused r i)
+
+  pub header_read : (k : LineNumbers) → h ≡ Ok k → Accepted s k
   header_read k i = go (parse s) refl (sym e ∙ ap header_numbers i)
     where
       go : (r : Read Code) → parse s ≡ r → numbers_of r ≡ good (numbers_in k) → Accepted s k
@@ -50,47 +54,25 @@ module _ (s : List ℕ) (h : Header) (e : header_numbers h ≡ numbers_of (parse
           }
       go (bad l) j o = let z : ◌≡◌ {A = ℕ} 0 1 = cc in absurd (omega arith)
 
--- entries handed over, where the line is accepted
-pub handed_is : (h : Header) (k : LineNumbers) → h ≡ HeaderRead k → (count j : ℕ) (from to : List ℕ) {r : List ℕ} → j ≡ count → j ≤ length from → j ≤ length to
-    → r ≡ copied_to (take j from) (take j to) → r ++ drop j to ≡ handed h count from to
-handed_is h k e count j from to {r} i a b o =
-    let c : r ≡ take j from = copied_is (take j from) (take j to) r (length-take-le j from a ∙ sym (length-take-le j to b)) o in
-    rw (e, c, i) refl
+  -- and then it gets what was read in front
+  module _ (k : LineNumbers) (i : h ≡ Ok k) (t : LineTables) (f : (C : Code) → parse s ≡ good C → Filled C t) where
+    A : Accepted s k
+    A = header_read k i
 
--- and what that leaves
-pub left_is : (s : List ℕ) (h : Header) → header_numbers h ≡ numbers_of (parse s) → (f : Code → List ℕ) (count : ℕ) (from to : List ℕ) {r : List ℕ} → ((C : Code) → parse s ≡ good C → (count ≤ length from) × (take count from ≡ f C))
-    → r ≡ handed h count from to → r ≡ left_in f (parse s) to
-left_is s h e f count from to {r} t o = go h refl (parse s) refl e
-  where
-    go : (x : Header) → h ≡ x → (y : Read Code) → parse s ≡ y → header_numbers h ≡ numbers_of y → r ≡ left_in f y to
-    go (HeaderRead k) i (good C) j u =
-        let q = t C j in
-        let c : length (f C) ≡ count = ap length (sym q.1) ∙ length-take-le count from q.0 in
-        (rw i at o) ∙ rw (q.1, c) refl
-    go (HeaderRead k) i (bad x) j u = let z : ◌≡◌ {A = ℕ} 0 1 = cc in absurd (omega arith)
-    go (HeaderRefused x) i (good C) j u = let z : ◌≡◌ {A = ℕ} 0 1 = cc in absurd (omega arith)
-    go (HeaderRefused x) i (bad y) j u = rw i at o
+    filled : Filled A.code t
+    filled = f A.code A.parsed
 
-pub checks-small : (h : Header) (edges : ℕ) → CountFits h edges → checks_in h ≤ 128
-checks-small (HeaderRead k) edges f = f.0
-checks-small (HeaderRefused k) edges f = omega arith
+    pub degrees_left : (l : List ℕ) → take k.checks t.degrees ++ drop k.checks l ≡ left_in degree_table (parse s) l
+    degrees_left l =
+        let n : length (degree_table A.code) ≡ length A.code.checks = length-map A.code.checks (λ es. length es) in
+        let m : take k.checks t.degrees ≡ degree_table A.code = ap (λ n. take n t.degrees) A.checks_is ∙ filled.degrees in
+        ap₂ (λ a b. a ++ drop b l) m (A.checks_is ∙ sym n) ∙ sym (ap (λ r. left_in degree_table r l) A.parsed)
 
-module _ (s : List ℕ) (h : Header) (e : header_numbers h ≡ numbers_of (parse s)) (C : Code) (a : parse s ≡ good C) where
-  pub edges-small : (edges : ℕ) (l : List ℕ) → CountFits h edges → length l ≡ 1024 → edges ≤ length l
-  edges-small edges l f i = go h refl (e ∙ ap numbers_of a)
-    where
-      go : (k : Header) → h ≡ k → header_numbers h ≡ numbers_of (good C) → edges ≤ length l
-      go (HeaderRead k) o u = let r = rw o at f in omega (arith, r)
-      go (HeaderRefused k) o u = let z : ◌≡◌ {A = ℕ} 0 1 = cc in absurd (omega arith)
+    pub columns_left : t.edges ≤ length t.columns → (l : List ℕ) → columns_of t ++ drop t.edges l ≡ left_in column_table (parse s) l
+    columns_left r l = let n : length (column_table A.code) ≡ t.edges = ap length (sym filled.columns) ∙ length-take-le t.edges t.columns r in ap₂ (λ a b. a ++ drop b l) filled.columns (sym n) ∙ sym (ap (λ r. left_in column_table r l) A.parsed)
 
-  pub taken-degrees : (ds : List ℕ) → take (length C.checks) ds ≡ degree_table C → take (checks_in h) ds ≡ degree_table C
-  taken-degrees ds t = ap (λ n. take n ds) (go h refl (e ∙ ap numbers_of a)) ∙ t
-    where
-      go : (k : Header) → h ≡ k → header_numbers h ≡ numbers_of (good C) → checks_in h ≡ length C.checks
-      go (HeaderRead k) o u =
-          let v : ◌≡◌ {A = Numbers} (numbers_in k) (record { first = C.first; columns = C.columns; checks = length C.checks; scale = C.scale; limit = C.limit }) = cc in
-          rw o (ap (λ (a : Numbers). a.checks) v)
-      go (HeaderRefused k) o u = let z : ◌≡◌ {A = ℕ} 0 1 = cc in absurd (omega arith)
+    pub weights_left : t.edges ≤ length t.weights → (l : List ℕ) → weights_of t ++ drop t.edges l ≡ left_in weight_table (parse s) l
+    weights_left r l = let n : length (weight_table A.code) ≡ t.edges = ap length (sym filled.weights) ∙ length-take-le t.edges t.weights r in ap₂ (λ a b. a ++ drop b l) filled.weights (sym n) ∙ sym (ap (λ r. left_in weight_table r l) A.parsed)
 
 -- what the tables then start with
 pub tables-left : (s ds cs ws : List ℕ) {d c w : List ℕ} → d ≡ left_in degree_table (parse s) ds → c ≡ left_in column_table (parse s) cs → w ≡ left_in weight_table (parse s) ws

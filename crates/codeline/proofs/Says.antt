@@ -4,6 +4,8 @@ use mathlib.Core.List.{List}
 use Prim.Native.Nat.{ℕ}
 use native.Mathlib.Omega.{arith}
 use lib.ListN.{length, length-map}
+use Rattle.std.specs.Prelude.{Result, Ok}
+use Rattle.refusal.specs.declared.Refusal.{Refusal}
 use Rattle.machine.specs.CodeLine.{good, Edge, Code, numbers_of, parse}
 use Rattle.machine.specs.inner.Tables.{edges_before, checks_from, Tabled}
 use Rattle.machine.specs.inner.Accepted.{GoodCode}
@@ -12,13 +14,11 @@ use Rattle.machine.proofs.Places.{start-length}
 use Rattle.machine.proofs.Edges.{length-table}
 use Rattle.machine.proofs.InTables.{checks_say, before_own}
 use Rattle.codeline.specs.declared.answers.Numbers.{Numbers}
-use Rattle.codeline.specs.declared.answers.Header.{Header}
-use Rattle.codeline.specs.declared.answers.Header.TheVariants.{Read as HeaderRead}
 use Rattle.codeline.specs.Answers.{header_numbers, degree_table, column_table, weight_table, left_in}
 use Rattle.codeline.specs.inner.Coding.{code_of, Coded}
 use Rattle.codeline.proofs.Answered.{Accepted, header_read, tables-left}
 
-module _ (s : List ℕ) (h : Header) (e : header_numbers h ≡ numbers_of (parse s)) (k : Numbers) (i : h ≡ HeaderRead k)
+module _ (s : List ℕ) (h : Result Numbers Refusal) (e : header_numbers h ≡ numbers_of (parse s)) (k : Numbers) (i : h ≡ Ok k)
     (ds₀ cs₀ ws₀ ds cs ws : List ℕ) (d : ds ≡ left_in degree_table (parse s) ds₀) (c : cs ≡ left_in column_table (parse s) cs₀) (w : ws ≡ left_in weight_table (parse s) ws₀) where
   accepted : Accepted s k
   accepted = header_read s h e k i

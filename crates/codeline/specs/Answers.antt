@@ -1,19 +1,19 @@
 -- What the public calls answer and leave: the numbers of the code line, or the number of its refusal; and the tables.
-use Rattle.std.specs.Prelude.{◌≡◌, List, ◌++◌, ℕ, length, drop}
+use Rattle.std.specs.Prelude.{◌≡◌, List, ◌++◌, ℕ, Result, Ok, Err, length, drop}
+use Rattle.refusal.specs.Numbers.{number_of}
+use Rattle.refusal.specs.declared.Refusal.{Refusal}
 use Rattle.machine.specs.CodeLine.{Read, good, bad, Code, Numbers}
 use Rattle.machine.specs.Machine.{used}
 use Rattle.machine.specs.inner.Tables.{tables_of}
 use Rattle.codeline.specs.declared.answers.Summary.{Summary}
 use Rattle.codeline.specs.declared.answers.Numbers.{Numbers as LineNumbers}
-use Rattle.codeline.specs.declared.answers.Header.{Header}
-use Rattle.codeline.specs.declared.answers.Header.TheVariants.{Read as HeaderRead, Refused as HeaderRefused}
 
 abbrev pub numbers_in : LineNumbers → Numbers
 numbers_in k = record { first = k.first; columns = k.columns; checks = k.checks; scale = k.scale; limit = k.limit }
 
-abbrev pub header_numbers : Header → Read Numbers
-header_numbers (HeaderRead k) = good (numbers_in k)
-header_numbers (HeaderRefused k) = bad k
+abbrev pub header_numbers : Result LineNumbers Refusal → Read Numbers
+header_numbers (Ok k) = good (numbers_in k)
+header_numbers (Err r) = bad (number_of r)
 
 -- what a code line says to whoever lends the buffers: 0 or the number of its refusal, its numbers, and "as many bytes as the M record
 -- lengths add up to"

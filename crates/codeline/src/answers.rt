@@ -1,7 +1,7 @@
-// The numbers of a code line, and what the calls answer.
+// The numbers of a code line, and what a call says of it.
 
 // The numbers of a code line: the first byte, N, M, g and I.
-#[derive(Clone, Copy)]
+#[derive(Clone, Copy, Debug, PartialEq, Eq)]
 pub struct Numbers {
     pub first: u8,
     pub columns: u16,
@@ -10,16 +10,10 @@ pub struct Numbers {
     pub limit: u8,
 }
 
-// They, or the number of the refusal.
-#[derive(Clone, Copy)]
-pub enum Header {
-    Read(Numbers),
-    Refused(u8),
-}
-
 // What a code line says to whoever lends the buffers: 0 or the number of its refusal, its numbers, and the length of its store in bytes.
+// A flag with values beside it, since C takes it so.
 #[repr(C)]
-#[derive(Clone, Copy)]
+#[derive(Clone, Copy, Debug, PartialEq, Eq)]
 pub struct Summary {
     pub number: u8,
     pub first: u8,

@@ -1,74 +1,52 @@
 // The numbers of a code line before its checks.
-ghost use Rattle.std.specs.Prelude.{◌≡◌};
+ghost use Rattle.std.specs.Prelude.{◌≡◌, ◌≤◌, OnOk, IfOk};
+ghost use Rattle.trellis.specs.Sizes.{most_checks};
 ghost use Rattle.codeline.specs.Answers.{header_numbers};
-ghost use Rattle.codeline.specs.inner.Reading.{is_outside, head_of, HeadFits};
-ghost use Rattle.codeline.specs.declared.answers.Header.TheVariants.{Refused as HeaderRefused};
+ghost use Rattle.codeline.specs.inner.Reading.{head_of};
 
-use crate::answers::{Header, Numbers};
-use crate::reader;
+use crate::answers::Numbers;
+use crate::reader::Reader;
+use refusal::Refusal;
 use scalar::sizes;
-
-// What stands before the checks, and the place behind it.
-#[derive(Clone, Copy)]
-pub struct Front {
-    pub header: Header,
-    pub next: usize,
-}
-
-// Whether x is not low to high.
-fn outside(x: usize, low: usize, high: usize) -> bool
-    ensures { result ≡ is_outside x low high }
-{
-    if x < low { true } else { high < x }
-}
-
-fn refused(k: u8) -> Front
-    ensures { result.header ≡ HeaderRefused k }
-{
-    Front {
-        header: Header::Refused(k),
-        next: 0,
-    }
-}
 
 // "p", with k in the first byte; "N as two bytes, high first (1 to 256); M (1 to 128); scale g (1 to 16); iteration limit I (1 to 255)";
 // "5 if under six bytes, 6, 7, 8".
-pub fn head(code: &[u8]) -> Front
-    ensures numbers { header_numbers result.header ≡ head_of code.now }
-    ensures fits { HeadFits result.header result.next code.now }
+#[tactic(auto, unfolding(crate::specs::inner::Reading::head_of))]
+pub fn head(line: &mut Reader<'_>) -> Result<Numbers, Refusal>
+    requires { line.old.at ≡ 0 }
+    ensures numbers { header_numbers result ≡ head_of line.old.src.now }
+    ensures checks { IfOk result (λ k. k.checks ≤ most_checks) }
+    ensures src { line.new.src ≡ line.old.src }
+    ensures at { OnOk result (line.new.at ≡ 6) }
 {
-    if reader::left_at(code, 0) < 6 {
-        return refused(5);
+    if line.left() < 6 {
+        return Err(Refusal::CodeLength);
     }
-    let f = reader::field_at(code, 0, reader::BYTE);
-    let first = f.value as u8;
+    let first = line.byte();
     if !rules::accepted(first) {
-        return refused(6);
+        return Err(Refusal::FirstByte);
     }
-    let n = reader::field_at(code, f.next, reader::WORD);
-    if outside(n.value, 1, sizes::MOST_SYMBOLS) {
-        return refused(7);
+    let columns = line.word();
+    if columns < 1 || usize::from(columns) > sizes::MOST_SYMBOLS {
+        return Err(Refusal::Counts);
     }
-    let m = reader::field_at(code, n.next, reader::BYTE);
-    if outside(m.value, 1, sizes::MOST_CHECKS) {
-        return refused(7);
+    let checks = line.byte();
+    if checks < 1 || usize::from(checks) > sizes::MOST_CHECKS {
+        return Err(Refusal::Counts);
     }
-    let g = reader::field_at(code, m.next, reader::BYTE);
-    if outside(g.value, 1, 16) {
-        return refused(8);
+    let scale = line.byte();
+    if scale < 1 || scale > 16 {
+        return Err(Refusal::ScaleOrLimit);
     }
-    let i = reader::field_at(code, g.next, reader::BYTE);
-    if i.value < 1 {
-        return refused(8);
+    let limit = line.byte();
+    if limit < 1 {
+        return Err(Refusal::ScaleOrLimit);
     }
-    Front {
-        header: Header::Read(Numbers {
-            first,
-            columns: n.value as u16,
-            checks: m.value as u8,
-            scale: g.value as u8,
-            limit: i.value as u8,
-        }),
-        next: i.next,
-    }
+    Ok(Numbers {
+        first,
+        columns,
+        checks,
+        scale,
+        limit,
+    })
 }

@@ -2,15 +2,17 @@
 ghost use Rattle.std.specs.Prelude.{◌≡◌, ◌+◌, ◌-◌, ◌*◌, ◌/◌, ◌≤◌};
 ghost use Rattle.trellis.specs.Record.{group_length};
 ghost use Rattle.trellis.specs.Rules.{size_of, rule_for};
+ghost use Rattle.refusal.specs.Numbers.{number_of};
 ghost use Rattle.codeline.specs.Answers.{told_refused, Tells};
 
 use crate::answers::Summary;
+use refusal::Refusal;
 
-pub fn refused(k: u8) -> Summary
-    ensures { Tells (told_refused k) result }
+pub fn refused(refusal: Refusal) -> Summary
+    ensures { Tells (told_refused (number_of refusal)) result }
 {
     Summary {
-        number: k,
+        number: u8::from(refusal),
         first: 0,
         columns: 0,
         checks: 0,
@@ -25,7 +27,7 @@ pub fn store_length(first: u8, checks: u8, length: usize) -> u32
     requires { (6 + checks ≤ length) × ((length ≤ 3206) × (group_length (rule_for first) * (size_of first - 1) ≤ 441)) }
     ensures { result ≡ (length - 6 - checks) / 3 + checks * (group_length (rule_for first) * (size_of first - 1)) }
 {
-    let m = checks as usize;
+    let m = usize::from(checks);
     let edges = (length - 6 - m) / 3;
     (edges + m * rules::groups(first)) as u32
 }

@@ -1,83 +1,70 @@
-// The checks of a code line in tables: reading them, and handing over what was read.
-ghost use Rattle.std.specs.Prelude.{◌≡◌, length};
+// The checks of a code line in tables: the degrees, and all columns and weights end to end.
+ghost use Rattle.std.specs.Prelude.{◌≡◌, [], ◌∷◌, ◌++◌, ◌+◌, ◌<◌, ◌≤◌, take, drop};
 ghost use Rattle.trellis.specs.Sizes.{most_edges, most_checks};
-ghost use Rattle.machine.specs.CodeLine.{Code, good, parse, numbers_of};
-ghost use Rattle.codeline.specs.Answers.{header_numbers};
-ghost use Rattle.codeline.specs.inner.Reading.{Filled, CountFits, checks_in, handed};
 
-use crate::answers::Header;
-use crate::checks::Checks;
-use crate::{checks, head};
+use crate::answers::Numbers;
+use scalar::sizes;
 
-// The header, and how many edges the checks have together.
+// An edge's column and weight.
+#[derive(Clone, Copy, Debug, PartialEq, Eq)]
+pub struct Edge {
+    pub column: u16,
+    pub weight: u8,
+}
+
+// Room for the largest code, and how many edges were put so far. Behind these the tables hold anything.
 #[derive(Clone, Copy)]
-pub struct LineRead {
-    pub header: Header,
+pub struct Tables {
+    pub degrees: [u8; sizes::MOST_CHECKS],
+    pub columns: [u16; sizes::MOST_EDGES],
+    pub weights: [u8; sizes::MOST_EDGES],
     pub edges: usize,
+    ghost room: { edges ≤ most_edges },
 }
 
-fn refused(header: Header) -> LineRead
-    ensures { result.header ≡ header }
-{
-    LineRead { header, edges: 0 }
-}
+impl Tables {
+    ghost use Rattle.codeline.specs.inner.Reading.{columns_of, weights_of};
 
-// The whole line. Where it is refused, the tables may hold anything.
-pub fn read(code: &[u8], degrees: &mut [u8], columns: &mut [u16], weights: &mut [u8]) -> LineRead
-    requires { (length degrees.old ≡ most_checks) × ((length columns.old ≡ most_edges) × (length weights.old ≡ most_edges)) }
-    ensures numbers { header_numbers result.header ≡ numbers_of (parse code.now) }
-    ensures fits { CountFits result.header result.edges }
-    ensures tables { (C : Code) → parse code.now ≡ good C
-        → Filled C degrees.new columns.new weights.new result.edges }
-{
-    let f = head::head(code);
-    let h = f.header;
-    let Header::Read(k) = h else {
-        return refused(h);
-    };
-    let q = rules::size(k.first);
-    match checks::checks_at(
-        code,
-        f.next,
-        k.checks as usize,
-        k.columns as usize,
-        q,
-        degrees,
-        columns,
-        weights,
-    ) {
-        Checks::Refused(k) => refused(Header::Refused(k)),
-        Checks::Total(edges) => LineRead { header: h, edges },
-    }
-}
-
-// What was read of an accepted line, in front of what the tables hold.
-pub fn hand_over(
-    r: LineRead,
-    ds: &[u8],
-    cs: &[u16],
-    ws: &[u8],
-    degrees: &mut [u8],
-    columns: &mut [u16],
-    weights: &mut [u8],
-)
-    requires count_fits { CountFits r.header r.edges }
-    requires ds_len { (length ds.now ≡ most_checks) × ((length cs.now ≡ most_edges) × (length ws.now ≡ most_edges)) }
-    requires degrees_len { (length degrees.old ≡ most_checks) × ((length columns.old ≡ most_edges) × (length weights.old ≡ most_edges)) }
-    ensures degrees_then { degrees.new
-        ≡ handed r.header (checks_in r.header) ds.now degrees.old }
-    ensures columns_then { columns.new ≡ handed r.header r.edges cs.now columns.old }
-    ensures weights_then { weights.new ≡ handed r.header r.edges ws.now weights.old }
-{
-    let h = r.header;
-    match h {
-        Header::Refused(_) => {}
-        Header::Read(k) => {
-            let m = scalar::u8_to_usize(k.checks);
-            let e = r.edges;
-            slices::copy_u8(&ds[..m], &mut degrees[..m]);
-            slices::copy_u16(&cs[..e], &mut columns[..e]);
-            slices::copy_u8(&ws[..e], &mut weights[..e]);
+    pub fn new() -> Tables
+        ensures { result.edges ≡ 0 }
+    {
+        Tables {
+            degrees: [0; sizes::MOST_CHECKS],
+            columns: [0; sizes::MOST_EDGES],
+            weights: [0; sizes::MOST_EDGES],
+            edges: 0,
         }
+    }
+
+    // One edge behind the others.
+    pub fn push(&mut self, edge: Edge)
+        requires { self.old.edges < most_edges }
+        ensures columns { columns_of self.new ≡ columns_of self.old ++ (edge.column ∷ []) }
+        ensures weights { weights_of self.new ≡ weights_of self.old ++ (edge.weight ∷ []) }
+        ensures edges { self.new.edges ≡ self.old.edges + 1 }
+        ensures degrees { self.new.degrees ≡ self.old.degrees }
+    {
+        self.columns[self.edges] = edge.column;
+        self.weights[self.edges] = edge.weight;
+        self.edges += 1;
+    }
+
+    // What was read of an accepted line, in front of what the lent tables hold.
+    pub fn hand_over(
+        &self,
+        numbers: Numbers,
+        degrees: &mut [u8; sizes::MOST_CHECKS],
+        columns: &mut [u16; sizes::MOST_EDGES],
+        weights: &mut [u8; sizes::MOST_EDGES],
+    )
+        requires { numbers.checks ≤ most_checks }
+        ensures degrees_then { degrees.new ≡ take numbers.checks self.now.degrees ++ drop numbers.checks degrees.old }
+        ensures columns_then { columns.new ≡ columns_of self.now ++ drop self.now.edges columns.old }
+        ensures weights_then { weights.new ≡ weights_of self.now ++ drop self.now.edges weights.old }
+    {
+        let m = usize::from(numbers.checks);
+        degrees[..m].copy_from_slice(&self.degrees[..m]);
+        columns[..self.edges].copy_from_slice(&self.columns[..self.edges]);
+        weights[..self.edges].copy_from_slice(&self.weights[..self.edges]);
     }
 }

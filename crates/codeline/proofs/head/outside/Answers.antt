@@ -1,9 +1,0 @@
--- The answer is the test of its branch.
-use borrow.Author.Tests.{lt-ltb, le-ltb}
-use Rattle.codeline.proofs.head.outside.Goals as goal
-
-pub returns-then-x-low : goal.returns-then-x-low
-returns-then-x-low c = simp (lt-ltb c.args.x c.args.low c.if-x-low.true)
-
-pub returns-else-x-low : goal.returns-else-x-low
-returns-else-x-low c = simp (le-ltb c.args.x c.args.low c.if-x-low.false)
