@@ -23,9 +23,9 @@ use Rattle.machine.proofs.Changed.{redone}
 use Rattle.machine.proofs.Redone.{redecided_lent}
 use Rattle.machine.proofs.EarlyPassing.{next-check, check-small, advancing-start, advanced, next-formed}
 use Rattle.machine.proofs.InTables.{columns-length, degree_is, column-part}
-use Rattle.codeline.specs.declared.answers.Numbers.{Numbers}
+use Rattle.codeline.specs.declared.code.Code.{Code as Tables}
 use Rattle.codeline.specs.Answers.{numbers_in}
-use Rattle.codeline.specs.inner.Coding.{code_of}
+use Rattle.layered.specs.inner.Codes.{code_in}
 use Rattle.layered.specs.declared.answers.Outcome.TheVariants.{Found, NotFound}
 use Rattle.layered.specs.declared.parity.CheckAt.{CheckAt}
 use Rattle.layered.specs.declared.place.Place.{Place}
@@ -88,35 +88,34 @@ module _ (C : Code) (most u : ℕ) (l l₀ : Lent) (not : settled C l.costs ≡ 
         by zero = rw e
         by (suc k) = rw e
 
-module _ (k : Numbers) (ds cs ws P s z : List ℕ) (u : ℕ) (U : Unsettled k ds cs ws u P s z) where
+module _ (K : Tables) (P s z : List ℕ) (u : ℕ) (U : Unsettled K u P s z) where
   abbrev C : Code
-  C = code_of k ds cs ws
+  C = code_in K
 
-  many : length C.checks ≡ k.checks
-  many = checks-count k ds cs ws U.coded
+  many : length C.checks ≡ K.numbers.checks
+  many = checks-count K
 
-  pub some-check : 0 < k.checks
-  some-check = omega (arith, many, U.coded.good.checks-low)
+  pub some-check : 0 < K.numbers.checks
+  some-check = omega (arith, many, K.coded.good.checks-low)
 
   -- the next update
-  module _ (m : ℕ) (e : m ≡ u % k.checks) (b : Bool) (i : b ≡ ltb u k.checks) where
+  module _ (m : ℕ) (e : m ≡ u % K.numbers.checks) (b : Bool) (i : b ≡ ltb u K.numbers.checks) where
     here : m ≡ u % length C.checks
     here = e ∙ ap (λ k. u % k) (sym many)
 
     in_checks : m < length C.checks
-    in_checks = omega (arith, here, check-small C U.coded.good u)
+    in_checks = omega (arith, here, check-small C K.coded.good u)
 
-    in_code : m < k.checks
+    in_code : m < K.numbers.checks
     in_code = omega (arith, in_checks, many)
 
-    pub next-updatable : Updatable k ds cs ws b m P s
+    pub next-updatable : Updatable K b m P s
     next-updatable =
         record {
-          coded = U.coded;
           in_code = in_code;
           ranged = U.advancing.ranged;
           room = U.advancing.room;
-          formed = λ f. rw here (next-formed C U.coded.good u (lent P s) U.advancing (ap (ltb u) many ∙ sym i ∙ f));
+          formed = λ f. rw here (next-formed C K.coded.good u (lent P s) U.advancing (ap (ltb u) many ∙ sym i ∙ f));
         }
 
     -- and after it
@@ -124,36 +123,36 @@ module _ (k : Numbers) (ds cs ws P s z : List ℕ) (u : ℕ) (U : Unsettled k ds
       pub as_next : lent P' s' ≡ next_lent C u (lent P s)
       as_next = o ∙ ap₂ (λ a k. update_lent C a k (lent P s)) (i ∙ ap (ltb u) (sym many)) here
 
-      next-advancing : Advancing C U.coded.good (suc u) (lent P' s')
-      next-advancing = rw as_next (advanced C U.coded.good u (lent P s) U.advancing)
+      next-advancing : Advancing C K.coded.good (suc u) (lent P' s')
+      next-advancing = rw as_next (advanced C K.coded.good u (lent P s) U.advancing)
 
       abbrev own : List ℕ
-      own = table_at ds cs m
+      own = table_at K.degrees.now K.columns.now m
 
       own_length : length own ≡ length (check C m)
       own_length =
-          columns-length (numbers_in k) ds cs ws U.coded.for_columns U.coded.for_weights m in_code
-          ∙ sym (degree_is (numbers_in k) ds cs ws U.coded.for_columns U.coded.for_weights m in_code)
+          columns-length (numbers_in K.numbers) K.degrees.now K.columns.now K.weights.now K.coded.for_columns K.coded.for_weights m in_code
+          ∙ sym (degree_is (numbers_in K.numbers) K.degrees.now K.columns.now K.weights.now K.coded.for_columns K.coded.for_weights m in_code)
 
       own-column : (n : ℕ) → get_or own n 0 ≡ (edge_at (check C m) n).column
-      own-column = column-part (numbers_in k) ds cs ws U.coded.for_columns U.coded.for_weights m in_code
+      own-column = column-part (numbers_in K.numbers) K.degrees.now K.columns.now K.weights.now K.coded.for_columns K.coded.for_weights m in_code
 
       -- its columns decided again give the decisions of the new costs
       decided-then : decided_again (size C) P' own (length own) (symbols C P) ≡ symbols C P'
       unfolding decided_again redone
       decided-then =
           let p : P' ≡ (update_lent C b m (lent P s)).costs = ap (λ (l : Lent). l.costs) o in
-          ap (λ y. decided_again (size C) P' own (length own) y) (sym (symbols_are k ds cs ws P))
+          ap (λ y. decided_again (size C) P' own (length own) y) (sym (symbols_are K P))
           ∙ ap (λ k. decided_again (size C) P' own k (tab (λ c. (decide (column_of (size C) P c)).symbol) C.columns)) own_length
           ∙ upto_ext (length (check C m)) _ _ _ (λ k h y. ap (λ c. set y c (decide (column_of (size C) P' c)).symbol) (own-column k))
-          ∙ rw p (redecided_lent C U.coded.good (λ (l : List ℕ). (decide l).symbol) b (lent P s) U.advancing.ranged U.advancing.room m in_checks)
-          ∙ symbols_are k ds cs ws P'
+          ∙ rw p (redecided_lent C K.coded.good (λ (l : List ℕ). (decide l).symbol) b (lent P s) U.advancing.ranged U.advancing.room m in_checks)
+          ∙ symbols_are K P'
 
-      pub next_retest : (p : Place) → p.check ≡ m → p.edge ≡ edges_before ds p.check → (from : CheckAt) → EdgeOf ds from → from.check < k.checks
-          → (full : length z ≡ k.columns) → RetestRoom k ds cs ws p from P' z
+      pub next_retest : (p : Place) → p.check ≡ m → p.edge ≡ edges_before K.degrees.now p.check → (from : CheckAt) → EdgeOf K.degrees.now from → from.check < K.numbers.checks
+          → (full : length z ≡ K.numbers.columns) → RetestRoom K p from P' z
       next_retest p x y from v w full =
           record {
-            settled-room = record { coded = U.coded; ranged = next-advancing.ranged; symbols = full };
+            settled-room = record { ranged = next-advancing.ranged; symbols = full };
             inside = omega (arith, x, in_code);
             edge_is = y;
             from_edge = v;
@@ -161,25 +160,25 @@ module _ (k : Numbers) (ds cs ws P s z : List ℕ) (u : ℕ) (U : Unsettled k ds
             old = P;
             decided = U.decided;
             unsettled = U.unsettled;
-            again = ap (λ k. decided_again (size C) P' (table_at ds cs k) (length (table_at ds cs k)) (symbols C P)) x ∙ decided-then;
+            again = ap (λ k. decided_again (size C) P' (table_at K.degrees.now K.columns.now k) (length (table_at K.degrees.now K.columns.now k)) (symbols C P)) x ∙ decided-then;
           }
 
       -- where they do not satisfy every check either
-      pub next-unsettled : (y : List ℕ) → y ≡ symbols C P' → settled C P' ≡ false → Unsettled k ds cs ws (u + 1) P' s' y
-      next-unsettled y d f = record { coded = U.coded; advancing = rw (add-one u) next-advancing; decided = d; unsettled = f }
+      pub next-unsettled : (y : List ℕ) → y ≡ symbols C P' → settled C P' ≡ false → Unsettled K (u + 1) P' s' y
+      next-unsettled y d f = record { advancing = rw (add-one u) next-advancing; decided = d; unsettled = f }
 
-  pub unsettled-full : length z ≡ k.columns
-  unsettled-full = ap length (U.decided ∙ sym (symbols_are k ds cs ws P)) ∙ length-tab (λ c. (decide (column_of (size C) P c)).symbol) k.columns
+  pub unsettled-full : length z ≡ K.numbers.columns
+  unsettled-full = ap length (U.decided ∙ sym (symbols_are K P)) ∙ length-tab (λ c. (decide (column_of (size C) P c)).symbol) K.numbers.columns
 
 -- once around the loop
-module _ (k : Numbers) (ds cs ws : List ℕ) (most : ℕ) (l₀ : Lent) where
+module _ (K : Tables) (most : ℕ) (l₀ : Lent) where
   abbrev D : Code
-  D = code_of k ds cs ws
+  D = code_in K
 
-  pub going_start : (P s z : List ℕ) → Unsettled k ds cs ws 0 P s z → lent P s ≡ l₀ → Going k ds cs ws most l₀ 0 (record { check = 0; edge = 0; byte = 0 }) (record { check = 0; edge = 0 }) P s z
+  pub going_start : (P s z : List ℕ) → Unsettled K 0 P s z → lent P s ≡ l₀ → Going K most l₀ 0 (record { check = 0; edge = 0; byte = 0 }) (record { check = 0; edge = 0 }) P s z
   unfolding bytes_before
   going_start P s z U i =
-      let h = some-check k ds cs ws P s z 0 U in
+      let h = some-check K P s z 0 U in
       record {
         at_most = omega arith;
         check_is = sym (mod-eq_of_lt h);
@@ -190,42 +189,42 @@ module _ (k : Numbers) (ds cs ws : List ℕ) (most : ℕ) (l₀ : Lent) where
         left = let z : most - 0 ≡ most = omega arith in ap₂ (λ k l. stop_lent D k 0 l) z i;
       }
 
-  module _ (u : ℕ) (here : Place) (from : CheckAt) (P s z : List ℕ) (G : Going k ds cs ws most l₀ u here from P s z) where
+  module _ (u : ℕ) (here : Place) (from : CheckAt) (P s z : List ℕ) (G : Going K most l₀ u here from P s z) where
     pub going_end : u ≡ most → ended_in (NotFound u) (lent P s) ≡ stop_lent D most 0 l₀
     going_end e = stop_end D most u (lent P s) l₀ G.unsettled.unsettled G.left e
 
-    module _ (b : Bool) (i : b ≡ ltb u k.checks) where
-      pub going_updatable : Updatable k ds cs ws b here.check P s
-      going_updatable = next-updatable k ds cs ws P s z u G.unsettled here.check G.check_is b i
+    module _ (b : Bool) (i : b ≡ ltb u K.numbers.checks) where
+      pub going_updatable : Updatable K b here.check P s
+      going_updatable = next-updatable K P s z u G.unsettled here.check G.check_is b i
 
       module _ (P' s' : List ℕ) (o : lent P' s' ≡ update_lent D b here.check (lent P s)) where
-        pub going_retest : RetestRoom k ds cs ws here from P' z
+        pub going_retest : RetestRoom K here from P' z
         going_retest =
-            next_retest k ds cs ws P s z u G.unsettled here.check G.check_is b i P' s' o here refl G.stands.edge_is from G.from_edge G.from_inside
-            (unsettled-full k ds cs ws P s z u G.unsettled)
+            next_retest K P s z u G.unsettled here.check G.check_is b i P' s' o here refl G.stands.edge_is from G.from_edge G.from_inside
+            (unsettled-full K P s z u G.unsettled)
 
-        module _ (h : u < most) (r : CheckAt) (R : Retested D ds P' r) (n : ℕ) (all : n ≡ k.checks) where
+        module _ (h : u < most) (r : CheckAt) (R : Retested D K.degrees.now P' r) (n : ℕ) (all : n ≡ K.numbers.checks) where
           on : lent P' s' ≡ next_lent D u (lent P s)
-          on = as_next k ds cs ws P s z u G.unsettled here.check G.check_is b i P' s' o
+          on = as_next K P s z u G.unsettled here.check G.check_is b i P' s' o
 
           checks-all : n ≡ length D.checks
-          checks-all = all ∙ sym (checks-count k ds cs ws G.unsettled.coded)
+          checks-all = all ∙ sym (checks-count K)
 
           pub going_found : r.check ≡ n → ended_in (Found (u + 1)) (lent P' s') ≡ stop_lent D most 0 l₀
           going_found e =
               stop_found D most u (lent P s) l₀ G.unsettled.unsettled G.left h (lent P' s') on (sym R.test_is ∙ eq-eqb _ _ (e ∙ checks-all))
 
-          pub going_next : (r.check ≡ n → ⊥) → (next here' : Place) → Stands k.first ds (here.check + 1) next → Around n next here'
-              → (y : List ℕ) → y ≡ symbols D P' → Going k ds cs ws most l₀ (u + 1) here' r P' s' y
+          pub going_next : (r.check ≡ n → ⊥) → (next here' : Place) → Stands K.numbers.first K.degrees.now (here.check + 1) next → Around n next here'
+              → (y : List ℕ) → y ≡ symbols D P' → Going K most l₀ (u + 1) here' r P' s' y
           going_next e next here' S A y d =
               let f : r.check ≡ length D.checks → ⊥ = λ i. e (i ∙ sym checks-all) in
               record {
                 at_most = omega arith;
-                check_is = around_next k.first ds k.checks next here' (rw all at A) u here.check (some-check k ds cs ws P s z u G.unsettled) G.check_is S.check_is;
-                stands = around_stands k.first ds n next here' A (stands_own k.first ds _ next S);
+                check_is = around_next K.numbers.first K.degrees.now K.numbers.checks next here' (rw all at A) u here.check (some-check K P s z u G.unsettled) G.check_is S.check_is;
+                stands = around_stands K.numbers.first K.degrees.now n next here' A (stands_own K.numbers.first K.degrees.now _ next S);
                 from_edge = R.edge_is;
                 from_inside = omega (arith, R.high, f, checks-all, all);
-                unsettled = next-unsettled k ds cs ws P s z u G.unsettled here.check G.check_is b i P' s' o y d (sym R.test_is ∙ ne_eqb _ _ f);
+                unsettled = next-unsettled K P s z u G.unsettled here.check G.check_is b i P' s' o y d (sym R.test_is ∙ ne_eqb _ _ f);
                 left = stop_more D most u (lent P s) l₀ G.unsettled.unsettled G.left h (lent P' s') on;
               }
 
@@ -235,13 +234,12 @@ unfolding stop_lent
 stop_first C zero u l e = sym (rw e)
 stop_first C (suc k) u l e = sym (rw e)
 
-pub first-unsettled : (k : Numbers) (ds cs ws P s z A S : List ℕ) → RunRoom k ds cs ws true P s z A S → (y : List ℕ) → y ≡ symbols (code_of k ds cs ws) P
-    → settled (code_of k ds cs ws) P ≡ false → Unsettled k ds cs ws 0 P s y
-first-unsettled k ds cs ws P s z A S R y d f =
+pub first-unsettled : (K : Tables) (P s z A S : List ℕ) → RunRoom K true P s z A S → (y : List ℕ) → y ≡ symbols (code_in K) P
+    → settled (code_in K) P ≡ false → Unsettled K 0 P s y
+first-unsettled K P s z A S R y d f =
     let r = R.iterate.running in
     record {
-      coded = r.coded;
-      advancing = advancing-start (code_of k ds cs ws) r.coded.good (lent P s) r.passable.ranged r.passable.room;
+      advancing = advancing-start (code_in K) K.coded.good (lent P s) r.passable.ranged r.passable.room;
       decided = d;
       unsettled = f;
     }

@@ -27,9 +27,9 @@ use Rattle.machine.proofs.Lent.{run-stands}
 use Rattle.machine.proofs.InTables.{place_is}
 use Rattle.codeline.specs.declared.answers.Header.{Header}
 use Rattle.codeline.specs.declared.answers.Header.TheVariants.{Refused as HeaderRefused}
-use Rattle.codeline.specs.declared.answers.Numbers.{Numbers}
+use Rattle.codeline.specs.declared.code.Code.{Code as Tables}
 use Rattle.codeline.specs.Answers.{numbers_in, header_numbers}
-use Rattle.codeline.specs.inner.Coding.{code_of, Coded}
+use Rattle.layered.specs.inner.Codes.{code_in}
 use Rattle.codeline.proofs.Answered.{header_refused}
 use Rattle.layered.specs.declared.answers.Outcome.{Outcome}
 use Rattle.layered.specs.declared.answers.Outcome.TheVariants.{Found, NotFound}
@@ -78,23 +78,23 @@ reply_is (Found u) l st t l' e = (ap₂ outcome (ap (λ (x : Ended). x.status) e
 reply_is (NotFound u) l st t l' e = (ap₂ outcome (ap (λ (x : Ended). x.status) e) (ap (λ (x : Ended). x.t) e), ap (λ (x : Ended). x.lent) e)
 
 -- a decoding over the tables of a code, of which n is N
-module _ (k : Numbers) (ds cs ws : List ℕ) (T : Coded k ds cs ws) (n : ℕ) (N : n ≡ k.columns) where
+module _ (K : Tables) (n : ℕ) (N : n ≡ K.numbers.columns) where
   abbrev C : Code
-  C = code_of k ds cs ws
+  C = code_in K
 
-  pub used_is : bytes_before k.first ds (min k.checks (length ds)) ≡ used C
+  pub used_is : bytes_before K.numbers.first K.degrees.now (min K.numbers.checks (length K.degrees.now)) ≡ used C
   used_is =
-      let m : min k.checks (length ds) ≡ k.checks = omega (arith, T.for_degrees) in
-      ap (bytes_before k.first ds) m
-      ∙ place_is (numbers_in k) ds cs ws T.for_columns T.for_weights k.checks (omega arith)
-      ∙ ap (place C) (sym (checks-count k ds cs ws T))
+      let m : min K.numbers.checks (length K.degrees.now) ≡ K.numbers.checks = omega (arith, K.coded.for_degrees) in
+      ap (bytes_before K.numbers.first K.degrees.now) m
+      ∙ place_is (numbers_in K.numbers) K.degrees.now K.columns.now K.weights.now K.coded.for_columns K.coded.for_weights K.numbers.checks (omega arith)
+      ∙ ap (place C) (sym (checks-count K))
 
   -- what the buffers hold of costs P and a store u
   pub holds_then : (P u s y c v x x' : List ℕ) (w : ℕ) → w ≡ C.columns * size C → x ≡ symbols C P → x' ≡ margins C P
       → lending (x ++ drop n y) (P ++ drop w c) u (x' ++ drop n v) ≡ holding C P u (lending y c s v)
   holds_then P u s y c v x x' w e i j = rw (i, j, e, N)
 
-  module _ (f y c s v : List ℕ) (r : ℕ) (e : r ≡ fault_of k ds f (length y) (length c) (length s) (length v)) where
+  module _ (f y c s v : List ℕ) (r : ℕ) (e : r ≡ fault_of K.numbers K.degrees.now f (length y) (length c) (length s) (length v)) where
     abbrev b : Buffers
     b = lending y c s v
 
@@ -118,19 +118,18 @@ module _ (k : Numbers) (ds cs ws : List ℕ) (T : Coded k ds cs ws) (n : ℕ) (N
 
       pub frame-length : length f ≡ C.columns * size C
       unfolding frame_fault_of frame_fault
-      frame-length = frame-counted k.first k.columns f none.0
+      frame-length = frame-counted K.numbers.first K.numbers.columns f none.0
 
       -- the buffers have room
       pub fits : (n ≤ length y) × ((length f ≤ length c) × (n ≤ length v))
       fits = rw (frame-length, N) (rooms.for_symbols, (rooms.for_costs, rooms.for_margins))
 
       -- the run starts on the frame with no record
-      pub start-room : Below 255 f → (P x A S : List ℕ) → P ≡ f → length x ≡ n → 2048 ≤ length A → 2048 ≤ length S → RunRoom k ds cs ws true P s x A S
+      pub start-room : Below 255 f → (P x A S : List ℕ) → P ≡ f → length x ≡ n → 2048 ≤ length A → 2048 ≤ length S → RunRoom K true P s x A S
       start-room d P x A S i l p q =
           record {
             iterate = record {
               running = record {
-                coded = T;
                 passable = rw i record { ranged = frame-ranged C f none.0 d; room = rooms.for_store; formed = λ e. absurd (true≢false e) };
               };
               arrived = p;
@@ -155,22 +154,22 @@ module _ (k : Numbers) (ds cs ws : List ℕ) (T : Coded k ds cs ws) (n : ℕ) (N
         pub copied_rest : drop (length f) (f' ++ drop (length f) c) ≡ drop (length f) c
         copied_rest = ap (λ a. drop (length f) (a ++ drop (length f) c)) i ∙ drop_at f (drop (length f) c) (length f) refl
 
-        pub copied_room : Below 255 f → (x A S : List ℕ) → length x ≡ n → 2048 ≤ length A → 2048 ≤ length S → RunRoom k ds cs ws true (take (length f) (f' ++ drop (length f) c)) s x A S
+        pub copied_room : Below 255 f → (x A S : List ℕ) → length x ≡ n → 2048 ≤ length A → 2048 ≤ length S → RunRoom K true (take (length f) (f' ++ drop (length f) c)) s x A S
         copied_room d x A S l p q = start-room d _ x A S copied_front l p q
 
         -- the run, by the machine over the lent buffers
-        call-of : (early : Bool) (o : Outcome) (P u : List ℕ) → ended_in o (lent P u) ≡ run_lent early k C (lent (take (length f) (f' ++ drop (length f) c)) s)
+        call-of : (early : Bool) (o : Outcome) (P u : List ℕ) → ended_in o (lent P u) ≡ run_lent early K.numbers C (lent (take (length f) (f' ++ drop (length f) c)) s)
             → call_under early (good C) f b ≡ record { reply = answer_reply (Decoded o); buffers = holding C P u b }
         call-of false o P u a =
-            let E = reply_is o (lent P u) _ _ _ (a ∙ ap (λ q. go_lent C k.limit 0 (lent q s)) copied_front ∙ run-stands C T.good s rooms.for_store f) in
+            let E = reply_is o (lent P u) _ _ _ (a ∙ ap (λ q. go_lent C K.numbers.limit 0 (lent q s)) copied_front ∙ run-stands C K.coded.good s rooms.for_store f) in
             ap₂ (λ r (l : Lent). record { reply = r; buffers = holding C l.costs l.store b }) (sym E.0) (sym E.1)
         call-of true o P u a =
-            let q : k.checks * k.limit ≡ most_updates C = ap (λ a. a * k.limit) (sym (checks-count k ds cs ws T)) in
-            let E = reply_is o (lent P u) _ _ _ (a ∙ ap₂ (λ n l. stop_lent C n 0 (lent l s)) q copied_front ∙ early_stands C T.good s rooms.for_store f) in
+            let q : K.numbers.checks * K.numbers.limit ≡ most_updates C = ap (λ a. a * K.numbers.limit) (sym (checks-count K)) in
+            let E = reply_is o (lent P u) _ _ _ (a ∙ ap₂ (λ n l. stop_lent C n 0 (lent l s)) q copied_front ∙ early_stands C K.coded.good s rooms.for_store f) in
             ap₂ (λ r (l : Lent). record { reply = r; buffers = holding C l.costs l.store b }) (sym E.0) (sym E.1)
 
         pub copied_leaves : (early : Bool) (o : Outcome) (P x u x' : List ℕ)
-            → ended_in o (lent P u) ≡ run_lent early k C (lent (take (length f) (f' ++ drop (length f) c)) s)
+            → ended_in o (lent P u) ≡ run_lent early K.numbers C (lent (take (length f) (f' ++ drop (length f) c)) s)
             → x ≡ symbols C P → x' ≡ margins C P
             → Leaves (decoding_of early C f b) (answer_reply (Decoded o)) (lending (x ++ drop n y) (P ++ drop (length f) (f' ++ drop (length f) c)) u (x' ++ drop n v))
         copied_leaves early o P x u x' a j j' =

@@ -21,9 +21,9 @@ use Rattle.machine.proofs.Ranges.{column-room}
 use Rattle.machine.proofs.Lent.{place-suc, place_mono}
 use Rattle.machine.proofs.Rooms.{used_high}
 use Rattle.machine.proofs.InTables.{count, in_columns, in_weights, check_is, weights-length, same_length, degree_is, column-part, weight-part, place_is}
-use Rattle.codeline.specs.declared.answers.Numbers.{Numbers}
+use Rattle.codeline.specs.declared.code.Code.{Code as Tables}
 use Rattle.codeline.specs.Answers.{numbers_in}
-use Rattle.codeline.specs.inner.Coding.{code_of}
+use Rattle.layered.specs.inner.Codes.{code_in}
 use Rattle.layered.specs.inner.Updates.{UpdateRoom}
 use Rattle.layered.specs.declared.place.Place.{Place}
 use Rattle.layered.specs.inner.Places.{Stands, Updatable}
@@ -38,52 +38,52 @@ stands_own first ds m p S =
       byte_is = S.byte_is ∙ ap (bytes_before first ds) (sym S.check_is);
     }
 
-module _ (k : Numbers) (ds cs ws : List ℕ) (start : Bool) (m : ℕ) (P s : List ℕ) (U : Updatable k ds cs ws start m P s) where
+module _ (K : Tables) (start : Bool) (m : ℕ) (P s : List ℕ) (U : Updatable K start m P s) where
   abbrev C : Code
-  C = code_of k ds cs ws
+  C = code_in K
 
-  abbrev hc : edges_before ds k.checks ≤ length cs
-  hc = U.coded.for_columns
+  abbrev hc : edges_before K.degrees.now K.numbers.checks ≤ length K.columns.now
+  hc = K.coded.for_columns
 
-  abbrev hw : edges_before ds k.checks ≤ length ws
-  hw = U.coded.for_weights
+  abbrev hw : edges_before K.degrees.now K.numbers.checks ≤ length K.weights.now
+  hw = K.coded.for_weights
 
-  pub check_there : m < length ds
-  check_there = omega (arith, U.in_code, U.coded.for_degrees)
+  pub check_there : m < length K.degrees.now
+  check_there = omega (arith, U.in_code, K.coded.for_degrees)
 
   pub in_checks : m < length C.checks
-  in_checks = omega (arith, U.in_code, count (numbers_in k) ds cs ws hc hw)
+  in_checks = omega (arith, U.in_code, count (numbers_in K.numbers) K.degrees.now K.columns.now K.weights.now hc hw)
 
   H : GoodCheck C.columns (size C) (check C m)
-  H = U.coded.good.each-check m in_checks
+  H = K.coded.good.each-check m in_checks
 
-  degree : length (check C m) ≡ get_or ds m 0
-  degree = degree_is (numbers_in k) ds cs ws hc hw m U.in_code
+  degree : length (check C m) ≡ get_or K.degrees.now m 0
+  degree = degree_is (numbers_in K.numbers) K.degrees.now K.columns.now K.weights.now hc hw m U.in_code
 
-  byte : bytes_before k.first ds m ≡ place C m
-  byte = place_is (numbers_in k) ds cs ws hc hw m (omega (arith, U.in_code))
+  byte : bytes_before K.numbers.first K.degrees.now m ≡ place C m
+  byte = place_is (numbers_in K.numbers) K.degrees.now K.columns.now K.weights.now hc hw m (omega (arith, U.in_code))
 
   -- the length of its record
   abbrev long : ℕ
-  long = record_length (rule_for k.first) (get_or ds m 0)
+  long = record_length (rule_for K.numbers.first) (get_or K.degrees.now m 0)
 
-  record_is : part s (bytes_before k.first ds m) long ≡ record_at C m s
+  record_is : part s (bytes_before K.numbers.first K.degrees.now m) long ≡ record_at C m s
   record_is = ap₂ (λ a d. part s a (record_length (rule C) d)) byte (sym degree)
 
-  in-store : bytes_before k.first ds m + long ≤ length s
+  in-store : bytes_before K.numbers.first K.degrees.now m + long ≤ length s
   in-store = rw (byte, ← degree) (omega (arith, U.room, place-suc C m, place_mono C (suc m) (length C.checks) in_checks))
 
-  room_at : (Q S : List ℕ) → length Q ≡ get_or ds m 0 * size C → length S ≡ get_or ds m 0 * size C
-      → UpdateRoom k.first k.scale start (table_at ds cs m) (table_at ds ws m) P (part s (bytes_before k.first ds m) long) Q S
+  room_at : (Q S : List ℕ) → length Q ≡ get_or K.degrees.now m 0 * size C → length S ≡ get_or K.degrees.now m 0 * size C
+      → UpdateRoom K.numbers.first K.numbers.scale start (table_at K.degrees.now K.columns.now m) (table_at K.degrees.now K.weights.now m) P (part s (bytes_before K.numbers.first K.degrees.now m) long) Q S
   room_at Q S i j =
-      let d : length (table_at ds ws m) ≡ get_or ds m 0 = weights-length (numbers_in k) ds cs ws hc hw m U.in_code in
-      let e : length (table_at ds cs m) ≡ length (table_at ds ws m) = same_length (numbers_in k) ds cs ws hc hw m U.in_code in
-      let w : (n : ℕ) → get_or (table_at ds ws m) n 0 ≡ (edge_at (check C m) n).weight = weight-part (numbers_in k) ds cs ws hc hw m U.in_code in
-      let v : (n : ℕ) → get_or (table_at ds cs m) n 0 ≡ (edge_at (check C m) n).column = column-part (numbers_in k) ds cs ws hc hw m U.in_code in
+      let d : length (table_at K.degrees.now K.weights.now m) ≡ get_or K.degrees.now m 0 = weights-length (numbers_in K.numbers) K.degrees.now K.columns.now K.weights.now hc hw m U.in_code in
+      let e : length (table_at K.degrees.now K.columns.now m) ≡ length (table_at K.degrees.now K.weights.now m) = same_length (numbers_in K.numbers) K.degrees.now K.columns.now K.weights.now hc hw m U.in_code in
+      let w : (n : ℕ) → get_or (table_at K.degrees.now K.weights.now m) n 0 ≡ (edge_at (check C m) n).weight = weight-part (numbers_in K.numbers) K.degrees.now K.columns.now K.weights.now hc hw m U.in_code in
+      let v : (n : ℕ) → get_or (table_at K.degrees.now K.columns.now m) n 0 ≡ (edge_at (check C m) n).column = column-part (numbers_in K.numbers) K.degrees.now K.columns.now K.weights.now hc hw m U.in_code in
       record {
         recall = record {
           weighed = record {
-            accepted = U.coded.good.first;
+            accepted = K.coded.good.first;
             two = omega (arith, H.low, degree);
             few = omega (arith, H.high, degree);
             some = λ n u. rw (w n) (H.each-edge n (omega (arith, degree))).weight-some;
@@ -95,56 +95,56 @@ module _ (k : Numbers) (ds cs ws : List ℕ) (start : Bool) (m : ℕ) (P s : Lis
         same = e;
         columns = λ n u. rw (v n) (omega (arith, U.ranged.full, column-room (edge_at (check C m) n).column C.columns (size C) (H.each-edge n (omega (arith, degree))).column-small));
         small = U.ranged.small;
-        scale = U.coded.good.scale-high;
-        for_record = length_part s (bytes_before k.first ds m) long in-store ∙ ap (record_length (rule C)) (sym d);
+        scale = K.coded.good.scale-high;
+        for_record = length_part s (bytes_before K.numbers.first K.degrees.now m) long in-store ∙ ap (record_length (rule C)) (sym d);
         for_costs = i ∙ ap (λ x. x * size C) (sym d);
       }
 
-  fits : (edges_before ds m + get_or ds m 0 ≤ length cs)
-      × (edges_before ds m + get_or ds m 0 ≤ length ws)
-      × (bytes_before k.first ds m + long ≤ length s)
-      × (get_or ds m 0 * size_of k.first ≤ 2048)
+  fits : (edges_before K.degrees.now m + get_or K.degrees.now m 0 ≤ length K.columns.now)
+      × (edges_before K.degrees.now m + get_or K.degrees.now m 0 ≤ length K.weights.now)
+      × (bytes_before K.numbers.first K.degrees.now m + long ≤ length s)
+      × (get_or K.degrees.now m 0 * size_of K.numbers.first ≤ 2048)
   fits = (
-    in_columns (numbers_in k) ds cs ws hc hw m U.in_code,
-    in_weights (numbers_in k) ds cs ws hc hw m U.in_code,
+    in_columns (numbers_in K.numbers) K.degrees.now K.columns.now K.weights.now hc hw m U.in_code,
+    in_weights (numbers_in K.numbers) K.degrees.now K.columns.now K.weights.now hc hw m U.in_code,
     in-store,
-    mul-le-mul {n₁ = get_or ds m 0} {n₂ = 32} (rw (← degree) H.high) (size_64 (power C) U.coded.good.p-high),
+    mul-le-mul {n₁ = get_or K.degrees.now m 0} {n₂ = 32} (rw (← degree) H.high) (size_64 (power C) K.coded.good.p-high),
   )
 
   -- and no place in the store is high
-  byte_high : bytes_before k.first ds m + long ≤ 57472
-  byte_high = rw (byte, ← degree) (omega (arith, place-suc C m, place_mono C (suc m) (length C.checks) in_checks, used_high C U.coded.good))
+  byte_high : bytes_before K.numbers.first K.degrees.now m + long ≤ 57472
+  byte_high = rw (byte, ← degree) (omega (arith, place-suc C m, place_mono C (suc m) (length C.checks) in_checks, used_high C K.coded.good))
 
   -- at the places that the code has
-  module _ (at place d q groups : ℕ) (a : at ≡ edges_before ds m) (b : place ≡ bytes_before k.first ds m) (i : d ≡ get_or ds m 0) (e : q ≡ size_of k.first) (j : groups ≡ group_length (rule_for k.first) * (size_of k.first - 1)) where
+  module _ (at place d q groups : ℕ) (a : at ≡ edges_before K.degrees.now m) (b : place ≡ bytes_before K.numbers.first K.degrees.now m) (i : d ≡ get_or K.degrees.now m 0) (e : q ≡ size_of K.numbers.first) (j : groups ≡ group_length (rule_for K.numbers.first) * (size_of K.numbers.first - 1)) where
     record-end : d + groups ≡ long
     record-end = rw (j, i)
 
-    pub places_inside : (at + d ≤ length cs) × ((at + d ≤ length ws) × ((place + (d + groups) ≤ length s) × (d * q ≤ 2048)))
+    pub places_inside : (at + d ≤ length K.columns.now) × ((at + d ≤ length K.weights.now) × ((place + (d + groups) ≤ length s) × (d * q ≤ 2048)))
     places_inside = (rw (a, i) fits.0, (rw (a, i) fits.1, (rw (b, record-end) fits.2, rw (i, e) fits.3)))
 
     pub byte_fits : place + (d + groups) ≤ 57472
     byte_fits = rw (b, record-end) byte_high
 
-    pub next-byte : place + (d + groups) ≡ bytes_before k.first ds (m + 1)
+    pub next-byte : place + (d + groups) ≡ bytes_before K.numbers.first K.degrees.now (m + 1)
     unfolding bytes_before
     next-byte = rw (add-one m, b, record-end)
 
     pub update_asks : (Q S : List ℕ) → length Q ≡ d * q → length S ≡ d * q
-        → UpdateRoom k.first k.scale start (part cs at (at + d - at)) (part ws at (at + d - at)) P (part s place (place + (d + groups) - place)) Q S
+        → UpdateRoom K.numbers.first K.numbers.scale start (part K.columns.now at (at + d - at)) (part K.weights.now at (at + d - at)) P (part s place (place + (d + groups) - place)) Q S
     update_asks Q S x y =
         let u : at + d - at ≡ d = add-sub_cancel_left at d in
         let v : place + (d + groups) - place ≡ d + groups = add-sub_cancel_left place (d + groups) in
-        let w : d * q ≡ get_or ds m 0 * size_of k.first = ap₂ (λ a b. a * b) i e in
+        let w : d * q ≡ get_or K.degrees.now m 0 * size_of K.numbers.first = ap₂ (λ a b. a * b) i e in
         rw (u, v, record-end, a, b, i) (room_at Q S (x ∙ w) (y ∙ w))
 
     pub update-done : (P' r : List ℕ)
-        → P' ≡ costs_lent (rule C) k.scale start (edges_of (part cs at (at + d - at)) (part ws at (at + d - at))) (part s place (place + (d + groups) - place)) P
-        → r ≡ record_lent (rule C) k.scale start (edges_of (part cs at (at + d - at)) (part ws at (at + d - at))) (part s place (place + (d + groups) - place)) P
+        → P' ≡ costs_lent (rule C) K.numbers.scale start (edges_of (part K.columns.now at (at + d - at)) (part K.weights.now at (at + d - at))) (part s place (place + (d + groups) - place)) P
+        → r ≡ record_lent (rule C) K.numbers.scale start (edges_of (part K.columns.now at (at + d - at)) (part K.weights.now at (at + d - at))) (part s place (place + (d + groups) - place)) P
         → lent P' (patch s place (place + (d + groups) - place) r) ≡ update_lent C start m (lent P s)
     unfolding update_lent
     update-done P' r x y =
         let u : at + d - at ≡ d = add-sub_cancel_left at d in
         let v : place + (d + groups) - place ≡ d + groups = add-sub_cancel_left place (d + groups) in
         let l : record_length (rule C) (length (check C m)) ≡ long = ap (record_length (rule C)) degree in
-        rw (x, y, u, v, record-end, a, b, i, ← check_is (numbers_in k) ds cs ws hc hw m U.in_code, record_is, byte, l)
+        rw (x, y, u, v, record-end, a, b, i, ← check_is (numbers_in K.numbers) K.degrees.now K.columns.now K.weights.now hc hw m U.in_code, record_is, byte, l)

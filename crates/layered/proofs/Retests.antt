@@ -18,9 +18,9 @@ use Rattle.machine.specs.Machine.{symbols}
 use Rattle.machine.specs.inner.Tables.{edges_before, table_at}
 use Rattle.machine.proofs.Ranges.{column-room}
 use Rattle.machine.proofs.InTables.{in_columns, column_in, degree_is}
-use Rattle.codeline.specs.declared.answers.Numbers.{Numbers}
+use Rattle.codeline.specs.declared.code.Code.{Code as Tables}
 use Rattle.codeline.specs.Answers.{numbers_in}
-use Rattle.codeline.specs.inner.Coding.{code_of}
+use Rattle.layered.specs.inner.Codes.{code_in}
 use Rattle.layered.specs.declared.parity.CheckAt.{CheckAt}
 use Rattle.layered.specs.declared.place.Place.{Place}
 use Rattle.layered.specs.inner.Parity.{all_hold, ParityRoom, FromTo, FirstNot, SomeNot}
@@ -87,54 +87,54 @@ module _ (C : Code) (ds z : List ℕ) (n : ℕ) (all : n ≡ length C.checks) (f
           }
 
 -- the test after an update of the check that stands at p
-module _ (k : Numbers) (ds cs ws : List ℕ) (p : Place) (from : CheckAt) (P z : List ℕ) (R : RetestRoom k ds cs ws p from P z) where
+module _ (K : Tables) (p : Place) (from : CheckAt) (P z : List ℕ) (R : RetestRoom K p from P z) where
   abbrev m : ℕ
   m = p.check
 
   abbrev C : Code
-  C = code_of k ds cs ws
+  C = code_in K
 
-  abbrev hc : edges_before ds k.checks ≤ length cs
-  hc = R.settled-room.coded.for_columns
+  abbrev hc : edges_before K.degrees.now K.numbers.checks ≤ length K.columns.now
+  hc = K.coded.for_columns
 
-  abbrev hw : edges_before ds k.checks ≤ length ws
-  hw = R.settled-room.coded.for_weights
+  abbrev hw : edges_before K.degrees.now K.numbers.checks ≤ length K.weights.now
+  hw = K.coded.for_weights
 
-  checks-are : length C.checks ≡ k.checks
-  checks-are = checks-count k ds cs ws R.settled-room.coded
+  checks-are : length C.checks ≡ K.numbers.checks
+  checks-are = checks-count K
 
-  pub edges-inside : (d : ℕ) → d ≡ get_or ds m 0 → p.edge + d ≤ length cs
-  edges-inside d i = rw (R.edge_is, i) (in_columns (numbers_in k) ds cs ws hc hw m R.inside)
+  pub edges-inside : (d : ℕ) → d ≡ get_or K.degrees.now m 0 → p.edge + d ≤ length K.columns.now
+  edges-inside d i = rw (R.edge_is, i) (in_columns (numbers_in K.numbers) K.degrees.now K.columns.now K.weights.now hc hw m R.inside)
 
-  pub check_there : m < length ds
-  check_there = omega (arith, R.inside, R.settled-room.coded.for_degrees)
+  pub check_there : m < length K.degrees.now
+  check_there = omega (arith, R.inside, K.coded.for_degrees)
 
   -- its columns, as the code has them
-  module _ (d : ℕ) (i : d ≡ get_or ds m 0) where
+  module _ (d : ℕ) (i : d ≡ get_or K.degrees.now m 0) where
     abbrev own : List ℕ
-    own = part cs p.edge (p.edge + d - p.edge)
+    own = part K.columns.now p.edge (p.edge + d - p.edge)
 
-    own_is : own ≡ table_at ds cs m
-    own_is = ap (part cs p.edge) (add-sub_cancel_left p.edge d) ∙ ap₂ (part cs) R.edge_is i
+    own_is : own ≡ table_at K.degrees.now K.columns.now m
+    own_is = ap (part K.columns.now p.edge) (add-sub_cancel_left p.edge d) ∙ ap₂ (part K.columns.now) R.edge_is i
 
     pub own_length : length own ≡ d
-    own_length = ap (λ n. length (part cs p.edge n)) (add-sub_cancel_left p.edge d) ∙ length_part cs p.edge d (edges-inside d i)
+    own_length = ap (λ n. length (part K.columns.now p.edge n)) (add-sub_cancel_left p.edge d) ∙ length_part K.columns.now p.edge d (edges-inside d i)
 
     own_at : (n : ℕ) → n < d → get_or own n 0 < length z
     own_at n h =
-        let e : get_or own n 0 ≡ get_or cs (edges_before ds m + n) 0 =
-        ap (λ w. get_or (part cs p.edge w) n 0) (add-sub_cancel_left p.edge d) ∙ get_or-take d (drop p.edge cs) n 0 h ∙ get_or-drop p.edge cs n 0 ∙ ap (λ w. get_or cs (w + n) 0) R.edge_is in
-        let c : get_or cs (edges_before ds m + n) 0 ≡ (edge_at (check C m) n).column = column_in (numbers_in k) ds cs ws hc hw m R.inside n (omega arith) in
-        let E = (R.settled-room.coded.good.each-check m (omega (arith, R.inside, checks-are))).each-edge n (omega (arith, degree-here)) in
+        let e : get_or own n 0 ≡ get_or K.columns.now (edges_before K.degrees.now m + n) 0 =
+        ap (λ w. get_or (part K.columns.now p.edge w) n 0) (add-sub_cancel_left p.edge d) ∙ get_or-take d (drop p.edge K.columns.now) n 0 h ∙ get_or-drop p.edge K.columns.now n 0 ∙ ap (λ w. get_or K.columns.now (w + n) 0) R.edge_is in
+        let c : get_or K.columns.now (edges_before K.degrees.now m + n) 0 ≡ (edge_at (check C m) n).column = column_in (numbers_in K.numbers) K.degrees.now K.columns.now K.weights.now hc hw m R.inside n (omega arith) in
+        let E = (K.coded.good.each-check m (omega (arith, R.inside, checks-are))).each-edge n (omega (arith, degree-here)) in
         omega (arith, e, c, E.column-small, R.settled-room.symbols)
       where
-        degree-here : length (check C m) ≡ get_or ds m 0
-        degree-here = degree_is (numbers_in k) ds cs ws hc hw m R.inside
+        degree-here : length (check C m) ≡ get_or K.degrees.now m 0
+        degree-here = degree_is (numbers_in K.numbers) K.degrees.now K.columns.now K.weights.now hc hw m R.inside
 
-    pub again_asks : (q : ℕ) → q ≡ size_of k.first → AgainRoom q P own z
+    pub again_asks : (q : ℕ) → q ≡ size_of K.numbers.first → AgainRoom q P own z
     again_asks q e =
         record {
-          small = rw e (size_64 (power_of k.first) R.settled-room.coded.good.p-high);
+          small = rw e (size_64 (power_of K.numbers.first) K.coded.good.p-high);
           in_costs = λ n h.
               omega (
                 arith,
@@ -146,31 +146,31 @@ module _ (k : Numbers) (ds cs ws : List ℕ) (p : Place) (from : CheckAt) (P z :
         }
 
     -- and its symbols
-    module _ (q : ℕ) (e : q ≡ size_of k.first) (y : List ℕ) (o : y ≡ decided_again q P own (length own) z) where
+    module _ (q : ℕ) (e : q ≡ size_of K.numbers.first) (y : List ℕ) (o : y ≡ decided_again q P own (length own) z) where
       pub again-decided : y ≡ symbols C P
       again-decided =
-          o ∙ ap₂ (λ n (l : List ℕ). decided_again n P l (length l) z) e own_is ∙ ap (decided_again (size_of k.first) P (table_at ds cs m) (length (table_at ds cs m))) R.decided ∙ R.again
+          o ∙ ap₂ (λ n (l : List ℕ). decided_again n P l (length l) z) e own_is ∙ ap (decided_again (size_of K.numbers.first) P (table_at K.degrees.now K.columns.now m) (length (table_at K.degrees.now K.columns.now m))) R.decided ∙ R.again
 
-      pub again-same : y ≡ z → Retested C ds P from
+      pub again-same : y ≡ z → Retested C K.degrees.now P from
       again-same s =
           let u : symbols C P ≡ symbols C R.old = sym again-decided ∙ s ∙ R.decided in
           record {
             edge_is = R.from_edge;
             high = omega (arith, R.from_inside, checks-are);
             test_is = ne_eqb _ _ (λ (i : from.check ≡ length C.checks). omega (arith, R.from_inside, checks-are))
-                ∙ sym (sym (settled-by k ds cs ws P) ∙ ap (all_hold C) u ∙ settled-by k ds cs ws R.old ∙ R.unsettled);
+                ∙ sym (sym (settled-by K P) ∙ ap (all_hold C) u ∙ settled-by K R.old ∙ R.unsettled);
           }
 
-      pub again-room : ParityRoom k ds cs ws y × FromTo k ds from k.checks
+      pub again-room : ParityRoom K y × FromTo K from K.numbers.checks
       again-room = (
-        decided-room k ds cs ws P z y R.settled-room again-decided,
+        decided-room K P z y R.settled-room again-decided,
         record { edge_is = R.from_edge; ordered = omega (arith, R.from_inside); inside = omega arith },
       )
 
-      pub again_tested : (r : CheckAt) → SomeNot C ds y r → Retested C ds P r
+      pub again_tested : (r : CheckAt) → SomeNot C K.degrees.now y r → Retested C K.degrees.now P r
       again_tested r S =
           record {
             edge_is = S.edge_is;
             high = S.high;
-            test_is = S.test_is ∙ ap (all_hold C) again-decided ∙ settled-by k ds cs ws P;
+            test_is = S.test_is ∙ ap (all_hold C) again-decided ∙ settled-by K P;
           }

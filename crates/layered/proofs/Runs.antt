@@ -12,44 +12,43 @@ use Rattle.machine.specs.CodeLine.{Code}
 use Rattle.machine.specs.Lent.{Lent, lent, update_lent, iteration_lent}
 use Rattle.machine.proofs.Passing.{updates-before, update_needs, iteration-passable}
 use Rattle.machine.proofs.InTables.{count}
-use Rattle.codeline.specs.declared.answers.Numbers.{Numbers}
+use Rattle.codeline.specs.declared.code.Code.{Code as Tables}
 use Rattle.codeline.specs.Answers.{numbers_in}
-use Rattle.codeline.specs.inner.Coding.{code_of, Coded}
+use Rattle.layered.specs.inner.Codes.{code_in}
 use Rattle.layered.specs.inner.Parity.{SettledRoom}
 use Rattle.layered.specs.inner.Iterations.{Running}
 use Rattle.layered.specs.inner.Places.{Updatable}
 
 -- how many checks the tables say
-pub checks-count : (k : Numbers) (ds cs ws : List ℕ) → Coded k ds cs ws → length (code_of k ds cs ws).checks ≡ k.checks
-checks-count k ds cs ws T = count (numbers_in k) ds cs ws T.for_columns T.for_weights
+pub checks-count : (K : Tables) → length (code_in K).checks ≡ K.numbers.checks
+checks-count K = count (numbers_in K.numbers) K.degrees.now K.columns.now K.weights.now K.coded.for_columns K.coded.for_weights
 
-module _ (k : Numbers) (ds cs ws P s : List ℕ) (start : Bool) (R : Running k ds cs ws start P s) where
+module _ (K : Tables) (P s : List ℕ) (start : Bool) (R : Running K start P s) where
   abbrev C : Code
-  C = code_of k ds cs ws
+  C = code_in K
 
   -- before check m of an iteration
-  pub update-updatable : (m : ℕ) → m < k.checks → (l : Lent) → l ≡ upto (update_lent C start) m (lent P s) → Updatable k ds cs ws start m l.costs l.store
+  pub update-updatable : (m : ℕ) → m < K.numbers.checks → (l : Lent) → l ≡ upto (update_lent C start) m (lent P s) → Updatable K start m l.costs l.store
   update-updatable m h l e =
-      let n : m < length C.checks = omega (arith, h, checks-count k ds cs ws R.coded) in
-      let B = updates-before C R.coded.good start (lent P s) R.passable.ranged R.passable.room m (omega arith) in
+      let n : m < length C.checks = omega (arith, h, checks-count K) in
+      let B = updates-before C K.coded.good start (lent P s) R.passable.ranged R.passable.room m (omega arith) in
       rw e record {
-        coded = R.coded;
         in_code = h;
         ranged = B.ranged;
         room = omega (arith, B.room, R.passable.room);
-        formed = update_needs C R.coded.good start (lent P s) R.passable m n;
+        formed = update_needs C K.coded.good start (lent P s) R.passable m n;
       }
 
   -- after an iteration
-  pub iteration-running : (P' s' : List ℕ) → lent P' s' ≡ iteration_lent C start (lent P s) → Running k ds cs ws false P' s'
+  pub iteration-running : (P' s' : List ℕ) → lent P' s' ≡ iteration_lent C start (lent P s) → Running K false P' s'
   iteration-running P' s' e =
-      record { coded = R.coded; passable = rw e (iteration-passable C R.coded.good start (lent P s) R.passable.ranged R.passable.room) }
+      record { passable = rw e (iteration-passable C K.coded.good start (lent P s) R.passable.ranged R.passable.room) }
 
-  pub next-running : (P' s' : List ℕ) (t : ℕ) → lent P' s' ≡ iteration_lent C start (lent P s) → Running k ds cs ws (eqb (t + 1) 0) P' s'
+  pub next-running : (P' s' : List ℕ) (t : ℕ) → lent P' s' ≡ iteration_lent C start (lent P s) → Running K (eqb (t + 1) 0) P' s'
   next-running P' s' t e =
       let f : eqb (t + 1) 0 ≡ false = ne_eqb (t + 1) 0 (λ (y : t + 1 ≡ 0). omega arith) in
       rw f (iteration-running P' s' e)
 
   -- what the test asks
-  pub test_room : (z : List ℕ) → length z ≡ k.columns → SettledRoom k ds cs ws P z
-  test_room z e = record { coded = R.coded; ranged = R.passable.ranged; symbols = e }
+  pub test_room : (z : List ℕ) → length z ≡ K.numbers.columns → SettledRoom K P z
+  test_room z e = record { ranged = R.passable.ranged; symbols = e }

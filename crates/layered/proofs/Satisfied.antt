@@ -23,9 +23,9 @@ use Rattle.machine.specs.inner.Tables.{edges_before, term}
 use Rattle.machine.proofs.Lists.{all-not}
 use Rattle.machine.proofs.Ranges.{column-room}
 use Rattle.machine.proofs.InTables.{count, degree_is, in_columns, in_weights, column_in, weight_in, term_in}
-use Rattle.codeline.specs.declared.answers.Numbers.{Numbers}
+use Rattle.codeline.specs.declared.code.Code.{Code as Tables}
 use Rattle.codeline.specs.Answers.{numbers_in}
-use Rattle.codeline.specs.inner.Coding.{code_of}
+use Rattle.layered.specs.inner.Codes.{code_in}
 use Rattle.layered.specs.declared.parity.CheckAt.{CheckAt}
 use Rattle.machine.specs.inner.Tables.{EdgeRoom}
 use Rattle.layered.specs.inner.Parity.{holds_at, all_hold, ParityRoom, FirstNot, SettledRoom}
@@ -70,74 +70,73 @@ module _ (C : Code) (z : List ℕ) where
         | no e ↦ ne_eqb _ _ e ∙ sym (one-not r.check (omega (arith, F.high)) (F.not_it (omega (arith, F.high))))
       ]
 
-module _ (k : Numbers) (ds cs ws : List ℕ) where
+module _ (K : Tables) where
   -- what the two loops over the columns leave are the machine's
-  pub symbols_are : (P : List ℕ) → tab (λ c. (decide (column_of (size_of k.first) P c)).symbol) k.columns ≡ symbols (code_of k ds cs ws) P
+  pub symbols_are : (P : List ℕ) → tab (λ c. (decide (column_of (size_of K.numbers.first) P c)).symbol) K.numbers.columns ≡ symbols (code_in K) P
   unfolding symbols
-  symbols_are P = sym (up_to_tab (λ c. (decide (column_of (size_of k.first) P c)).symbol) k.columns)
+  symbols_are P = sym (up_to_tab (λ c. (decide (column_of (size_of K.numbers.first) P c)).symbol) K.numbers.columns)
 
-  pub margins_are : (P : List ℕ) → tab (λ c. (decide (column_of (size_of k.first) P c)).margin) k.columns ≡ margins (code_of k ds cs ws) P
+  pub margins_are : (P : List ℕ) → tab (λ c. (decide (column_of (size_of K.numbers.first) P c)).margin) K.numbers.columns ≡ margins (code_in K) P
   unfolding margins
-  margins_are P = sym (up_to_tab (λ c. (decide (column_of (size_of k.first) P c)).margin) k.columns)
+  margins_are P = sym (up_to_tab (λ c. (decide (column_of (size_of K.numbers.first) P c)).margin) K.numbers.columns)
 
-  pub settled-by : (P : List ℕ) → all_hold (code_of k ds cs ws) (symbols (code_of k ds cs ws) P) ≡ settled (code_of k ds cs ws) P
+  pub settled-by : (P : List ℕ) → all_hold (code_in K) (symbols (code_in K) P) ≡ settled (code_in K) P
   unfolding all_hold settled
   settled-by P = refl
 
   -- after the decisions each edge has its two elements
-  pub decided-room : (P y z : List ℕ) → SettledRoom k ds cs ws P y → z ≡ symbols (code_of k ds cs ws) P → ParityRoom k ds cs ws z
+  pub decided-room : (P y z : List ℕ) → SettledRoom K P y → z ≡ symbols (code_in K) P → ParityRoom K z
   decided-room P y z S o =
-      let e : z ≡ tab (λ c. first_zero (column_of (size_of k.first) P c)) k.columns = o ∙ sym (symbols_are P) in
+      let e : z ≡ tab (λ c. first_zero (column_of (size_of K.numbers.first) P c)) K.numbers.columns = o ∙ sym (symbols_are P) in
       record {
-        coded = S.coded;
-        symbols = ap length e ∙ length-tab (λ c. first_zero (column_of (size_of k.first) P c)) k.columns;
+        symbols = ap length e ∙ length-tab (λ c. first_zero (column_of (size_of K.numbers.first) P c)) K.numbers.columns;
         small = λ c h.
-            let l : length (column_of (size_of k.first) P c) ≡ size_of k.first = length_part P (c * size_of k.first) (size_of k.first) (omega (arith, S.ranged.full, column-room c k.columns (size_of k.first) h)) in
-            rw (e, get_d_tab (λ c. first_zero (column_of (size_of k.first) P c)) k.columns c h) (omega (arith, (first-zero (S.ranged.has_zero c h)).0, l));
+            let l : length (column_of (size_of K.numbers.first) P c) ≡ size_of K.numbers.first = length_part P (c * size_of K.numbers.first) (size_of K.numbers.first) (omega (arith, S.ranged.full, column-room c K.numbers.columns (size_of K.numbers.first) h)) in
+            rw (e, get_d_tab (λ c. first_zero (column_of (size_of K.numbers.first) P c)) K.numbers.columns c h) (omega (arith, (first-zero (S.ranged.has_zero c h)).0, l));
       }
 
   -- at the place that the loops carry
-  module _ (z : List ℕ) (R : ParityRoom k ds cs ws z) (m n at d : ℕ) (h : m < k.checks) (e : at ≡ edges_before ds m) (i : d ≡ get_or ds m 0) where
+  module _ (z : List ℕ) (R : ParityRoom K z) (m n at d : ℕ) (h : m < K.numbers.checks) (e : at ≡ edges_before K.degrees.now m) (i : d ≡ get_or K.degrees.now m 0) where
     abbrev C : Code
-    C = code_of k ds cs ws
+    C = code_in K
 
-    abbrev hc : edges_before ds k.checks ≤ length cs
-    hc = R.coded.for_columns
+    abbrev hc : edges_before K.degrees.now K.numbers.checks ≤ length K.columns.now
+    hc = K.coded.for_columns
 
-    abbrev hw : edges_before ds k.checks ≤ length ws
-    hw = R.coded.for_weights
+    abbrev hw : edges_before K.degrees.now K.numbers.checks ≤ length K.weights.now
+    hw = K.coded.for_weights
 
     pub degree : d ≡ length (check C m)
-    degree = i ∙ sym (degree_is (numbers_in k) ds cs ws hc hw m h)
+    degree = i ∙ sym (degree_is (numbers_in K.numbers) K.degrees.now K.columns.now K.weights.now hc hw m h)
 
     in_checks : m < length C.checks
-    in_checks = omega (arith, count (numbers_in k) ds cs ws hc hw)
+    in_checks = omega (arith, count (numbers_in K.numbers) K.degrees.now K.columns.now K.weights.now hc hw)
 
-    pub edge-room : n < d → EdgeRoom (power_of k.first) cs ws z (at + n)
+    pub edge-room : n < d → EdgeRoom (power_of K.numbers.first) K.columns.now K.weights.now z (at + n)
     edge-room j =
-        let G = R.coded.good in
+        let G = K.coded.good in
         let E = (G.each-check m in_checks).each-edge n (omega (arith, degree)) in
-        let c : get_or cs (edges_before ds m + n) 0 ≡ (edge_at (check C m) n).column = column_in (numbers_in k) ds cs ws hc hw m h n (omega arith) in
-        let w : get_or ws (edges_before ds m + n) 0 ≡ (edge_at (check C m) n).weight = weight_in (numbers_in k) ds cs ws hc hw m h n (omega arith) in
+        let c : get_or K.columns.now (edges_before K.degrees.now m + n) 0 ≡ (edge_at (check C m) n).column = column_in (numbers_in K.numbers) K.degrees.now K.columns.now K.weights.now hc hw m h n (omega arith) in
+        let w : get_or K.weights.now (edges_before K.degrees.now m + n) 0 ≡ (edge_at (check C m) n).weight = weight_in (numbers_in K.numbers) K.degrees.now K.columns.now K.weights.now hc hw m h n (omega arith) in
         rw e
         record {
           low = G.p-low;
           high = G.p-high;
-          in_columns = omega (arith, in_columns (numbers_in k) ds cs ws hc hw m h);
-          in_weights = omega (arith, in_weights (numbers_in k) ds cs ws hc hw m h);
+          in_columns = omega (arith, in_columns (numbers_in K.numbers) K.degrees.now K.columns.now K.weights.now hc hw m h);
+          in_weights = omega (arith, in_weights (numbers_in K.numbers) K.degrees.now K.columns.now K.weights.now hc hw m h);
           column = rw c (omega (arith, E.column-small, R.symbols));
           weight = rw w E.weight-small;
           symbol = rw c (R.small (edge_at (check C m) n).column E.column-small);
         }
 
-    pub edges-end : at + d ≤ length cs
-    edges-end = rw (e, i) (in_columns (numbers_in k) ds cs ws hc hw m h)
+    pub edges-end : at + d ≤ length K.columns.now
+    edges-end = rw (e, i) (in_columns (numbers_in K.numbers) K.degrees.now K.columns.now K.weights.now hc hw m h)
 
     -- one term more
-    pub sum_more : n < d → (s t : ℕ) → s ≡ parity_sum (power C) (check C m) z n → t ≡ term (power C) cs ws z (at + n)
+    pub sum_more : n < d → (s t : ℕ) → s ≡ parity_sum (power C) (check C m) z n → t ≡ term (power C) K.columns.now K.weights.now z (at + n)
         → bit_xor s t ≡ parity_sum (power C) (check C m) z (n + 1)
     unfolding xor
     sum_more j s t u v =
         let w : t ≡ product (power C) (edge_at (check C m) n).weight (get_or z (edge_at (check C m) n).column 0) =
-        v ∙ ap (λ a. term (power C) cs ws z (a + n)) e ∙ term_in (numbers_in k) ds cs ws hc hw m h (power C) z n (omega arith) in
+        v ∙ ap (λ a. term (power C) K.columns.now K.weights.now z (a + n)) e ∙ term_in (numbers_in K.numbers) K.degrees.now K.columns.now K.weights.now hc hw m h (power C) z n (omega arith) in
         rw (add-one n, u, w)

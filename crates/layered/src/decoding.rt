@@ -7,54 +7,42 @@ ghost use Rattle.machine.specs.Machine.{symbols as symbols_of, margins as margin
 ghost use Rattle.machine.specs.Lent.{lent};
 ghost use Rattle.machine.specs.Decoding.{lending, Leaves};
 ghost use Rattle.layered.specs.Answers.{answer_reply};
-ghost use Rattle.codeline.specs.inner.Coding.{code_of};
+ghost use Rattle.layered.specs.inner.Codes.{code_in};
 ghost use Rattle.layered.specs.inner.Iterations.{ended_in, RunRoom};
-ghost use Rattle.layered.specs.inner.Calls.{run_lent, decoding_of, called, CodeRoom};
+ghost use Rattle.layered.specs.inner.Calls.{run_lent, decoding_of, called, WorkRoom};
 
 use crate::answers::{Answer, Counted, Outcome};
 use crate::{early, iterate, parity};
-use codeline::answers::{Header, Numbers};
+use codeline::answers::Header;
+use codeline::code::Code;
 use scalar::sizes;
 
 // The machine on the costs in `costs`.
 fn run(
     early: bool,
-    numbers: Numbers,
-    degrees: &[u8],
-    columns: &[u16],
-    weights: &[u8],
+    code: &Code<'_>,
     symbols: &mut [u8],
     costs: &mut [u16],
     store: &mut [u8],
     arrived: &mut [u8],
     sent: &mut [u8],
 ) -> Outcome
-    requires { RunRoom numbers degrees.now columns.now weights.now true
-        costs.old store.old symbols.old arrived.old sent.old }
+    requires { RunRoom code.now true costs.old store.old symbols.old arrived.old sent.old }
     ensures ends { ended_in result (lent costs.new store.new)
-        ≡ run_lent early numbers (code_of numbers degrees.now columns.now weights.now)
+        ≡ run_lent early code.now.numbers (code_in code.now)
         (lent costs.old store.old) }
-    ensures symbols_then { symbols.new
-        ≡ symbols_of (code_of numbers degrees.now columns.now weights.now)
-        costs.new }
+    ensures symbols_then { symbols.new ≡ symbols_of (code_in code.now) costs.new }
 {
     if early {
-        return early::run(
-            numbers, degrees, columns, weights, symbols, costs, store, arrived, sent,
-        );
+        return early::run(code, symbols, costs, store, arrived, sent);
     }
-    iterate::run(
-        numbers, degrees, columns, weights, symbols, costs, store, arrived, sent,
-    )
+    iterate::run(code, symbols, costs, store, arrived, sent)
 }
 
 // The same, with the margins of the last decisions.
 fn run_to_margins(
     early: bool,
-    numbers: Numbers,
-    degrees: &[u8],
-    columns: &[u16],
-    weights: &[u8],
+    code: &Code<'_>,
     symbols: &mut [u8],
     costs: &mut [u16],
     store: &mut [u8],
@@ -62,33 +50,23 @@ fn run_to_margins(
     arrived: &mut [u8],
     sent: &mut [u8],
 ) -> Outcome
-    requires { RunRoom numbers degrees.now columns.now weights.now true
-        costs.old store.old symbols.old arrived.old sent.old
-        × (length margins.old ≡ numbers.columns) }
+    requires { RunRoom code.now true costs.old store.old symbols.old arrived.old sent.old
+        × (length margins.old ≡ code.now.numbers.columns) }
     ensures ends { ended_in result (lent costs.new store.new)
-        ≡ run_lent early numbers (code_of numbers degrees.now columns.now weights.now)
+        ≡ run_lent early code.now.numbers (code_in code.now)
         (lent costs.old store.old) }
-    ensures symbols_then { symbols.new
-        ≡ symbols_of (code_of numbers degrees.now columns.now weights.now)
-        costs.new }
-    ensures margins_then { margins.new
-        ≡ margins_of (code_of numbers degrees.now columns.now weights.now)
-        costs.new }
+    ensures symbols_then { symbols.new ≡ symbols_of (code_in code.now) costs.new }
+    ensures margins_then { margins.new ≡ margins_of (code_in code.now) costs.new }
 {
-    let o = run(
-        early, numbers, degrees, columns, weights, symbols, costs, store, arrived, sent,
-    );
-    parity::margins(costs, rules::size(numbers.first), margins);
+    let o = run(early, code, symbols, costs, store, arrived, sent);
+    parity::margins(costs, rules::size(code.numbers.first), margins);
     o
 }
 
 // "Decode: code, 12, 13, 2, 3, 4.", 19. Nothing is written before the last refusal has been tested.
 fn under_code(
     early: bool,
-    numbers: Numbers,
-    degrees: &[u8],
-    columns: &[u16],
-    weights: &[u8],
+    code: &Code<'_>,
     frame: &[u8],
     symbols: &mut [u8],
     costs: &mut [u16],
@@ -97,15 +75,23 @@ fn under_code(
     arrived: &mut [u8],
     sent: &mut [u8],
 ) -> Answer
-    requires { CodeRoom numbers degrees.now columns.now weights.now arrived.old sent.old }
+    requires { WorkRoom arrived.old sent.old }
     ensures { Leaves
-        (decoding_of early (code_of numbers degrees.now columns.now weights.now)
+        (decoding_of early (code_in code.now)
         frame.now (lending symbols.old costs.old store.old margins.old))
         (answer_reply result)
         (lending symbols.new costs.new store.new margins.new) }
 {
-    let n = usize::from(numbers.columns);
-    let k = frame::fault(numbers, degrees, frame, symbols, costs, store, margins);
+    let n = usize::from(code.numbers.columns);
+    let k = frame::fault(
+        code.numbers,
+        code.degrees,
+        frame,
+        symbols,
+        costs,
+        store,
+        margins,
+    );
     if k != 0 {
         return Answer::Refused(k);
     }
@@ -113,10 +99,7 @@ fn under_code(
     frame::copy(frame, &mut costs[..w]);
     let o = run_to_margins(
         early,
-        numbers,
-        degrees,
-        columns,
-        weights,
+        code,
         &mut symbols[..n],
         &mut costs[..w],
         store,
@@ -154,9 +137,14 @@ pub fn decode_in(
             columns: 0,
         },
         Header::Read(numbers) => {
+            let accepted = Code {
+                numbers,
+                degrees,
+                columns,
+                weights,
+            };
             let answer = under_code(
-                early, numbers, degrees, columns, weights, frame, symbols, costs, store, margins,
-                arrived, sent,
+                early, &accepted, frame, symbols, costs, store, margins, arrived, sent,
             );
             Counted {
                 answer,

@@ -7,7 +7,7 @@ ghost use Rattle.machine.specs.CodeLine.{column_of};
 ghost use Rattle.machine.specs.Machine.{symbols as symbols_of};
 ghost use Rattle.machine.specs.Lent.{lent};
 ghost use Rattle.machine.specs.inner.LentEarly.{stop_lent};
-ghost use Rattle.codeline.specs.inner.Coding.{code_of};
+ghost use Rattle.layered.specs.inner.Codes.{code_in};
 ghost use Rattle.layered.specs.inner.Parity.{ParityRoom, FromTo, SomeNot};
 ghost use Rattle.layered.specs.inner.Iterations.{ended_in, RunRoom};
 ghost use Rattle.layered.specs.inner.Early.{decided_again, AgainRoom, RetestRoom, Retested, GoRoom};
@@ -17,6 +17,7 @@ use crate::parity::CheckAt;
 use crate::place::Place;
 use crate::{parity, place};
 use codeline::answers::Numbers;
+use codeline::code::Code;
 
 // Decides column c again; whether its symbol is another one now.
 fn decide_at(costs: &[u16], q: usize, c: usize, symbols: &mut [u8]) -> bool
@@ -50,28 +51,17 @@ fn decide_again(costs: &[u16], q: usize, columns: &[u16], symbols: &mut [u8]) ->
 
 // The test from a check on that the symbols did not satisfy before: a check that they do not satisfy, found behind it or else before it;
 // the number of checks where there is none.
-fn unsatisfied_from(
-    numbers: Numbers,
-    from: CheckAt,
-    degrees: &[u8],
-    columns: &[u16],
-    weights: &[u8],
-    symbols: &[u8],
-) -> CheckAt
-    requires { ParityRoom numbers degrees.now columns.now weights.now symbols.now
-        × FromTo numbers degrees.now from numbers.checks }
-    ensures { SomeNot (code_of numbers degrees.now columns.now weights.now)
-        degrees.now symbols.now result }
+fn unsatisfied_from(code: &Code<'_>, from: CheckAt, symbols: &[u8]) -> CheckAt
+    requires { ParityRoom code.now symbols.now × FromTo code.now from code.now.numbers.checks }
+    ensures { SomeNot (code_in code.now) code.now.degrees.now symbols.now result }
 {
-    let count = usize::from(numbers.checks);
-    let behind = parity::unsatisfied(numbers, from, count, degrees, columns, weights, symbols);
+    let count = usize::from(code.numbers.checks);
+    let behind = parity::unsatisfied(code, from, count, symbols);
     if behind.check != count {
         return behind;
     }
     let first = CheckAt { check: 0, edge: 0 };
-    let before = parity::unsatisfied(
-        numbers, first, from.check, degrees, columns, weights, symbols,
-    );
+    let before = parity::unsatisfied(code, first, from.check, symbols);
     if before.check != from.check {
         return before;
     }
@@ -81,57 +71,43 @@ fn unsatisfied_from(
 // The decisions after an update of the check that stands here, and a check that they do not satisfy, or the number of checks. They did
 // not satisfy `from` before it, and its columns alone have other costs now: where none of their symbols changed they still do not.
 fn tested_again(
-    numbers: Numbers,
+    code: &Code<'_>,
     here: Place,
     from: CheckAt,
-    degrees: &[u8],
-    columns: &[u16],
-    weights: &[u8],
     costs: &[u16],
     symbols: &mut [u8],
 ) -> CheckAt
-    requires { RetestRoom numbers degrees.now columns.now weights.now here from
-        costs.now symbols.old }
-    ensures test { Retested (code_of numbers degrees.now columns.now weights.now)
-        degrees.now costs.now result }
-    ensures symbols_then { symbols.new
-        ≡ symbols_of (code_of numbers degrees.now columns.now weights.now)
-        costs.now }
+    requires { RetestRoom code.now here from costs.now symbols.old }
+    ensures test { Retested (code_in code.now) code.now.degrees.now costs.now result }
+    ensures symbols_then { symbols.new ≡ symbols_of (code_in code.now) costs.now }
 {
     let m = here.check;
     let at = here.edge;
-    let d = usize::from(degrees[m]);
+    let d = usize::from(code.degrees[m]);
     let e = at + d;
-    let q = rules::size(numbers.first);
-    if decide_again(costs, q, &columns[at..e], symbols) == 0 {
+    let q = rules::size(code.numbers.first);
+    if decide_again(costs, q, &code.columns[at..e], symbols) == 0 {
         return from;
     }
-    unsatisfied_from(numbers, from, degrees, columns, weights, symbols)
+    unsatisfied_from(code, from, symbols)
 }
 
 // The updates one after the other, at most `most` of them, from decisions that do not satisfy every check.
 fn go_on(
-    numbers: Numbers,
+    code: &Code<'_>,
     most: u16,
-    degrees: &[u8],
-    columns: &[u16],
-    weights: &[u8],
     symbols: &mut [u8],
     costs: &mut [u16],
     store: &mut [u8],
     arrived: &mut [u8],
     sent: &mut [u8],
 ) -> Outcome
-    requires { GoRoom numbers degrees.now columns.now weights.now
-        costs.old store.old symbols.old arrived.old sent.old }
+    requires { GoRoom code.now costs.old store.old symbols.old arrived.old sent.old }
     ensures ends { ended_in result (lent costs.new store.new)
-        ≡ stop_lent (code_of numbers degrees.now columns.now weights.now)
-        most 0 (lent costs.old store.old) }
-    ensures symbols_then { symbols.new
-        ≡ symbols_of (code_of numbers degrees.now columns.now weights.now)
-        costs.new }
+        ≡ stop_lent (code_in code.now) most 0 (lent costs.old store.old) }
+    ensures symbols_then { symbols.new ≡ symbols_of (code_in code.now) costs.new }
 {
-    let count = usize::from(numbers.checks);
+    let count = usize::from(code.numbers.checks);
     let mut here = Place {
         check: 0,
         edge: 0,
@@ -144,21 +120,16 @@ fn go_on(
             return Outcome::NotFound(u);
         }
         let next = place::update_at(
-            numbers,
+            code,
             usize::from(u) < count,
             here,
-            degrees,
-            columns,
-            weights,
             costs,
             store,
             arrived,
             sent,
         );
         u += 1;
-        from = tested_again(
-            numbers, here, from, degrees, columns, weights, costs, symbols,
-        );
+        from = tested_again(code, here, from, costs, symbols);
         if from.check == count {
             return Outcome::Found(u);
         }
@@ -175,30 +146,21 @@ fn most_updates(numbers: Numbers) -> u16
 
 // The machine on the costs in `costs`, "tested at the start and after each check update".
 pub fn run(
-    numbers: Numbers,
-    degrees: &[u8],
-    columns: &[u16],
-    weights: &[u8],
+    code: &Code<'_>,
     symbols: &mut [u8],
     costs: &mut [u16],
     store: &mut [u8],
     arrived: &mut [u8],
     sent: &mut [u8],
 ) -> Outcome
-    requires { RunRoom numbers degrees.now columns.now weights.now true
-        costs.old store.old symbols.old arrived.old sent.old }
+    requires { RunRoom code.now true costs.old store.old symbols.old arrived.old sent.old }
     ensures ends { ended_in result (lent costs.new store.new)
-        ≡ stop_lent (code_of numbers degrees.now columns.now weights.now)
-        (numbers.checks * numbers.limit) 0 (lent costs.old store.old) }
-    ensures symbols_then { symbols.new
-        ≡ symbols_of (code_of numbers degrees.now columns.now weights.now)
-        costs.new }
+        ≡ stop_lent (code_in code.now) (code.now.numbers.checks * code.now.numbers.limit) 0 (lent costs.old store.old) }
+    ensures symbols_then { symbols.new ≡ symbols_of (code_in code.now) costs.new }
 {
-    if parity::settled(numbers, degrees, columns, weights, costs, symbols) {
+    if parity::settled(code, costs, symbols) {
         return Outcome::Found(0);
     }
-    let most = most_updates(numbers);
-    go_on(
-        numbers, most, degrees, columns, weights, symbols, costs, store, arrived, sent,
-    )
+    let most = most_updates(code.numbers);
+    go_on(code, most, symbols, costs, store, arrived, sent)
 }

@@ -8,11 +8,11 @@ ghost use Rattle.trellis.specs.Sizes.{most_size};
 ghost use Rattle.machine.specs.inner.Tables.{term};
 ghost use Rattle.machine.specs.CodeLine.{column_of};
 ghost use Rattle.machine.specs.Machine.{settled as settled_of, symbols as symbols_of};
-ghost use Rattle.codeline.specs.inner.Coding.{code_of};
+ghost use Rattle.layered.specs.inner.Codes.{code_in};
 ghost use Rattle.machine.specs.inner.Tables.{EdgeRoom};
 ghost use Rattle.layered.specs.inner.Parity.{all_hold, ParityRoom, FromTo, FirstNot, SettledRoom};
 
-use codeline::answers::Numbers;
+use codeline::code::Code;
 use decision::answers::Decision;
 use field::Element;
 
@@ -60,12 +60,16 @@ fn times(p: u8, a: u8, b: u8) -> u8
 }
 
 // What one edge adds to its check's sum.
-fn term_at(numbers: Numbers, columns: &[u16], weights: &[u8], symbols: &[u8], edge: usize) -> u8
-    requires { EdgeRoom (power_of numbers.first) columns.now weights.now symbols.now edge }
-    ensures { result ≡ term (power_of numbers.first) columns.now weights.now symbols.now edge }
+fn term_at(code: &Code<'_>, symbols: &[u8], edge: usize) -> u8
+    requires { EdgeRoom (power_of code.now.numbers.first) code.now.columns.now code.now.weights.now symbols.now edge }
+    ensures { result ≡ term (power_of code.now.numbers.first) code.now.columns.now code.now.weights.now symbols.now edge }
 {
-    let c = usize::from(columns[edge]);
-    times(rules::power(numbers.first), weights[edge], symbols[c])
+    let c = usize::from(code.columns[edge]);
+    times(
+        rules::power(code.numbers.first),
+        code.weights[edge],
+        symbols[c],
+    )
 }
 
 // A check by its number, with its first edge in the tables.
@@ -77,19 +81,9 @@ pub struct CheckAt {
 
 // The first check from `from` on and before `to` that the symbols do not satisfy, "the sum of h_n times x_n is 0"; `to` where they
 // satisfy them all.
-pub fn unsatisfied(
-    numbers: Numbers,
-    from: CheckAt,
-    to: usize,
-    degrees: &[u8],
-    columns: &[u16],
-    weights: &[u8],
-    symbols: &[u8],
-) -> CheckAt
-    requires { ParityRoom numbers degrees.now columns.now weights.now symbols.now
-        × FromTo numbers degrees.now from to }
-    ensures { FirstNot (code_of numbers degrees.now columns.now weights.now)
-        degrees.now symbols.now from.check to result }
+pub fn unsatisfied(code: &Code<'_>, from: CheckAt, to: usize, symbols: &[u8]) -> CheckAt
+    requires { ParityRoom code.now symbols.now × FromTo code.now from to }
+    ensures { FirstNot (code_in code.now) code.now.degrees.now symbols.now from.check to result }
 {
     let mut m = from.check;
     let mut at = from.edge;
@@ -97,7 +91,7 @@ pub fn unsatisfied(
         if m == to {
             break 'checks CheckAt { check: m, edge: at };
         }
-        let d = usize::from(degrees[m]);
+        let d = usize::from(code.degrees[m]);
         let mut sum = 0u8;
         let mut n = 0;
         loop {
@@ -107,7 +101,7 @@ pub fn unsatisfied(
                 }
                 break;
             }
-            sum ^= term_at(numbers, columns, weights, symbols, at + n);
+            sum ^= term_at(code, symbols, at + n);
             n += 1;
         }
         at += d;
@@ -116,32 +110,21 @@ pub fn unsatisfied(
 }
 
 // Whether the symbols satisfy every check.
-fn holds(numbers: Numbers, degrees: &[u8], columns: &[u16], weights: &[u8], symbols: &[u8]) -> bool
-    requires { ParityRoom numbers degrees.now columns.now weights.now symbols.now }
-    ensures { result ≡ all_hold (code_of numbers degrees.now columns.now weights.now)
-        symbols.now }
+fn holds(code: &Code<'_>, symbols: &[u8]) -> bool
+    requires { ParityRoom code.now symbols.now }
+    ensures { result ≡ all_hold (code_in code.now) symbols.now }
 {
-    let count = usize::from(numbers.checks);
+    let count = usize::from(code.numbers.checks);
     let from = CheckAt { check: 0, edge: 0 };
-    unsatisfied(numbers, from, count, degrees, columns, weights, symbols).check == count
+    unsatisfied(code, from, count, symbols).check == count
 }
 
 // The decisions into the symbol buffer, and whether they satisfy every check.
-pub fn settled(
-    numbers: Numbers,
-    degrees: &[u8],
-    columns: &[u16],
-    weights: &[u8],
-    costs: &[u16],
-    symbols: &mut [u8],
-) -> bool
-    requires { SettledRoom numbers degrees.now columns.now weights.now costs.now symbols.old }
-    ensures test { result ≡ settled_of (code_of numbers degrees.now columns.now weights.now)
-        costs.now }
-    ensures symbols_then { symbols.new
-        ≡ symbols_of (code_of numbers degrees.now columns.now weights.now)
-        costs.now }
+pub fn settled(code: &Code<'_>, costs: &[u16], symbols: &mut [u8]) -> bool
+    requires { SettledRoom code.now costs.now symbols.old }
+    ensures test { result ≡ settled_of (code_in code.now) costs.now }
+    ensures symbols_then { symbols.new ≡ symbols_of (code_in code.now) costs.now }
 {
-    decisions(costs, rules::size(numbers.first), symbols);
-    holds(numbers, degrees, columns, weights, symbols)
+    decisions(costs, rules::size(code.numbers.first), symbols);
+    holds(code, symbols)
 }

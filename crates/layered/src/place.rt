@@ -1,11 +1,11 @@
 // A check in the tables and the store: where it stands, one update of it, and the check behind it.
 ghost use Rattle.std.specs.Prelude.{◌≡◌, ◌+◌};
 ghost use Rattle.machine.specs.Lent.{lent, update_lent};
-ghost use Rattle.codeline.specs.inner.Coding.{code_of};
+ghost use Rattle.layered.specs.inner.Codes.{code_in};
 ghost use Rattle.layered.specs.inner.Places.{Stands, Around, PlaceRoom};
 
 use crate::update;
-use codeline::answers::Numbers;
+use codeline::code::Code;
 
 // The check's number, its first edge in the tables, its record's first byte in the store.
 #[derive(Clone, Copy)]
@@ -17,38 +17,33 @@ pub struct Place {
 
 // One update of the check that stands here; answers where the next one stands.
 pub fn update_at(
-    numbers: Numbers,
+    code: &Code<'_>,
     start: bool,
     here: Place,
-    degrees: &[u8],
-    columns: &[u16],
-    weights: &[u8],
     costs: &mut [u16],
     store: &mut [u8],
     arrived: &mut [u8],
     sent: &mut [u8],
 ) -> Place
-    requires { PlaceRoom numbers degrees.now columns.now weights.now start here
-        costs.old store.old arrived.old sent.old }
+    requires { PlaceRoom code.now start here costs.old store.old arrived.old sent.old }
     ensures buffers { lent costs.new store.new
-        ≡ update_lent (code_of numbers degrees.now columns.now weights.now)
-        start here.check (lent costs.old store.old) }
-    ensures next { Stands numbers.first degrees.now (here.check + 1) result }
+        ≡ update_lent (code_in code.now) start here.check (lent costs.old store.old) }
+    ensures next { Stands code.now.numbers.first code.now.degrees.now (here.check + 1) result }
 {
     let m = here.check;
     let at = here.edge;
     let place = here.byte;
-    let q = rules::size(numbers.first);
-    let groups = rules::groups(numbers.first);
-    let d = usize::from(degrees[m]);
+    let q = rules::size(code.numbers.first);
+    let groups = rules::groups(code.numbers.first);
+    let d = usize::from(code.degrees[m]);
     let n = d * q;
     let e = at + d;
     let f = place + (d + groups);
     update::update(
-        numbers,
+        code.numbers,
         start,
-        &columns[at..e],
-        &weights[at..e],
+        &code.columns[at..e],
+        &code.weights[at..e],
         costs,
         &mut store[place..f],
         &mut arrived[..n],

@@ -5,14 +5,15 @@ ghost use Rattle.machine.specs.Machine.{settled, symbols as symbols_of, margins 
 ghost use Rattle.machine.specs.Lent.{lent, iteration_lent};
 ghost use Rattle.machine.specs.Decoding.{lending};
 ghost use Rattle.machine.specs.Moments.{Moves, loading, iterating};
-ghost use Rattle.layered.specs.inner.Calls.{CodeRoom};
-ghost use Rattle.codeline.specs.inner.Coding.{code_of, Coded};
+ghost use Rattle.layered.specs.inner.Calls.{WorkRoom};
+ghost use Rattle.layered.specs.inner.Codes.{code_in};
 ghost use Rattle.layered.specs.Answers.{stage_of};
 ghost use Rattle.layered.specs.inner.Stages.{stage_after, loading_of, iterating_of, TestRoom, StepRoom};
 
 use crate::answers::Stage;
 use crate::{iterate, parity};
-use codeline::answers::{Header, Numbers};
+use codeline::answers::Header;
+use codeline::code::Code;
 use scalar::sizes;
 
 // "2 if the test holds, else 3 if t is I or more, else 1".
@@ -29,37 +30,20 @@ pub fn stage_after(found: bool, t: u16, limit: u8) -> Stage
 }
 
 // The decisions with their margins, and whether they satisfy every check.
-pub fn tested(
-    numbers: Numbers,
-    degrees: &[u8],
-    columns: &[u16],
-    weights: &[u8],
-    costs: &[u16],
-    symbols: &mut [u8],
-    margins: &mut [u16],
-) -> bool
-    requires { TestRoom numbers degrees.now columns.now weights.now
-        costs.now symbols.old margins.old }
-    ensures test { result ≡ settled (code_of numbers degrees.now columns.now weights.now)
-        costs.now }
-    ensures symbols_then { symbols.new
-        ≡ symbols_of (code_of numbers degrees.now columns.now weights.now)
-        costs.now }
-    ensures margins_then { margins.new
-        ≡ margins_of (code_of numbers degrees.now columns.now weights.now)
-        costs.now }
+pub fn tested(code: &Code<'_>, costs: &[u16], symbols: &mut [u8], margins: &mut [u16]) -> bool
+    requires { TestRoom code.now costs.now symbols.old margins.old }
+    ensures test { result ≡ settled (code_in code.now) costs.now }
+    ensures symbols_then { symbols.new ≡ symbols_of (code_in code.now) costs.now }
+    ensures margins_then { margins.new ≡ margins_of (code_in code.now) costs.now }
 {
-    parity::margins(costs, rules::size(numbers.first), margins);
-    parity::settled(numbers, degrees, columns, weights, costs, symbols)
+    parity::margins(costs, rules::size(code.numbers.first), margins);
+    parity::settled(code, costs, symbols)
 }
 
 // One iteration, and the test after it.
 pub fn iterated(
-    numbers: Numbers,
+    code: &Code<'_>,
     start: bool,
-    degrees: &[u8],
-    columns: &[u16],
-    weights: &[u8],
     symbols: &mut [u8],
     costs: &mut [u16],
     store: &mut [u8],
@@ -67,72 +51,55 @@ pub fn iterated(
     arrived: &mut [u8],
     sent: &mut [u8],
 ) -> bool
-    requires { StepRoom numbers degrees.now columns.now weights.now start
-        costs.old store.old symbols.old margins.old arrived.old sent.old }
-    ensures test { result ≡ settled (code_of numbers degrees.now columns.now weights.now)
-        costs.new }
+    requires { StepRoom code.now start costs.old store.old symbols.old margins.old arrived.old sent.old }
+    ensures test { result ≡ settled (code_in code.now) costs.new }
     ensures buffers { lent costs.new store.new
-        ≡ iteration_lent (code_of numbers degrees.now columns.now weights.now)
-        start (lent costs.old store.old) }
-    ensures symbols_then { symbols.new
-        ≡ symbols_of (code_of numbers degrees.now columns.now weights.now)
-        costs.new }
-    ensures margins_then { margins.new
-        ≡ margins_of (code_of numbers degrees.now columns.now weights.now)
-        costs.new }
+        ≡ iteration_lent (code_in code.now) start (lent costs.old store.old) }
+    ensures symbols_then { symbols.new ≡ symbols_of (code_in code.now) costs.new }
+    ensures margins_then { margins.new ≡ margins_of (code_in code.now) costs.new }
 {
-    iterate::iterate(
-        numbers, start, degrees, columns, weights, costs, store, arrived, sent,
-    );
-    tested(numbers, degrees, columns, weights, costs, symbols, margins)
+    iterate::iterate(code, start, costs, store, arrived, sent);
+    tested(code, costs, symbols, margins)
 }
 
 // "After a load the state is 4 if decoding would refuse, else 2 if the test holds, else 1."
 fn load_under(
-    numbers: Numbers,
-    degrees: &[u8],
-    columns: &[u16],
-    weights: &[u8],
+    code: &Code<'_>,
     frame: &[u8],
     symbols: &mut [u8],
     costs: &mut [u16],
     store: &[u8],
     margins: &mut [u16],
 ) -> Stage
-    requires { Coded numbers degrees.now columns.now weights.now }
     ensures { Moves
-        (loading_of (code_of numbers degrees.now columns.now weights.now)
-        frame.now (lending symbols.old costs.old store.now margins.old))
+        (loading_of (code_in code.now) frame.now (lending symbols.old costs.old store.now margins.old))
         (stage_of result)
         (lending symbols.new costs.new store.now margins.new) }
 {
-    let n = usize::from(numbers.columns);
-    let k = frame::fault(numbers, degrees, frame, symbols, costs, store, margins);
+    let n = usize::from(code.numbers.columns);
+    let k = frame::fault(
+        code.numbers,
+        code.degrees,
+        frame,
+        symbols,
+        costs,
+        store,
+        margins,
+    );
     if k != 0 {
         return Stage::Refused(k);
     }
     let w = frame.len();
     frame::copy(frame, &mut costs[..w]);
-    let found = tested(
-        numbers,
-        degrees,
-        columns,
-        weights,
-        &costs[..w],
-        &mut symbols[..n],
-        &mut margins[..n],
-    );
-    stage_after(found, 0, numbers.limit)
+    let found = tested(code, &costs[..w], &mut symbols[..n], &mut margins[..n]);
+    stage_after(found, 0, code.numbers.limit)
 }
 
 // "While running, command 2 first tests decoding's refusals, then 13 .. then, if t is not 0, 16"; then it "goes on from the lent costs
 // and records".
 fn step_under(
-    numbers: Numbers,
+    code: &Code<'_>,
     t: u8,
-    degrees: &[u8],
-    columns: &[u16],
-    weights: &[u8],
     frame: &[u8],
     symbols: &mut [u8],
     costs: &mut [u16],
@@ -141,29 +108,33 @@ fn step_under(
     arrived: &mut [u8],
     sent: &mut [u8],
 ) -> Stage
-    requires { CodeRoom numbers degrees.now columns.now weights.now arrived.old sent.old }
+    requires { WorkRoom arrived.old sent.old }
     ensures { Moves
-        (iterating_of (code_of numbers degrees.now columns.now weights.now)
-        frame.now t (lending symbols.old costs.old store.old margins.old))
+        (iterating_of (code_in code.now) frame.now t (lending symbols.old costs.old store.old margins.old))
         (stage_of result)
         (lending symbols.new costs.new store.new margins.new) }
 {
-    let n = usize::from(numbers.columns);
-    let k = frame::fault(numbers, degrees, frame, symbols, costs, store, margins);
+    let n = usize::from(code.numbers.columns);
+    let k = frame::fault(
+        code.numbers,
+        code.degrees,
+        frame,
+        symbols,
+        costs,
+        store,
+        margins,
+    );
     if k != 0 {
         return Stage::Refused(k);
     }
-    let l = frame::resume_fault(numbers, t, degrees, costs, store);
+    let l = frame::resume_fault(code.numbers, t, code.degrees, costs, store);
     if l != 0 {
         return Stage::Refused(l);
     }
     let w = frame.len();
     let found = iterated(
-        numbers,
+        code,
         t == 0,
-        degrees,
-        columns,
-        weights,
         &mut symbols[..n],
         &mut costs[..w],
         store,
@@ -171,7 +142,7 @@ fn step_under(
         arrived,
         sent,
     );
-    stage_after(found, u16::from(t) + 1, numbers.limit)
+    stage_after(found, u16::from(t) + 1, code.numbers.limit)
 }
 
 // Over the tables of load.
@@ -192,9 +163,15 @@ pub fn load_in(
 {
     match codeline::code_tables(code, degrees, columns, weights) {
         Header::Refused(k) => Stage::Refused(k),
-        Header::Read(numbers) => load_under(
-            numbers, degrees, columns, weights, frame, symbols, costs, store, margins,
-        ),
+        Header::Read(numbers) => {
+            let accepted = Code {
+                numbers,
+                degrees,
+                columns,
+                weights,
+            };
+            load_under(&accepted, frame, symbols, costs, store, margins)
+        }
     }
 }
 
@@ -219,9 +196,16 @@ pub fn step_in(
 {
     match codeline::code_tables(code, degrees, columns, weights) {
         Header::Refused(k) => Stage::Refused(k),
-        Header::Read(numbers) => step_under(
-            numbers, t, degrees, columns, weights, frame, symbols, costs, store, margins, arrived,
-            sent,
-        ),
+        Header::Read(numbers) => {
+            let accepted = Code {
+                numbers,
+                degrees,
+                columns,
+                weights,
+            };
+            step_under(
+                &accepted, t, frame, symbols, costs, store, margins, arrived, sent,
+            )
+        }
     }
 }

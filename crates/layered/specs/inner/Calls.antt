@@ -8,7 +8,6 @@ use Rattle.machine.specs.inner.LentEarly.{stop_lent}
 use Rattle.machine.specs.Decoding.{Buffers, After, admitted_under, decoding_under, decoding}
 use Rattle.machine.specs.Early.{early_under, decoding_early}
 use Rattle.codeline.specs.declared.answers.Numbers.{Numbers}
-use Rattle.codeline.specs.inner.Coding.{Coded}
 
 -- the machine over the lent buffers, which may stop inside an iteration or not
 abbrev pub run_lent : Bool → Numbers → Code → Lent → Ended
@@ -29,8 +28,7 @@ abbrev pub called : Bool → List ℕ → List ℕ → Buffers → After
 called false = decoding
 called true = decoding_early
 
--- tables of a code, and room to work in
-pub record CodeRoom (k : Numbers) (ds cs ws A S : List ℕ) : Type 0 where
-  pub coded : Coded k ds cs ws
+-- room to work in: two lists for the largest check's columns
+pub record WorkRoom (A S : List ℕ) : Type 0 where
   pub arrived : most_expansion ≤ length A
   pub sent : most_expansion ≤ length S

@@ -11,8 +11,8 @@ use Rattle.machine.specs.Lent.{Lent, lent}
 use Rattle.machine.specs.inner.LentEarly.{stop_lent}
 use Rattle.machine.specs.inner.Tables.{edges_before, table_at}
 use Rattle.machine.specs.inner.InRange.{Advancing}
-use Rattle.codeline.specs.declared.answers.Numbers.{Numbers}
-use Rattle.codeline.specs.inner.Coding.{code_of, Coded}
+use Rattle.codeline.specs.declared.code.Code.{Code as Tables}
+use Rattle.layered.specs.inner.Codes.{code_in}
 use Rattle.layered.specs.declared.parity.CheckAt.{CheckAt}
 use Rattle.layered.specs.declared.place.Place.{Place}
 use Rattle.layered.specs.inner.Parity.{EdgeOf, SettledRoom}
@@ -29,18 +29,18 @@ pub record AgainRoom (q : ℕ) (P cs z : List ℕ) : Type 0 where
 
 -- the symbols z are the decisions of other costs, and check `from` was not satisfied; deciding the columns of the check at p again gives
 -- those of P
-pub record RetestRoom (k : Numbers) (ds cs ws : List ℕ) (p : Place) (from : CheckAt) (P z : List ℕ) : Type 0 where
-  pub settled-room : SettledRoom k ds cs ws P z
-  pub inside : p.check < k.checks
-  pub edge_is : p.edge ≡ edges_before ds p.check
-  pub from_edge : EdgeOf ds from
-  pub from_inside : from.check < k.checks
+pub record RetestRoom (K : Tables) (p : Place) (from : CheckAt) (P z : List ℕ) : Type 0 where
+  pub settled-room : SettledRoom K P z
+  pub inside : p.check < K.numbers.checks
+  pub edge_is : p.edge ≡ edges_before K.degrees.now p.check
+  pub from_edge : EdgeOf K.degrees.now from
+  pub from_inside : from.check < K.numbers.checks
   pub old : List ℕ
-  pub decided : z ≡ symbols (code_of k ds cs ws) old
-  pub unsettled : settled (code_of k ds cs ws) old ≡ false
-  pub again : decided_again (size_of k.first) P (table_at ds cs p.check) (length (table_at ds cs p.check))
-      (symbols (code_of k ds cs ws) old)
-      ≡ symbols (code_of k ds cs ws) P
+  pub decided : z ≡ symbols (code_in K) old
+  pub unsettled : settled (code_in K) old ≡ false
+  pub again : decided_again (size_of K.numbers.first) P (table_at K.degrees.now K.columns.now p.check) (length (table_at K.degrees.now K.columns.now p.check))
+      (symbols (code_in K) old)
+      ≡ symbols (code_in K) P
 
 -- r is the number of checks exactly where the decisions of P satisfy every one
 pub record Retested (C : Code) (ds P : List ℕ) (r : CheckAt) : Type 0 where
@@ -49,26 +49,25 @@ pub record Retested (C : Code) (ds P : List ℕ) (r : CheckAt) : Type 0 where
   pub test_is : eqb r.check (length C.checks) ≡ settled C P
 
 -- after u updates, which have not satisfied every check: the symbols are the decisions
-pub record Unsettled (k : Numbers) (ds cs ws : List ℕ) (u : ℕ) (P store z : List ℕ) : Type 0 where
-  pub coded : Coded k ds cs ws
-  pub advancing : Advancing (code_of k ds cs ws) coded.good u (lent P store)
-  pub decided : z ≡ symbols (code_of k ds cs ws) P
-  pub unsettled : settled (code_of k ds cs ws) P ≡ false
+pub record Unsettled (K : Tables) (u : ℕ) (P store z : List ℕ) : Type 0 where
+  pub advancing : Advancing (code_in K) K.coded.good u (lent P store)
+  pub decided : z ≡ symbols (code_in K) P
+  pub unsettled : settled (code_in K) P ≡ false
 
 -- room to go on from there: two lists to work in
-pub record GoRoom (k : Numbers) (ds cs ws P store z A S : List ℕ) : Type 0 where
-  pub unsettled : Unsettled k ds cs ws 0 P store z
+pub record GoRoom (K : Tables) (P store z A S : List ℕ) : Type 0 where
+  pub unsettled : Unsettled K 0 P store z
   pub arrived : most_expansion ≤ length A
   pub sent : most_expansion ≤ length S
 
 -- in the loop over the updates, of which there are at most `most`: the next check stands here, check `from` is not satisfied, and what is
 -- left gives the same as the whole
-pub record Going (k : Numbers) (ds cs ws : List ℕ) (most : ℕ) (l₀ : Lent) (u : ℕ) (here : Place) (from : CheckAt)
+pub record Going (K : Tables) (most : ℕ) (l₀ : Lent) (u : ℕ) (here : Place) (from : CheckAt)
     (P store z : List ℕ) : Type 0 where
   pub at_most : u ≤ most
-  pub check_is : here.check ≡ u % k.checks
-  pub stands : Stands k.first ds here.check here
-  pub from_edge : EdgeOf ds from
-  pub from_inside : from.check < k.checks
-  pub unsettled : Unsettled k ds cs ws u P store z
-  pub left : stop_lent (code_of k ds cs ws) (most - u) u (lent P store) ≡ stop_lent (code_of k ds cs ws) most 0 l₀
+  pub check_is : here.check ≡ u % K.numbers.checks
+  pub stands : Stands K.numbers.first K.degrees.now here.check here
+  pub from_edge : EdgeOf K.degrees.now from
+  pub from_inside : from.check < K.numbers.checks
+  pub unsettled : Unsettled K u P store z
+  pub left : stop_lent (code_in K) (most - u) u (lent P store) ≡ stop_lent (code_in K) most 0 l₀

@@ -6,8 +6,8 @@ use Rattle.machine.specs.CodeLine.{Code, power, check}
 use Rattle.machine.specs.Machine.{satisfied}
 use Rattle.machine.specs.inner.Tables.{edges_before}
 use Rattle.machine.specs.inner.InRange.{Ranged}
-use Rattle.codeline.specs.declared.answers.Numbers.{Numbers}
-use Rattle.codeline.specs.inner.Coding.{code_of, Coded}
+use Rattle.codeline.specs.declared.code.Code.{Code as Tables}
+use Rattle.layered.specs.inner.Codes.{code_in}
 use Rattle.layered.specs.declared.parity.CheckAt.{CheckAt}
 
 -- the symbols z satisfy check m; every check
@@ -18,20 +18,19 @@ unfoldable pub all_hold : Code → List ℕ → Bool
 all_hold C z = all_to (holds_at C z) (length C.checks)
 
 -- a symbol of the field for each column of the code
-pub record ParityRoom (k : Numbers) (ds cs ws z : List ℕ) : Type 0 where
-  pub coded : Coded k ds cs ws
-  pub symbols : length z ≡ k.columns
-  pub small : (c : ℕ) → c < k.columns → get_or z c 0 < size_of k.first
+pub record ParityRoom (K : Tables) (z : List ℕ) : Type 0 where
+  pub symbols : length z ≡ K.numbers.columns
+  pub small : (c : ℕ) → c < K.numbers.columns → get_or z c 0 < size_of K.numbers.first
 
 -- the first edge of a check
 abbrev pub EdgeOf : List ℕ → CheckAt → Type 0
 EdgeOf ds c = c.edge ≡ edges_before ds c.check
 
 -- some of the checks
-pub record FromTo (k : Numbers) (ds : List ℕ) (from : CheckAt) (to : ℕ) : Type 0 where
-  pub edge_is : EdgeOf ds from
+pub record FromTo (K : Tables) (from : CheckAt) (to : ℕ) : Type 0 where
+  pub edge_is : EdgeOf K.degrees.now from
   pub ordered : from.check ≤ to
-  pub inside : to ≤ k.checks
+  pub inside : to ≤ K.numbers.checks
 
 -- of the checks from `from` on and before `to` r is the first that is not satisfied, or `to`
 pub record FirstNot (C : Code) (ds z : List ℕ) (from to : ℕ) (r : CheckAt) : Type 0 where
@@ -48,7 +47,6 @@ pub record SomeNot (C : Code) (ds z : List ℕ) (r : CheckAt) : Type 0 where
   pub test_is : eqb r.check (length C.checks) ≡ all_hold C z
 
 -- before the decisions: costs in range, and room for a symbol of each column
-pub record SettledRoom (k : Numbers) (ds cs ws P z : List ℕ) : Type 0 where
-  pub coded : Coded k ds cs ws
-  pub ranged : Ranged (code_of k ds cs ws) P
-  pub symbols : length z ≡ k.columns
+pub record SettledRoom (K : Tables) (P z : List ℕ) : Type 0 where
+  pub ranged : Ranged (code_in K) P
+  pub symbols : length z ≡ K.numbers.columns

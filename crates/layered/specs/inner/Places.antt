@@ -6,8 +6,8 @@ use Rattle.machine.specs.Machine.{used}
 use Rattle.machine.specs.Lent.{lent}
 use Rattle.machine.specs.inner.Tables.{edges_before, bytes_before}
 use Rattle.machine.specs.inner.InRange.{Ranged, Formed}
-use Rattle.codeline.specs.declared.answers.Numbers.{Numbers}
-use Rattle.codeline.specs.inner.Coding.{code_of, Coded}
+use Rattle.codeline.specs.declared.code.Code.{Code as Tables}
+use Rattle.layered.specs.inner.Codes.{code_in}
 use Rattle.layered.specs.declared.place.Place.{Place}
 
 -- where check m stands
@@ -23,16 +23,15 @@ pub record Around (n : ℕ) (p r : Place) : Type 0 where
   pub byte_is : r.byte ≡ pick (eqb p.check n) 0 p.byte
 
 -- check m may be updated: the costs are in range, there is room for the records, and, but for a first update, its own is of accepted form
-pub record Updatable (k : Numbers) (ds cs ws : List ℕ) (start : Bool) (m : ℕ) (P store : List ℕ) : Type 0 where
-  pub coded : Coded k ds cs ws
-  pub in_code : m < k.checks
-  pub ranged : Ranged (code_of k ds cs ws) P
-  pub room : used (code_of k ds cs ws) ≤ length store
-  pub formed : start ≡ false → Formed (code_of k ds cs ws) coded.good (lent P store) m
+pub record Updatable (K : Tables) (start : Bool) (m : ℕ) (P store : List ℕ) : Type 0 where
+  pub in_code : m < K.numbers.checks
+  pub ranged : Ranged (code_in K) P
+  pub room : used (code_in K) ≤ length store
+  pub formed : start ≡ false → Formed (code_in K) K.coded.good (lent P store) m
 
 -- and stands here; two lists to work in
-pub record PlaceRoom (k : Numbers) (ds cs ws : List ℕ) (start : Bool) (p : Place) (P store A S : List ℕ) : Type 0 where
-  pub updatable : Updatable k ds cs ws start p.check P store
-  pub stands : Stands k.first ds p.check p
+pub record PlaceRoom (K : Tables) (start : Bool) (p : Place) (P store A S : List ℕ) : Type 0 where
+  pub updatable : Updatable K start p.check P store
+  pub stands : Stands K.numbers.first K.degrees.now p.check p
   pub arrived : most_expansion ≤ length A
   pub sent : most_expansion ≤ length S

@@ -9,9 +9,13 @@ use Rattle.layered.proofs.Decoded.{refused-calls, said-calls}
 use Rattle.machine.proofs.Lines.{columns-small}
 use Rattle.layered.proofs.decoding.decode_in.Goals as goal
 
+pub invariant_of-accepted : goal.invariant_of-accepted
+invariant_of-accepted c =
+    record { coded = line-coded c.args.code.now c.code_tables.result c.code_tables.ensures.numbers c.in-Read.numbers c.in-Read.is _ _ _ c.code_tables.new.degrees c.code_tables.new.columns c.code_tables.new.weights c.code_tables.ensures.degrees_then c.code_tables.ensures.columns_then c.code_tables.ensures.weights_then }
+
 pub under_code-answer-requires : goal.under_code-answer-requires
 under_code-answer-requires c =
-    record { coded = (line-coded c.args.code.now c.code_tables.result c.code_tables.ensures.numbers c.in-Read.numbers c.in-Read.is _ _ _ c.code_tables.new.degrees c.code_tables.new.columns c.code_tables.new.weights c.code_tables.ensures.degrees_then c.code_tables.ensures.columns_then c.code_tables.ensures.weights_then); arrived = omega arith; sent = omega arith }
+    record { arrived = omega arith; sent = omega arith }
 
 pub returns-in-Refused : goal.returns-in-Refused
 returns-in-Refused c =

@@ -11,12 +11,12 @@ use Rattle.layered.proofs.decoding.run_to_margins.Goals as goal
 
 pub margins-requires : goal.margins-requires
 margins-requires c =
-    let e : c.size.result ≡ size_of c.args.numbers.first = c.size.ensures.0 in omega (arith, c.requires.0.iterate.running.passable.ranged.full, ap₂ (λ a b. a * b) c.requires.1 e, c.run-o.auto)
+    let e : c.size.result ≡ size_of c.args.code.now.numbers.first = c.size.ensures.0 in omega (arith, c.requires.0.iterate.running.passable.ranged.full, ap₂ (λ a b. a * b) c.requires.1 e, c.run-o.auto)
 
 pub returns : goal.returns
 returns c =
     record {
       ends = c.run-o.ensures.ends;
       symbols_then = c.run-o.ensures.symbols_then;
-      margins_then = c.margins.ensures ∙ ap₂ (λ q n. tab (λ c₁. (decide (column_of q c.run-o.new.costs c₁)).margin) n) c.size.ensures.0 c.requires.1 ∙ margins_are c.args.numbers c.args.degrees.now c.args.columns.now c.args.weights.now c.run-o.new.costs;
+      margins_then = c.margins.ensures ∙ ap₂ (λ q n. tab (λ c₁. (decide (column_of q c.run-o.new.costs c₁)).margin) n) c.size.ensures.0 c.requires.1 ∙ margins_are c.args.code.now c.run-o.new.costs;
     }

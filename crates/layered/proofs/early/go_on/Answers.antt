@@ -7,18 +7,18 @@ use Rattle.layered.proofs.early.go_on.Goals as goal
 
 pub loop-u-init : goal.loop-u-init
 loop-u-init c =
-    (going_start c.args.numbers c.args.degrees.now c.args.columns.now c.args.weights.now c.args.most (lent c.args.costs.now c.args.store.now) c.args.costs.now c.args.store.now c.args.symbols.now c.requires.unsettled refl, (refl, (refl, (refl, (refl, refl)))))
+    (going_start c.args.code.now c.args.most (lent c.args.costs.now c.args.store.now) c.args.costs.now c.args.store.now c.args.symbols.now c.requires.unsettled refl, (refl, (refl, (refl, (refl, refl)))))
 
 pub returns-then-u-most : goal.returns-then-u-most
 returns-then-u-most c =
     record {
-      ends = going_end c.args.numbers c.args.degrees.now c.args.columns.now c.args.weights.now c.args.most (lent c.args.costs.now c.args.store.now) c.loop-u.u c.loop-u.here c.loop-u.from c.loop-u.costs c.loop-u.store c.loop-u.symbols c.loop-u.invariant.0 c.if-u-most.true;
+      ends = going_end c.args.code.now c.args.most (lent c.args.costs.now c.args.store.now) c.loop-u.u c.loop-u.here c.loop-u.from c.loop-u.costs c.loop-u.store c.loop-u.symbols c.loop-u.invariant.0 c.if-u-most.true;
       symbols_then = c.loop-u.invariant.0.unsettled.decided;
     }
 
 pub update_at-next-requires : goal.update_at-next-requires
 update_at-next-requires c =
-    record { updatable = going_updatable c.args.numbers c.args.degrees.now c.args.columns.now c.args.weights.now c.args.most (lent c.args.costs.now c.args.store.now) c.loop-u.u c.loop-u.here c.loop-u.from c.loop-u.costs c.loop-u.store c.loop-u.symbols c.loop-u.invariant.0 _ (ap₂ ltb c.from.ensures c.from-count.ensures); stands = c.loop-u.invariant.0.stands; arrived = omega (arith, c.requires.arrived, c.loop-u.invariant.1.1.1.1.0); sent = omega (arith, c.requires.sent, c.loop-u.invariant.1.1.1.1.1) }
+    record { updatable = going_updatable c.args.code.now c.args.most (lent c.args.costs.now c.args.store.now) c.loop-u.u c.loop-u.here c.loop-u.from c.loop-u.costs c.loop-u.store c.loop-u.symbols c.loop-u.invariant.0 _ (ap₂ ltb c.from.ensures c.from-count.ensures); stands = c.loop-u.invariant.0.stands; arrived = omega (arith, c.requires.arrived, c.loop-u.invariant.1.1.1.1.0); sent = omega (arith, c.requires.sent, c.loop-u.invariant.1.1.1.1.1) }
 
 pub overflow_add-u : goal.overflow_add-u
 overflow_add-u c =
@@ -26,7 +26,7 @@ overflow_add-u c =
 
 pub tested_again-from-requires : goal.tested_again-from-requires
 tested_again-from-requires c =
-    going_retest c.args.numbers c.args.degrees.now c.args.columns.now c.args.weights.now c.args.most (lent c.args.costs.now c.args.store.now) c.loop-u.u c.loop-u.here c.loop-u.from c.loop-u.costs c.loop-u.store c.loop-u.symbols c.loop-u.invariant.0 _ (ap₂ ltb c.from.ensures c.from-count.ensures) _ _ c.update_at-next.ensures.buffers
+    going_retest c.args.code.now c.args.most (lent c.args.costs.now c.args.store.now) c.loop-u.u c.loop-u.here c.loop-u.from c.loop-u.costs c.loop-u.store c.loop-u.symbols c.loop-u.invariant.0 _ (ap₂ ltb c.from.ensures c.from-count.ensures) _ _ c.update_at-next.ensures.buffers
 
 pub shape_of-symbols-then-from-count : goal.shape_of-symbols-then-from-count
 shape_of-symbols-then-from-count c =
@@ -51,7 +51,7 @@ shape_of-sent-then-from-count c =
 pub returns-then-from-count : goal.returns-then-from-count
 returns-then-from-count c =
     record {
-      ends = going_found c.args.numbers c.args.degrees.now c.args.columns.now c.args.weights.now c.args.most (lent c.args.costs.now c.args.store.now) c.loop-u.u c.loop-u.here c.loop-u.from c.loop-u.costs c.loop-u.store c.loop-u.symbols c.loop-u.invariant.0 _ (ap₂ ltb c.from.ensures c.from-count.ensures) _ _ c.update_at-next.ensures.buffers (omega (arith, c.loop-u.invariant.0.at_most, c.if-u-most.false)) c.tested_again-from.result c.tested_again-from.ensures.test c.from-count.result c.from-count.ensures c.if-from-count.true;
+      ends = going_found c.args.code.now c.args.most (lent c.args.costs.now c.args.store.now) c.loop-u.u c.loop-u.here c.loop-u.from c.loop-u.costs c.loop-u.store c.loop-u.symbols c.loop-u.invariant.0 _ (ap₂ ltb c.from.ensures c.from-count.ensures) _ _ c.update_at-next.ensures.buffers (omega (arith, c.loop-u.invariant.0.at_most, c.if-u-most.false)) c.tested_again-from.result c.tested_again-from.ensures.test c.from-count.result c.from-count.ensures c.if-from-count.true;
       symbols_then = c.tested_again-from.ensures.symbols_then;
     }
 
@@ -61,4 +61,4 @@ loop-u-smaller c =
 
 pub loop-u-preserved : goal.loop-u-preserved
 loop-u-preserved c =
-    (going_next c.args.numbers c.args.degrees.now c.args.columns.now c.args.weights.now c.args.most (lent c.args.costs.now c.args.store.now) c.loop-u.u c.loop-u.here c.loop-u.from c.loop-u.costs c.loop-u.store c.loop-u.symbols c.loop-u.invariant.0 _ (ap₂ ltb c.from.ensures c.from-count.ensures) _ _ c.update_at-next.ensures.buffers (omega (arith, c.loop-u.invariant.0.at_most, c.if-u-most.false)) c.tested_again-from.result c.tested_again-from.ensures.test c.from-count.result c.from-count.ensures c.if-from-count.false c.update_at-next.result _ c.update_at-next.ensures.next c.around-here.ensures _ c.tested_again-from.ensures.symbols_then, (omega (arith, c.tested_again-from.auto, c.loop-u.invariant.1.0), (omega (arith, c.update_at-next.auto, c.loop-u.invariant.1.1.0), (omega (arith, c.update_at-next.auto, c.loop-u.invariant.1.1.1.0), (omega (arith, c.update_at-next.auto, c.loop-u.invariant.1.1.1.1.0), omega (arith, c.update_at-next.auto, c.loop-u.invariant.1.1.1.1.1))))))
+    (going_next c.args.code.now c.args.most (lent c.args.costs.now c.args.store.now) c.loop-u.u c.loop-u.here c.loop-u.from c.loop-u.costs c.loop-u.store c.loop-u.symbols c.loop-u.invariant.0 _ (ap₂ ltb c.from.ensures c.from-count.ensures) _ _ c.update_at-next.ensures.buffers (omega (arith, c.loop-u.invariant.0.at_most, c.if-u-most.false)) c.tested_again-from.result c.tested_again-from.ensures.test c.from-count.result c.from-count.ensures c.if-from-count.false c.update_at-next.result _ c.update_at-next.ensures.next c.around-here.ensures _ c.tested_again-from.ensures.symbols_then, (omega (arith, c.tested_again-from.auto, c.loop-u.invariant.1.0), (omega (arith, c.update_at-next.auto, c.loop-u.invariant.1.1.0), (omega (arith, c.update_at-next.auto, c.loop-u.invariant.1.1.1.0), (omega (arith, c.update_at-next.auto, c.loop-u.invariant.1.1.1.1.0), omega (arith, c.update_at-next.auto, c.loop-u.invariant.1.1.1.1.1))))))

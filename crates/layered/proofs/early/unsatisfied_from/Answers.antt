@@ -1,7 +1,7 @@
 -- From the check on to the last, then the ones before it.
 use mathlib.Core.Path.{refl, ◌∙◌, sym}
 use native.Mathlib.Omega.{arith}
-use Rattle.codeline.specs.inner.Coding.{code_of}
+use Rattle.layered.specs.inner.Codes.{code_in}
 use Rattle.layered.proofs.Runs.{checks-count}
 use Rattle.layered.proofs.Retests.{not_behind, not-before, none-not}
 use Rattle.layered.proofs.early.unsatisfied_from.Goals as goal
@@ -12,7 +12,7 @@ unsatisfied-behind-requires c =
 
 pub returns-then-behind-count : goal.returns-then-behind-count
 returns-then-behind-count c =
-    not_behind (code_of c.args.numbers c.args.degrees.now c.args.columns.now c.args.weights.now) c.args.degrees.now c.args.symbols.now c.from-count.result (c.from-count.ensures ∙ sym (checks-count c.args.numbers c.args.degrees.now c.args.columns.now c.args.weights.now c.requires.0.coded)) c.args.from c.unsatisfied-behind.result c.unsatisfied-behind.ensures c.if-behind-count.true
+    not_behind (code_in c.args.code.now) c.args.code.now.degrees.now c.args.symbols.now c.from-count.result (c.from-count.ensures ∙ sym (checks-count c.args.code.now)) c.args.from c.unsatisfied-behind.result c.unsatisfied-behind.ensures c.if-behind-count.true
 
 pub unsatisfied-before-requires : goal.unsatisfied-before-requires
 unsatisfied-before-requires c =
@@ -20,8 +20,8 @@ unsatisfied-before-requires c =
 
 pub returns-then-before-from : goal.returns-then-before-from
 returns-then-before-from c =
-    not-before (code_of c.args.numbers c.args.degrees.now c.args.columns.now c.args.weights.now) c.args.degrees.now c.args.symbols.now c.from-count.result (c.from-count.ensures ∙ sym (checks-count c.args.numbers c.args.degrees.now c.args.columns.now c.args.weights.now c.requires.0.coded)) c.args.from c.unsatisfied-behind.result c.unsatisfied-behind.ensures (omega (arith, c.requires.1.ordered, c.from-count.ensures)) c.if-behind-count.false c.unsatisfied-before.result c.unsatisfied-before.ensures c.if-before-from.true
+    not-before (code_in c.args.code.now) c.args.code.now.degrees.now c.args.symbols.now c.from-count.result (c.from-count.ensures ∙ sym (checks-count c.args.code.now)) c.args.from c.unsatisfied-behind.result c.unsatisfied-behind.ensures (omega (arith, c.requires.1.ordered, c.from-count.ensures)) c.if-behind-count.false c.unsatisfied-before.result c.unsatisfied-before.ensures c.if-before-from.true
 
 pub returns : goal.returns
 returns c =
-    none-not (code_of c.args.numbers c.args.degrees.now c.args.columns.now c.args.weights.now) c.args.degrees.now c.args.symbols.now c.from-count.result (c.from-count.ensures ∙ sym (checks-count c.args.numbers c.args.degrees.now c.args.columns.now c.args.weights.now c.requires.0.coded)) c.args.from c.unsatisfied-behind.result c.unsatisfied-behind.ensures (omega (arith, c.requires.1.ordered, c.from-count.ensures)) c.if-behind-count.false c.unsatisfied-before.result c.unsatisfied-before.ensures c.if-before-from.false
+    none-not (code_in c.args.code.now) c.args.code.now.degrees.now c.args.symbols.now c.from-count.result (c.from-count.ensures ∙ sym (checks-count c.args.code.now)) c.args.from c.unsatisfied-behind.result c.unsatisfied-behind.ensures (omega (arith, c.requires.1.ordered, c.from-count.ensures)) c.if-behind-count.false c.unsatisfied-before.result c.unsatisfied-before.ensures c.if-before-from.false

@@ -2,7 +2,7 @@
 use mathlib.Core.Path.{◌≡◌, ap, ap₂, ◌∙◌}
 use Prim.Native.Nat.{◌*◌}
 use native.Mathlib.Omega.{arith}
-use Rattle.codeline.specs.inner.Coding.{code_of}
+use Rattle.layered.specs.inner.Codes.{code_in}
 use Rattle.trellis.specs.Lists.{tab}
 use Rattle.trellis.specs.Check.{decide}
 use Rattle.trellis.specs.Rules.{power_of, size_of}
@@ -14,15 +14,15 @@ use Rattle.layered.proofs.parity.settled.Goals as goal
 
 pub decisions-requires : goal.decisions-requires
 decisions-requires c =
-    let e : c.size.result ≡ size_of c.args.numbers.first = c.size.ensures.0 in (omega (arith, c.requires.ranged.full, ap₂ (λ a b. a * b) c.requires.symbols e), rw e (size_64 (power_of c.args.numbers.first) c.requires.coded.good.p-high))
+    let e : c.size.result ≡ size_of c.args.code.now.numbers.first = c.size.ensures.0 in (omega (arith, c.requires.ranged.full, ap₂ (λ a b. a * b) c.requires.symbols e), rw e (size_64 (power_of c.args.code.now.numbers.first) c.args.code.now.coded.good.p-high))
 
 pub holds-requires : goal.holds-requires
 holds-requires c =
-    decided-room c.args.numbers c.args.degrees.now c.args.columns.now c.args.weights.now c.args.costs.now c.args.symbols.now _ c.requires (c.decisions.ensures ∙ ap₂ (λ q n. tab (λ c₁. (decide (column_of q c.args.costs.now c₁)).symbol) n) c.size.ensures.0 c.requires.symbols ∙ symbols_are c.args.numbers c.args.degrees.now c.args.columns.now c.args.weights.now c.args.costs.now)
+    decided-room c.args.code.now c.args.costs.now c.args.symbols.now _ c.requires (c.decisions.ensures ∙ ap₂ (λ q n. tab (λ c₁. (decide (column_of q c.args.costs.now c₁)).symbol) n) c.size.ensures.0 c.requires.symbols ∙ symbols_are c.args.code.now c.args.costs.now)
 
 pub returns : goal.returns
 returns c =
     record {
-      test = c.holds.ensures ∙ ap (all_hold (code_of c.args.numbers c.args.degrees.now c.args.columns.now c.args.weights.now)) (c.decisions.ensures ∙ ap₂ (λ q n. tab (λ c₁. (decide (column_of q c.args.costs.now c₁)).symbol) n) c.size.ensures.0 c.requires.symbols ∙ symbols_are c.args.numbers c.args.degrees.now c.args.columns.now c.args.weights.now c.args.costs.now) ∙ settled-by c.args.numbers c.args.degrees.now c.args.columns.now c.args.weights.now c.args.costs.now;
-      symbols_then = (c.decisions.ensures ∙ ap₂ (λ q n. tab (λ c₁. (decide (column_of q c.args.costs.now c₁)).symbol) n) c.size.ensures.0 c.requires.symbols ∙ symbols_are c.args.numbers c.args.degrees.now c.args.columns.now c.args.weights.now c.args.costs.now);
+      test = c.holds.ensures ∙ ap (all_hold (code_in c.args.code.now)) (c.decisions.ensures ∙ ap₂ (λ q n. tab (λ c₁. (decide (column_of q c.args.costs.now c₁)).symbol) n) c.size.ensures.0 c.requires.symbols ∙ symbols_are c.args.code.now c.args.costs.now) ∙ settled-by c.args.code.now c.args.costs.now;
+      symbols_then = (c.decisions.ensures ∙ ap₂ (λ q n. tab (λ c₁. (decide (column_of q c.args.costs.now c₁)).symbol) n) c.size.ensures.0 c.requires.symbols ∙ symbols_are c.args.code.now c.args.costs.now);
     }

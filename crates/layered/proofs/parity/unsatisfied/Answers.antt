@@ -1,7 +1,7 @@
 use mathlib.Core.Path.{refl}
 use Prim.Native.Nat.{◌<◌}
 use native.Mathlib.Omega.{arith}
-use Rattle.codeline.specs.inner.Coding.{code_of}
+use Rattle.layered.specs.inner.Codes.{code_in}
 use Rattle.machine.proofs.Places.{before_more}
 use Rattle.layered.proofs.Satisfied.{degree, edge-room, edges-end, sum_more, sum-holds, sum-not, between_more}
 use Rattle.layered.proofs.parity.unsatisfied.Goals as goal
@@ -10,20 +10,20 @@ pub checks-init : goal.checks-init
 checks-init c =
     (omega arith, (c.requires.1.ordered, (c.requires.1.edge_is, λ j h i. absurd (omega arith))))
 
-pub bounds-degrees-m : goal.bounds-degrees-m
-bounds-degrees-m c =
-    omega (arith, c.requires.1.inside, c.checks.invariant, c.requires.0.coded.for_degrees)
+pub bounds-code-m : goal.bounds-code-m
+bounds-code-m c =
+    omega (arith, c.requires.1.inside, c.checks.invariant, c.args.code.now.coded.for_degrees)
 
 pub loop-n-init : goal.loop-n-init
 loop-n-init c = (omega arith, refl)
 
 pub overflow_add-at : goal.overflow_add-at
 overflow_add-at c =
-    let h = (let h : c.checks.m < c.args.numbers.checks = omega (arith, c.requires.1.inside, c.checks.invariant) in h) in omega (arith, edges-end c.args.numbers c.args.degrees.now c.args.columns.now c.args.weights.now c.args.symbols.now c.requires.0 c.checks.m c.loop-n.n c.checks.at c.from-d.result h c.checks.invariant.1.1.0 c.from-d.ensures)
+    let h = (let h : c.checks.m < c.args.code.now.numbers.checks = omega (arith, c.requires.1.inside, c.checks.invariant) in h) in omega (arith, edges-end c.args.code.now c.args.symbols.now c.requires.0 c.checks.m c.loop-n.n c.checks.at c.from-d.result h c.checks.invariant.1.1.0 c.from-d.ensures)
 
 pub term_at-sum-requires : goal.term_at-sum-requires
 term_at-sum-requires c =
-    let h = (let h : c.checks.m < c.args.numbers.checks = omega (arith, c.requires.1.inside, c.checks.invariant) in h) in edge-room c.args.numbers c.args.degrees.now c.args.columns.now c.args.weights.now c.args.symbols.now c.requires.0 c.checks.m c.loop-n.n c.checks.at c.from-d.result h c.checks.invariant.1.1.0 c.from-d.ensures (omega arith)
+    let h = (let h : c.checks.m < c.args.code.now.numbers.checks = omega (arith, c.requires.1.inside, c.checks.invariant) in h) in edge-room c.args.code.now c.args.symbols.now c.requires.0 c.checks.m c.loop-n.n c.checks.at c.from-d.result h c.checks.invariant.1.1.0 c.from-d.ensures (omega arith)
 
 pub overflow_add-n : goal.overflow_add-n
 overflow_add-n c = omega arith
@@ -33,15 +33,15 @@ loop-n-smaller c = omega arith
 
 pub loop-n-preserved : goal.loop-n-preserved
 loop-n-preserved c =
-    let h = (let h : c.checks.m < c.args.numbers.checks = omega (arith, c.requires.1.inside, c.checks.invariant) in h) in (omega arith, sum_more c.args.numbers c.args.degrees.now c.args.columns.now c.args.weights.now c.args.symbols.now c.requires.0 c.checks.m c.loop-n.n c.checks.at c.from-d.result h c.checks.invariant.1.1.0 c.from-d.ensures (omega arith) c.loop-n.sum c.term_at-sum.result c.loop-n.invariant.1 c.term_at-sum.ensures)
+    let h = (let h : c.checks.m < c.args.code.now.numbers.checks = omega (arith, c.requires.1.inside, c.checks.invariant) in h) in (omega arith, sum_more c.args.code.now c.args.symbols.now c.requires.0 c.checks.m c.loop-n.n c.checks.at c.from-d.result h c.checks.invariant.1.1.0 c.from-d.ensures (omega arith) c.loop-n.sum c.term_at-sum.result c.loop-n.invariant.1 c.term_at-sum.ensures)
 
 pub overflow_add-at-in-checks : goal.overflow_add-at-in-checks
 overflow_add-at-in-checks c =
-    let h = (let h : c.checks.m < c.args.numbers.checks = omega (arith, c.requires.1.inside, c.checks.invariant) in h) in omega (arith, edges-end c.args.numbers c.args.degrees.now c.args.columns.now c.args.weights.now c.args.symbols.now c.requires.0 c.checks.m 0 c.checks.at c.from-d.result h c.checks.invariant.1.1.0 c.from-d.ensures)
+    let h = (let h : c.checks.m < c.args.code.now.numbers.checks = omega (arith, c.requires.1.inside, c.checks.invariant) in h) in omega (arith, edges-end c.args.code.now c.args.symbols.now c.requires.0 c.checks.m 0 c.checks.at c.from-d.result h c.checks.invariant.1.1.0 c.from-d.ensures)
 
 pub overflow_add-m : goal.overflow_add-m
 overflow_add-m c =
-    let h = (let h : c.checks.m < c.args.numbers.checks = omega (arith, c.requires.1.inside, c.checks.invariant) in h) in omega (arith, h)
+    let h = (let h : c.checks.m < c.args.code.now.numbers.checks = omega (arith, c.requires.1.inside, c.checks.invariant) in h) in omega (arith, h)
 
 pub checks-smaller : goal.checks-smaller
 checks-smaller c =
@@ -49,7 +49,7 @@ checks-smaller c =
 
 pub checks-preserved : goal.checks-preserved
 checks-preserved c =
-    let h = (let h : c.checks.m < c.args.numbers.checks = omega (arith, c.requires.1.inside, c.checks.invariant) in h) in (omega (arith, c.checks.invariant), (omega (arith, c.checks.invariant), (before_more c.args.degrees.now c.checks.m c.checks.at c.from-d.result c.checks.invariant.1.1.0 c.from-d.ensures, between_more (code_of c.args.numbers c.args.degrees.now c.args.columns.now c.args.weights.now) c.args.symbols.now c.args.from.check c.checks.m c.checks.invariant.1.1.1 (sum-holds (code_of c.args.numbers c.args.degrees.now c.args.columns.now c.args.weights.now) c.args.symbols.now c.checks.m c.from-d.result c.loop-n.n c.loop-n.sum (degree c.args.numbers c.args.degrees.now c.args.columns.now c.args.weights.now c.args.symbols.now c.requires.0 c.checks.m c.loop-n.n c.checks.at c.from-d.result h c.checks.invariant.1.1.0 c.from-d.ensures) c.if-n-d.true c.loop-n.invariant.1 c.if-sum-ne0.false))))
+    let h = (let h : c.checks.m < c.args.code.now.numbers.checks = omega (arith, c.requires.1.inside, c.checks.invariant) in h) in (omega (arith, c.checks.invariant), (omega (arith, c.checks.invariant), (before_more c.args.code.now.degrees.now c.checks.m c.checks.at c.from-d.result c.checks.invariant.1.1.0 c.from-d.ensures, between_more (code_in c.args.code.now) c.args.symbols.now c.args.from.check c.checks.m c.checks.invariant.1.1.1 (sum-holds (code_in c.args.code.now) c.args.symbols.now c.checks.m c.from-d.result c.loop-n.n c.loop-n.sum (degree c.args.code.now c.args.symbols.now c.requires.0 c.checks.m c.loop-n.n c.checks.at c.from-d.result h c.checks.invariant.1.1.0 c.from-d.ensures) c.if-n-d.true c.loop-n.invariant.1 c.if-sum-ne0.false))))
 
 pub returns-then-m-to : goal.returns-then-m-to
 returns-then-m-to c =
@@ -57,4 +57,4 @@ returns-then-m-to c =
 
 pub returns-then-sum-ne0 : goal.returns-then-sum-ne0
 returns-then-sum-ne0 c =
-    let h = (let h : c.checks.m < c.args.numbers.checks = omega (arith, c.requires.1.inside, c.checks.invariant) in h) in record { edge_is = c.checks.invariant.1.1.0; low = c.checks.invariant.0; high = c.checks.invariant.1.0; before_it = c.checks.invariant.1.1.1; not_it = λ _. sum-not (code_of c.args.numbers c.args.degrees.now c.args.columns.now c.args.weights.now) c.args.symbols.now c.checks.m c.from-d.result c.loop-n.n c.loop-n.sum (degree c.args.numbers c.args.degrees.now c.args.columns.now c.args.weights.now c.args.symbols.now c.requires.0 c.checks.m c.loop-n.n c.checks.at c.from-d.result h c.checks.invariant.1.1.0 c.from-d.ensures) c.if-n-d.true c.loop-n.invariant.1 c.if-sum-ne0.true }
+    let h = (let h : c.checks.m < c.args.code.now.numbers.checks = omega (arith, c.requires.1.inside, c.checks.invariant) in h) in record { edge_is = c.checks.invariant.1.1.0; low = c.checks.invariant.0; high = c.checks.invariant.1.0; before_it = c.checks.invariant.1.1.1; not_it = λ _. sum-not (code_in c.args.code.now) c.args.symbols.now c.checks.m c.from-d.result c.loop-n.n c.loop-n.sum (degree c.args.code.now c.args.symbols.now c.requires.0 c.checks.m c.loop-n.n c.checks.at c.from-d.result h c.checks.invariant.1.1.0 c.from-d.ensures) c.if-n-d.true c.loop-n.invariant.1 c.if-sum-ne0.true }

@@ -5,7 +5,7 @@ use Rattle.layered.proofs.stages.iterated.Goals as goal
 
 pub tested-requires : goal.tested-requires
 tested-requires c =
-    after-room c.args.numbers c.args.degrees.now c.args.columns.now c.args.weights.now c.args.costs.now c.args.store.now c.args.symbols.now c.args.margins.now c.args.arrived.now c.args.sent.now c.args.start c.requires _ _ _ _ c.iterate.ensures refl refl
+    after-room c.args.code.now c.args.costs.now c.args.store.now c.args.symbols.now c.args.margins.now c.args.arrived.now c.args.sent.now c.args.start c.requires _ _ _ _ c.iterate.ensures refl refl
 
 pub returns : goal.returns
 returns c =

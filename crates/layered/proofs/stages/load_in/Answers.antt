@@ -5,9 +5,9 @@ use Rattle.codeline.proofs.Says.{line_says, line-coded}
 use Rattle.layered.proofs.Steps.{refused_loads, said_loads}
 use Rattle.layered.proofs.stages.load_in.Goals as goal
 
-pub load_under-requires : goal.load_under-requires
-load_under-requires c =
-    (line-coded c.args.code.now c.code_tables.result c.code_tables.ensures.numbers c.in-Read.numbers c.in-Read.is _ _ _ c.code_tables.new.degrees c.code_tables.new.columns c.code_tables.new.weights c.code_tables.ensures.degrees_then c.code_tables.ensures.columns_then c.code_tables.ensures.weights_then)
+pub invariant_of-accepted : goal.invariant_of-accepted
+invariant_of-accepted c =
+    record { coded = line-coded c.args.code.now c.code_tables.result c.code_tables.ensures.numbers c.in-Read.numbers c.in-Read.is _ _ _ c.code_tables.new.degrees c.code_tables.new.columns c.code_tables.new.weights c.code_tables.ensures.degrees_then c.code_tables.ensures.columns_then c.code_tables.ensures.weights_then }
 
 pub returns-in-Refused : goal.returns-in-Refused
 returns-in-Refused c =

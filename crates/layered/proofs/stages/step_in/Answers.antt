@@ -6,9 +6,13 @@ use Rattle.codeline.proofs.Says.{line_says, line-coded}
 use Rattle.layered.proofs.Steps.{refused_steps, said_steps}
 use Rattle.layered.proofs.stages.step_in.Goals as goal
 
+pub invariant_of-accepted : goal.invariant_of-accepted
+invariant_of-accepted c =
+    record { coded = line-coded c.args.code.now c.code_tables.result c.code_tables.ensures.numbers c.in-Read.numbers c.in-Read.is _ _ _ c.code_tables.new.degrees c.code_tables.new.columns c.code_tables.new.weights c.code_tables.ensures.degrees_then c.code_tables.ensures.columns_then c.code_tables.ensures.weights_then }
+
 pub step_under-requires : goal.step_under-requires
 step_under-requires c =
-    record { coded = (line-coded c.args.code.now c.code_tables.result c.code_tables.ensures.numbers c.in-Read.numbers c.in-Read.is _ _ _ c.code_tables.new.degrees c.code_tables.new.columns c.code_tables.new.weights c.code_tables.ensures.degrees_then c.code_tables.ensures.columns_then c.code_tables.ensures.weights_then); arrived = omega arith; sent = omega arith }
+    record { arrived = omega arith; sent = omega arith }
 
 pub returns-in-Refused : goal.returns-in-Refused
 returns-in-Refused c =

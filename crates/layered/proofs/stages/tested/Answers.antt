@@ -11,7 +11,7 @@ use Rattle.layered.proofs.stages.tested.Goals as goal
 
 pub margins-requires : goal.margins-requires
 margins-requires c =
-    let e : c.size.result ≡ size_of c.args.numbers.first = c.size.ensures.0 in omega (arith, c.requires.settled.ranged.full, ap₂ (λ a b. a * b) c.requires.margins e)
+    let e : c.size.result ≡ size_of c.args.code.now.numbers.first = c.size.ensures.0 in omega (arith, c.requires.settled.ranged.full, ap₂ (λ a b. a * b) c.requires.margins e)
 
 pub settled-requires : goal.settled-requires
 settled-requires c =
@@ -22,5 +22,5 @@ returns c =
     record {
       test = c.settled.ensures.test;
       symbols_then = c.settled.ensures.symbols_then;
-      margins_then = c.margins.ensures ∙ ap₂ (λ q n. tab (λ c₁. (decide (column_of q c.args.costs.now c₁)).margin) n) c.size.ensures.0 c.requires.margins ∙ margins_are c.args.numbers c.args.degrees.now c.args.columns.now c.args.weights.now c.args.costs.now;
+      margins_then = c.margins.ensures ∙ ap₂ (λ q n. tab (λ c₁. (decide (column_of q c.args.costs.now c₁)).margin) n) c.size.ensures.0 c.requires.margins ∙ margins_are c.args.code.now c.args.costs.now;
     }
