@@ -11,7 +11,6 @@ ghost use Rattle.sweep.specs.Kept.{cell_count};
 ghost use Rattle.sweep.specs.inner.Cells.{move_cost, Sized, step_for, step_column, order_of, table_of};
 
 use crate::{cells, step};
-use field::Element;
 use scalar::sizes;
 
 // A product of two elements, which is not refused.
@@ -19,10 +18,7 @@ pub fn times(p: u8, a: u8, b: u8) -> u8
     requires { (2 ≤ p) × ((p ≤ 6) × ((a < 2 ^ p) × (b < 2 ^ p))) }
     ensures { result ≡ product p a b }
 {
-    match field::product(p, a, b) {
-        Element::Is(x) => x,
-        Element::Refused(_) => 0,
-    }
+    field::product(p, a, b).unwrap()
 }
 
 // The products of one weight with every symbol.

@@ -9,21 +9,18 @@ mod record;
 mod step;
 
 ghost use Rattle.std.specs.Prelude.{◌≡◌};
-ghost use Rattle.field.specs.Answers.{written_reply};
+ghost use Rattle.refusal.specs.Replies.{reply_of};
 ghost use Rattle.checknode.specs.Answers.{check_reply, check_leaves};
 
-use field::Written;
+use refusal::Refusal;
 
 // The record of a check, as `check` writes it, by two sweeps; refused as `check` is.
-pub fn sweep(first: u8, weights: &[u8], costs: &[u8], out: &mut [u8]) -> Written
-    ensures reply { written_reply result ≡ check_reply first weights.now costs.now out.old }
+pub fn sweep(first: u8, weights: &[u8], costs: &[u8], out: &mut [u8]) -> Result<usize, Refusal>
+    ensures reply { reply_of result ≡ check_reply first weights.now costs.now out.old }
     ensures out_then { out.new ≡ check_leaves first weights.now costs.now out.old }
 {
-    let k = checknode::check_fault(first, weights, costs, out.len());
-    if k != 0 {
-        return Written::Refused(k);
-    }
+    checknode::validate_check(first, weights, costs, out.len())?;
     let n = weights.len() + rules::groups(first);
     record::record_in(first, weights, costs, &mut out[..n]);
-    Written::Bytes(n)
+    Ok(n)
 }

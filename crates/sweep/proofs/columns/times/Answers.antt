@@ -1,11 +1,26 @@
 -- Neither factor is refused, so the answer is the product.
+use mathlib.Core.Path.{◌≡◌, refl, ap}
+use Prim.Native.Nat.{ℕ}
+use borrow.Author.Rules.{rules}
+use Rattle.std.specs.Prelude.{Result, Ok, Err}
+use Rattle.refusal.specs.declared.Refusal.{Refusal}
+use Rattle.trellis.specs.Field.{product}
 use Rattle.field.proofs.ProductCall.{is_product, never_refused}
 use Rattle.sweep.proofs.columns.times.Goals as goal
 
-pub returns-in-Is : goal.returns-in-Is
-returns-in-Is c =
-    is_product c.args.p c.args.a c.args.b c.requires.0 c.requires.1.0 c.requires.1.1.0 c.requires.1.1.1 c.product.result c.product.ensures _ c.in-Is.is
+product_ok : (n : ℕ) (e : Result ℕ Refusal) → ((x : ℕ) → e ≡ Ok x → x ≡ n) → ((r : Refusal) → e ≡ Err r → ⊥) → e ≡ Ok n
+product_ok n (Ok x) f g = ap (λ y. Ok y) (f x refl)
+product_ok n (Err r) f g = absurd (g r refl)
 
-pub returns-in-Refused : goal.returns-in-Refused
-returns-in-Refused c =
-    absurd (never_refused c.args.p c.args.a c.args.b c.requires.0 c.requires.1.0 c.requires.1.1.0 c.requires.1.1.1 c.product.result c.product.ensures _ c.in-Refused.is)
+pub unwrap-requires : goal.unwrap-requires
+unwrap-requires c =
+    let a = c.args in
+    let r = c.requires in
+    let e = product_ok (product a.p a.a a.b) c.product.result (is_product a.p a.a a.b r.0 r.1.0 r.1.1.0 r.1.1.1 c.product.result c.product.ensures) (never_refused a.p a.a a.b r.0 r.1.0 r.1.1.0 r.1.1.1 c.product.result c.product.ensures) in
+    rw e (search rules)
+
+pub returns : goal.returns
+returns c =
+    let a = c.args in
+    let r = c.requires in
+    is_product a.p a.a a.b r.0 r.1.0 r.1.1.0 r.1.1.1 c.product.result c.product.ensures _ c.unwrap.ensures
