@@ -8,17 +8,16 @@ use native.Mathlib.Numerals.{unary_clauses}
 use native.Mathlib.Omega.{arith}
 use lib.Bits.{bit_xor}
 use lib.Dec.{eqb}
-use lib.ListN.{length, take, drop, get_or, set}
+use lib.ListN.{length, take, drop, set}
 use lib.Seq.{drop-length, take_at, drop_at, drop-drop}
-use Rattle.trellis.specs.Lists.{tab, blocks}
+use Rattle.trellis.specs.Lists.{tab}
 use Rattle.trellis.specs.Field.{xor, doubled, product}
 use Rattle.engine.specs.inner.Terms.{bits_of}
 use Rattle.field.specs.Answers.{row_of}
-use Rattle.field.specs.inner.Asks.{Factor, Factors}
+use Rattle.field.specs.inner.Asks.{Factors}
 use Rattle.trellis.proofs.Xor.{xor_assoc, xor_comm, xor-zero, xor_right}
 use Rattle.trellis.proofs.Recurrence.{product-zero, product-step, size_64}
-use Rattle.trellis.proofs.Loops.{tab-more, length-tab, block_more}
-use Rattle.engine.proofs.Products.{bits_are}
+use Rattle.trellis.proofs.Loops.{length-tab}
 use Rattle.field.proofs.Blocks.{part_room}
 
 -- a column has a multiple of four symbols
@@ -42,11 +41,6 @@ bits_six a b c d e f x p q r s t u =
     let c32 : x / 16 / 2 ≡ x / 32 = omega arith in
     rw (p, q, r, s, t, u, c4, c8, c16, c32, xor_right (cond (eqb (x / 32 % 2) 1) f 0))
 
--- one product more
-pub products_turn : (p h x : ℕ) (l row : List ℕ) → p ≤ 6 → x < 2 ^ p → length l ≡ 2 ^ p → {b c d e f r : ℕ} → b ≡ doubled p h → c ≡ doubled p b → d ≡ doubled p c → e ≡ doubled p d → f ≡ doubled p e
-    → row ≡ tab (product p h) x ++ drop x l → r ≡ bits_of (h ∷ b ∷ c ∷ d ∷ e ∷ f ∷ []) x → set row x r ≡ tab (product p h) (x + 1) ++ drop (x + 1) l
-products_turn p h x l row i k n eb ec ed ee ef e o = rw (e, o, bits_are p h x i k eb ec ed ee ef) (tab-more (product p h) l x (omega arith))
-
 -- four stores fill a row of four
 pub set_four : (l : List ℕ) (a b c d : ℕ) → length l ≡ 4 → set (set (set (set l 0 a) 1 b) 2 c) 3 d ≡ a ∷ b ∷ c ∷ d ∷ []
 set_four [] a b c d h = absurd (omega arith)
@@ -64,16 +58,7 @@ module _ (p h : ℕ) {b c : ℕ} (eb : b ≡ doubled p h) (ec : c ≡ doubled p 
       let f : y / 2 / 2 ≡ y / 4 = omega arith in
       rw (product-step p h y k, ← eb, product-step p b (y / 2) (omega arith), ← ec, f)
 
-  -- the first of each four products of a row of at most eight
-  base-is : (x : ℕ) {base : ℕ} → x % 4 ≡ 0 → x < 8 → x < 2 ^ p → base ≡ cond (eqb x 0) 0 c → base ≡ product p h x
-  base-is zero m l k e = e ∙ sym (product-zero p p h)
-  base-is (suc y) m l k e =
-      let f : suc y ≡ 4 = omega arith in
-      let o : 1 < 2 ^ p = omega arith in
-      let u : product p c 1 ≡ c = rw (product-step p c 1 o, product-zero p p (doubled p c)) (xor_right c) in
-      e ∙ sym (product-two (suc y) k ∙ rw (f, u, xor-zero c) (xor-zero c))
-
-  -- the others from the first
+  -- four products from the first of them
   module _ (x : ℕ) (m : x % 4 ≡ 0) (k : x + 4 ≤ 2 ^ p) where
     product-by : (r s : ℕ) → r < 2 → s < 2
         → product p h (x + (2 * s + r)) ≡ xor (cond (eqb r 1) h 0) (xor (cond (eqb s 1) b 0) (product p c (x / 4)))
@@ -112,26 +97,27 @@ values_turn f l v a m e u o y =
     let k : drop m (drop a l) ≡ drop (a + m) l = drop-drop m a l in
     rw (u, o, y, s, t, d, k) (sym (append_assoc (tab f a) (tab (λ i. f (a + i)) m) _) ∙ ap (λ x. x ++ drop (a + m) l) (tab-add f a m))
 
--- four products more
-pub fours_turn : (p h x : ℕ) (l row : List ℕ) {b c base : ℕ} {r : List ℕ} → b ≡ doubled p h → c ≡ doubled p b → x % 4 ≡ 0 → x < 8
-    → x + 4 ≤ 2 ^ p → row ≡ tab (product p h) x ++ drop x l → base ≡ cond (eqb x 0) 0 c
-    → r ≡ base ∷ xor base h ∷ xor base b ∷ xor base (xor h b) ∷ []
-    → take x row ++ (r ++ drop (x + 4 - x) (drop x row)) ≡ tab (product p h) (x + 4) ++ drop (x + 4) l
-fours_turn p h x l row eb ec m i k e o s =
-    let first = base-is p h eb ec x m i (omega arith) o in
-    values_turn (product p h) l row x 4 (x + 4) refl e (s ∙ four_products p h eb ec x m k first)
+-- a row of four, and one of eight: its second four begins with c, the product of 4
+module _ (p h : ℕ) {b : ℕ} (eb : b ≡ doubled p h) (row : List ℕ) {r : List ℕ} (o : r ≡ 0 ∷ xor 0 h ∷ xor 0 b ∷ xor 0 (xor h b) ∷ []) where
+  front : 4 ≤ 2 ^ p → r ≡ tab (product p h) 4
+  front k = let ec : doubled p b ≡ doubled p b = refl in o ∙ four_products p h eb ec 0 refl k (sym (product-zero p p h))
 
--- the row of one weight, and one row more
+  pub row_four : 2 ^ p ≡ 4 → length row ≡ 4 → r ++ drop 4 row ≡ tab (product p h) (2 ^ p)
+  row_four e l = products_end (product p h) 4 (2 ^ p) row (r ++ drop 4 row) (sym e) (l ∙ sym e) (rw (front (omega arith)))
+
+  pub row_eight : 2 ^ p ≡ 8 → length row ≡ 8 → {c k : ℕ} → c ≡ doubled p b → {s : List ℕ} → s ≡ c ∷ xor c h ∷ xor c b ∷ xor c (xor h b) ∷ [] → k ≡ 4
+      → take 4 (r ++ drop 4 row) ++ (s ++ drop k (drop 4 (r ++ drop 4 row))) ≡ tab (product p h) (2 ^ p)
+  row_eight e l {c} {k} ec {s} u z =
+      let one : 1 < 2 ^ p = omega arith in
+      let four : 4 < 2 ^ p = omega arith in
+      let first : c ≡ product p h 4 =
+      sym (product-two p h eb ec 4 four ∙ rw (product-step p c 1 one, product-zero p p (doubled p c), xor_right c, xor-zero c) (xor-zero c)) in
+      rw z (products_end (product p h) 8 (2 ^ p) row _ (sym e) (l ∙ sym e)
+      (values_turn (product p h) row (r ++ drop 4 row) 4 4 8 refl (rw (front (omega arith))) (u ∙ four_products p h eb ec 4 refl (omega arith) first)))
+
+-- the row of one weight
 pub row-full : (p : ℕ) (ws : List ℕ) (n : ℕ) → length (row_of p ws n) ≡ 2 ^ p
 row-full p ws n = length-tab _ (2 ^ p)
-
-pub factor_at : {p : ℕ} {ws : List ℕ} → Factors p ws → (n : ℕ) → n < length ws → Factor p (get_or ws n 0)
-factor_at F n h = record { low = F.low; high = F.high; element = F.elements n h }
-
-pub rows_turn : (p : ℕ) (ws : List ℕ) (n w : ℕ) (rows₀ rows : List ℕ) {r : List ℕ} → w ≡ 2 ^ p → rows ≡ blocks (row_of p ws) n ++ drop (n * 2 ^ p) rows₀
-    → r ≡ tab (product p (get_or ws n 0)) (2 ^ p)
-    → take (n * w) rows ++ (r ++ drop (n * w + w - n * w) (drop (n * w) rows)) ≡ blocks (row_of p ws) (n + 1) ++ drop ((n + 1) * 2 ^ p) rows₀
-rows_turn p ws n w rows₀ rows e h k = rw e (block_more (row_of p ws) (2 ^ p) (row-full p ws) rows₀ rows n h k)
 
 -- row n's place
 pub rows_room : {p : ℕ} {ws : List ℕ} → Factors p ws → (w : ℕ) → w ≡ 2 ^ p → (n : ℕ) → n < length ws → (n * w + w ≤ 2048) × (n * w + w ≤ length ws * 2 ^ p)

@@ -1,17 +1,19 @@
 -- A table is the list of a function's values: what stands at a place is the value there.
 use mathlib.Core.Path.{◌≡◌, ◌∙◌, sym, ap, ap₂, refl}
 use mathlib.Core.Bool.{Bool, true, false, ◌&&◌}
-use mathlib.Core.List.{List, [], ◌∷◌, ◌++◌}
+use mathlib.Core.List.{List, [], ◌∷◌}
 use Prim.Native.Nat.{ℕ, zero, suc, ◌+◌, ◌*◌, ◌/◌, ◌%◌, ◌<◌}
 use native.Mathlib.Nat.{add-zero, zero-add, add-suc, suc-add, le_of_suc-le-suc, not-suc-le-zero}
 use native.Mathlib.Omega.{arith}
 use lib.Arith.{digits_div, digits_mod}
 use lib.Dec.{T, eqb, eqb→eq}
-use lib.ListN.{length, get_or, set, drop}
+use lib.ListN.{length, get_or, take, drop, length-drop}
+use lib.Seq.{length-take-le, get_or-take, get_or-drop}
 use Rattle.trellis.specs.Lists.{tab}
 use Rattle.trellis.specs.Field.{product}
 use Rattle.trellis.proofs.Tests.{fst_T, snd_T}
-use Rattle.trellis.proofs.Loops.{tab-more}
+use Rattle.std.proofs.lemmas.Grind.{same_number_lists}
+use Rattle.trellis.proofs.Loops.{length-tab, get_d_tab}
 use Rattle.field.specs.inner.Table.{build, product_table}
 
 -- two lists with the same elements, by a test that computes
@@ -47,7 +49,12 @@ table_at a b h k =
     ∙ ap (λ i. product 6 (i / 64) (i % 64)) (zero-add (a * 64 + b))
     ∙ ap₂ (product 6) (digits_div a k) (digits_mod a k)
 
--- one turn of the loop that copies a row
-pub row_turn : (T l out : List ℕ) (h x : ℕ) {i : ℕ} → T ≡ product_table → h < 64 → x < 64 → x < length l → i ≡ h
-    → out ≡ tab (product 6 h) x ++ drop x l → set out x (get_or T (i * 64 + x) 0) ≡ tab (product 6 h) (x + 1) ++ drop (x + 1) l
-row_turn T l out h x t a b c e o = rw (o, t, e, table_at h x a b) (tab-more (product 6 h) l x c)
+-- row h of the table
+pub row_is : (T : List ℕ) (h : ℕ) → T ≡ product_table → h < 64 → take 64 (drop (h * 64) T) ≡ tab (product 6 h) 64
+row_is T h t l =
+    let n : length T ≡ 4096 = ap length t ∙ table-length in
+    let m : length (take 64 (drop (h * 64) T)) ≡ 64 = length-take-le 64 (drop (h * 64) T) (rw (length-drop (h * 64) T) (omega arith)) in
+    same_number_lists (take 64 (drop (h * 64) T)) (tab (product 6 h) 64) (m ∙ sym (length-tab (product 6 h) 64))
+    (λ x k.
+    let i : x < 64 = omega arith in
+    get_or-take 64 (drop (h * 64) T) x 0 i ∙ get_or-drop (h * 64) T x 0 ∙ ap (λ l. get_or l (h * 64 + x) 0) t ∙ table_at h x l i ∙ sym (get_d_tab (product 6 h) 64 x i))

@@ -1,6 +1,6 @@
 // The field's arithmetic: q, doubling, the product by its recurrence. No function here calls itself.
-ghost use Rattle.std.specs.Prelude.{◌≡◌, cond, ◌≤◌, ◌<◌, ◌^◌};
-ghost use Rattle.trellis.specs.Field.{xor, polynomial, doubled, product};
+ghost use Rattle.std.specs.Prelude.{◌≡◌, ◌≤◌, ◌<◌, ◌^◌};
+ghost use Rattle.trellis.specs.Field.{polynomial, doubled, product};
 ghost use Rattle.trellis.specs.Sizes.{most_size};
 
 // q = 2 ^ p.
@@ -35,13 +35,6 @@ pub fn double(p: u8, a: u8) -> u8
     if (s >> p) % 2 == 1 { s ^ r } else { s }
 }
 
-// The sum with a where it is added.
-fn plus(sum: u8, a: u8, add: bool) -> u8
-    ensures { result ≡ xor sum (cond add a 0) }
-{
-    if add { sum ^ a } else { sum }
-}
-
 // "The product follows its own recurrence, halving the second factor each time", as a loop: each turn adds the first factor where the
 // dropped bit is one, and doubles it for the next.
 pub fn times(p: u8, a: u8, b: u8) -> u8
@@ -52,9 +45,11 @@ pub fn times(p: u8, a: u8, b: u8) -> u8
     let mut factor = a;
     let mut left = b;
     while left != 0 {
-        sum = plus(sum, factor, left % 2 == 1);
+        if left % 2 == 1 {
+            sum ^= factor;
+        }
         factor = double(p, factor);
-        left = left / 2;
+        left /= 2;
     }
     sum
 }

@@ -35,10 +35,8 @@ fn by_bits(p: u8, h: u8, row: &mut [u8])
     let d = field::double(p, c);
     let e = field::double(p, d);
     let f = field::double(p, e);
-    let mut x = 0;
-    while x < row.len() {
+    for x in 0..row.len() {
         row[x] = of_bits(h, b, c, d, e, f, x as u8);
-        x += 1;
     }
 }
 
@@ -53,22 +51,16 @@ fn put_four(base: u8, h: u8, b: u8, row: &mut [u8])
     row[3] = base ^ (h ^ b);
 }
 
-// A row of four or eight products, filled by fours and without a step for each bit of each symbol. The second four begins with c, the
-// product of 4.
+// A row of four or eight products, without a step for each bit of each symbol. The second four begins with the product of 4.
 fn by_fours(p: u8, h: u8, row: &mut [u8])
     requires factor { Factor p h }
     requires row_len { (length row.old ≡ 2 ^ p) × (length row.old ≤ 8) }
     ensures { row.new ≡ tab (product p h) (2 ^ p) }
 {
     let b = field::double(p, h);
-    let c = field::double(p, b);
-    let mut x = 0;
-    let mut base: u8 = 0;
-    while x < row.len() {
-        let e = x + 4;
-        put_four(base, h, b, &mut row[x..e]);
-        base = c;
-        x = e;
+    put_four(0, h, b, &mut row[..4]);
+    if row.len() == 8 {
+        put_four(field::double(p, b), h, b, &mut row[4..]);
     }
 }
 
@@ -80,9 +72,9 @@ fn row(p: u8, h: u8, row: &mut [u8])
 {
     if row.len() <= 8 {
         by_fours(p, h, row);
-        return;
+    } else {
+        by_bits(p, h, row);
     }
-    by_bits(p, h, row);
 }
 
 // The rows of all weights, q products each, worked out one by one.
@@ -91,12 +83,9 @@ fn each_row(p: u8, q: usize, weights: &[u8], out: &mut [u8])
     requires q_value { (q ≡ 2 ^ p) × (length out.old ≡ length weights.now * 2 ^ p) }
     ensures { out.new ≡ blocks (row_of p weights.now) (length weights.now) }
 {
-    let mut n = 0;
-    while n < weights.len() {
-        let a = n * q;
-        let e = a + q;
-        row(p, weights[n], &mut out[a..e]);
-        n += 1;
+    for (n, &h) in weights.iter().enumerate() {
+        let at = n * q;
+        row(p, h, &mut out[at..at + q]);
     }
 }
 
@@ -107,43 +96,30 @@ pub fn fill(p: u8, weights: &[u8], out: &mut [u8])
     ensures { out.new ≡ blocks (row_of p weights.now) (length weights.now) }
 {
     if table::taken(p, weights.len()) {
-        let table = table::products();
-        table::rows_from(&table, weights, out);
-        return;
+        table::rows_from(&table::products(), weights, out);
+    } else {
+        each_row(p, usize::from(field::size(p)), weights, out);
     }
-    let q = scalar::u8_to_usize(field::size(p));
-    each_row(p, q, weights, out);
 }
 
-// Whether every weight is an element.
+// Whether every weight is an element. No test ends the loop: it is then taken for many weights at a time.
 fn elements_ok(q: u8, weights: &[u8]) -> bool
     ensures { result ≡ elements_ok q weights.now }
 {
     let mut ok = true;
-    let mut i = 0;
-    while i < weights.len() {
-        ok = scalar::both(ok, weights[i] < q);
-        i += 1;
+    for &h in weights {
+        ok &= h < q;
     }
     ok
 }
 
 // Whether p and the weights are in range, and their products have `room` bytes.
+#[tactic(auto, unfolding(crate::specs::Answers::rows_fit))]
 pub fn rows_fit(p: u8, weights: &[u8], room: usize) -> bool
     ensures { result ≡ rows_fit p weights.now room }
 {
-    if p < 2 {
-        return false;
-    }
-    if 6 < p {
-        return false;
-    }
-    if sizes::MOST_DEGREE < weights.len() {
-        return false;
-    }
-    let q = field::size(p);
-    if room != weights.len() * scalar::u8_to_usize(q) {
-        return false;
-    }
-    elements_ok(q, weights)
+    (2..=6).contains(&p)
+        && weights.len() <= sizes::MOST_DEGREE
+        && room == weights.len() * usize::from(field::size(p))
+        && elements_ok(field::size(p), weights)
 }

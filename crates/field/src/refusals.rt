@@ -8,23 +8,20 @@ use refusal::Refusal;
 use scalar::sizes;
 
 // A weight is an element other than 0.
+#[tactic(auto, unfolding(crate::specs::Answers::weight_ok))]
 fn weight_ok(q: u8, h: u8) -> bool
     ensures { result ≡ weight_ok q h }
 {
-    if h == 0 {
-        return false;
-    }
-    h < q
+    h != 0 && h < q
 }
 
+// No test ends the loop: it is then taken for many weights at a time.
 fn weights_ok(q: u8, weights: &[u8]) -> bool
     ensures { result ≡ weights_ok q weights.now }
 {
     let mut ok = true;
-    let mut i = 0;
-    while i < weights.len() {
-        ok = scalar::both(ok, weight_ok(q, weights[i]));
-        i += 1;
+    for &h in weights {
+        ok &= weight_ok(q, h);
     }
     ok
 }

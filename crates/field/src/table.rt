@@ -276,10 +276,7 @@ pub fn products() -> [u8; 4096]
 pub fn taken(p: u8, d: usize) -> bool
     ensures { result ≡ true → p ≡ 6 }
 {
-    if p != 6 {
-        return false;
-    }
-    8 <= d
+    p == 6 && 8 <= d
 }
 
 // Row h of the table: h times each symbol.
@@ -288,12 +285,8 @@ fn row_from(table: &[u8], h: u8, out: &mut [u8])
     requires h_bound { (h < 64) × (length out.old ≡ 64) }
     ensures { out.new ≡ tab (product 6 h) 64 }
 {
-    let base = scalar::u8_to_usize(h) * 64;
-    let mut x = 0;
-    while x < out.len() {
-        out[x] = table[base + x];
-        x += 1;
-    }
+    let base = usize::from(h) * 64;
+    out.copy_from_slice(&table[base..base + 64]);
 }
 
 // The rows of all weights, each a row of the table.
@@ -303,11 +296,8 @@ pub fn rows_from(table: &[u8], weights: &[u8], out: &mut [u8])
     requires out_len { length out.old ≡ length weights.now * 64 }
     ensures { out.new ≡ blocks (row_of 6 weights.now) (length weights.now) }
 {
-    let mut n = 0;
-    while n < weights.len() {
-        let a = n * 64;
-        let e = a + 64;
-        row_from(table, weights[n], &mut out[a..e]);
-        n += 1;
+    for (n, &h) in weights.iter().enumerate() {
+        let at = n * 64;
+        row_from(table, h, &mut out[at..at + 64]);
     }
 }

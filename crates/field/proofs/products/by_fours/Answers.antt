@@ -1,39 +1,19 @@
-use mathlib.Core.Path.{sym}
-use Prim.Native.Nat.{◌+◌, ◌^◌, ◌≤◌}
+-- A row has four products or eight: its number is a multiple of four, and at most eight.
+use mathlib.Core.Path.{◌≡◌}
+use Prim.Native.Nat.{◌^◌}
 use native.Mathlib.Omega.{arith}
-use borrow.Author.Rules.{rules}
-use borrow.Author.Tests.{ne_eqb}
-use lib.ListN.{length-take, length-drop}
-use Rattle.trellis.specs.Field.{product}
-use Rattle.field.proofs.Filling.{four_divides, fours_turn, products_end}
+use Rattle.trellis.proofs.Recurrence.{size_4}
+use Rattle.field.proofs.Filling.{four_divides, row_four, row_eight}
 use Rattle.field.proofs.products.by_fours.Goals as goal
 
-pub slice_bounds-put_four-end : goal.slice_bounds-put_four-end
-slice_bounds-put_four-end c =
-    omega (arith, four_divides c.args.p c.requires.factor.low)
-
-pub put_four-requires : goal.put_four-requires
-put_four-requires c =
-    simp (length-take, length-drop) (omega (arith, four_divides c.args.p c.requires.factor.low))
-
-pub loop-x-preserved : goal.loop-x-preserved
-loop-x-preserved c =
+pub returns-then-row-eq8 : goal.returns-then-row-eq8
+returns-then-row-eq8 c =
     let a = c.args in
-    let x = c.loop-x.x in
-    let more : x + 4 ≤ 2 ^ a.p = omega (arith, four_divides a.p c.requires.factor.low) in (
-      (omega arith, omega arith),
-      (
-        (search rules, c.loop-x.invariant.1.0.1),
-        (
-          fours_turn a.p a.h x _ c.loop-x.row c.double-b.ensures.0 c.double-c.ensures.0 c.loop-x.invariant.0.1 (omega arith)
-              more c.loop-x.invariant.1.1.0 c.loop-x.invariant.1.1.1 c.put_four.ensures,
-          sym (simp (ne_eqb (x + 4) 0 (omega arith))),
-        ),
-      ),
-    )
+    let e : 2 ^ a.p ≡ 8 = omega (arith, c.requires.row_len.0) in
+    row_eight a.p a.h c.double-b.ensures.0 a.row.now c.put_four.ensures e (omega arith) c.double.ensures.0 c.put_four-then-row-eq8.ensures (omega arith)
 
-pub returns : goal.returns
-returns c =
+pub returns-else-row-eq8 : goal.returns-else-row-eq8
+returns-else-row-eq8 c =
     let a = c.args in
-    products_end (product a.p a.h) c.loop-x.x (2 ^ a.p) _ c.loop-x.row (omega arith) c.loop-x.invariant.1.0.1
-    c.loop-x.invariant.1.1.0
+    let e : 2 ^ a.p ≡ 4 = omega (arith, c.requires.row_len.0, c.requires.row_len.1, four_divides a.p c.requires.factor.low, size_4 a.p c.requires.factor.low) in
+    row_four a.p a.h c.double-b.ensures.0 a.row.now c.put_four.ensures e (omega arith)
