@@ -16,9 +16,9 @@ use Rattle.trellis.specs.Check.{Column, all_sent}
 use Rattle.trellis.specs.Record.{record_of, record_length}
 use Rattle.trellis.specs.Rules.{rule_for, columns_of, size_of}
 use Rattle.trellis.specs.Reply.{Reply, accepted, refusal}
-use Rattle.field.specs.declared.Written.{Written}
-use Rattle.field.specs.declared.Written.TheVariants.{Bytes, Refused}
-use Rattle.field.specs.Answers.{written_reply}
+use Rattle.std.specs.Prelude.{Result, Ok, Err}
+use Rattle.refusal.specs.declared.Refusal.{Refusal}
+use Rattle.refusal.specs.Replies.{reply_of}
 use Rattle.checknode.specs.Answers.{check_reply, check_leaves, check_fault}
 use Rattle.expansion.specs.Answers.{expand_reply, expand_leaves}
 use Rattle.display.specs.Demand.{Sends, Demand2Messages}
@@ -84,9 +84,9 @@ demand_2_messages first ws cs n out out' C buffer long r buffer' E =
       buffer_rest = ap (drop d) x ∙ drop_at (all_sent (rule_for first) cols) (drop d buffer) d m;
     }
 
-written_bytes : (r : Written) (n : ℕ) → written_reply r ≡ accepted n → r ≡ Bytes n
-written_bytes (Bytes m) n e = ap Bytes (ap (λ (r : Reply). r.value) e)
-written_bytes (Refused k) n e = absurd (not-both (ap (λ (r : Reply). r.refused) e) refl)
+written_bytes : (r : Result ℕ Refusal) (n : ℕ) → reply_of r ≡ accepted n → r ≡ Ok n
+written_bytes (Ok m) n e = ap Ok (ap (λ (r : Reply). r.value) e)
+written_bytes (Err k) n e = absurd (not-both (ap (λ (r : Reply). r.refused) e) refl)
 
 pub given : {A : Type 0} (f : ℕ → List ℕ → List ℕ → A) {first q : ℕ} {v w l m : List ℕ} → first ≡ q → v ≡ w → l ≡ m → f first v l ≡ f q w m
 given f e g h = rw (e, g, h)
@@ -94,15 +94,15 @@ given f e g h = rw (e, g, h)
 -- the arguments a are check's first, weights, costs, out, and b are expand's first, weights, bytes, out; s and s' hold them as the calls return; each
 -- reads.Post is the function's ensures
 module _ (κs κs' : Lfts 3) (a : ArgsD check.signature κs) (b : ArgsD expand.signature κs') (r : ResD check.signature κs) (r' : ResD expand.signature κs') (s : AtExit (ended_of 3 check-kinds.ps check-kinds.r) κs) (s' : AtExit (ended_of 3 expand-kinds.ps expand-kinds.r) κs') where
-  pub check-then_expand : a.0 ≡ b.0 → a.1.0.now ≡ b.1.0.now → (n : ℕ) → r ≡ Bytes n → b.1.1.0.now ≡ take n s.1.1.1.0.now
+  pub check-then_expand : a.0 ≡ b.0 → a.1.0.now ≡ b.1.0.now → (n : ℕ) → r ≡ Ok n → b.1.1.0.now ≡ take n s.1.1.1.0.now
       → length a.1.0.now * size_of a.0 ≤ length b.1.1.1.0.now
       → check-reads.Post κs a r s → expand-reads.Post κs' b r' s'
-      → (r' ≡ Bytes (length a.1.0.now * size_of a.0))
-      × Sends a.0 a.1.0.now a.1.1.0.now n a.1.1.1.0.now s.1.1.1.0.now (written_reply r') b.1.1.1.0.now s'.1.1.1.0.now
+      → (r' ≡ Ok (length a.1.0.now * size_of a.0))
+      × Sends a.0 a.1.0.now a.1.1.0.now n a.1.1.1.0.now s.1.1.1.0.now (reply_of r') b.1.1.1.0.now s'.1.1.1.0.now
   check-then_expand same-p same-weights n e same_bytes long c x =
       let S =
-      demand_2_messages a.0 a.1.0.now a.1.1.0.now n a.1.1.1.0.now s.1.1.1.0.now (record { replies = sym (ap written_reply e) ∙ c.0; out-then = c.1 })
-      b.1.1.1.0.now long (written_reply r') s'.1.1.1.0.now
+      demand_2_messages a.0 a.1.0.now a.1.1.0.now n a.1.1.1.0.now s.1.1.1.0.now (record { replies = sym (ap reply_of e) ∙ c.0; out-then = c.1 })
+      b.1.1.1.0.now long (reply_of r') s'.1.1.1.0.now
       (record {
         replies = x.0 ∙ given (λ first w l. expand_reply first w l b.1.1.1.0.now) (sym same-p) (sym same-weights) same_bytes;
         out-then = x.1 ∙ given (λ first w l. expand_leaves first w l b.1.1.1.0.now) (sym same-p) (sym same-weights) same_bytes;

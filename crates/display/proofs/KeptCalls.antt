@@ -21,8 +21,9 @@ use Rattle.trellis.specs.Rules.{rule_for, power_of, size_of, columns_of, first_o
 use Rattle.trellis.specs.Ready.{Ready}
 use Rattle.trellis.proofs.KeptClaims.{ready-kept}
 use Rattle.trellis.proofs.Messages.{ready-length, ready_many}
-use Rattle.field.specs.declared.Written.TheVariants.{Bytes}
-use Rattle.field.specs.Answers.{written_reply, weight_ok}
+use Rattle.std.specs.Prelude.{Ok}
+use Rattle.refusal.specs.Replies.{reply_of}
+use Rattle.field.specs.Answers.{weight_ok}
 use Rattle.checknode.specs.Answers.{check_fault, messages_reply, zero_ok}
 use Rattle.expansion.specs.Answers.{expand_reply, expand_leaves}
 use Rattle.display.specs.Kept.{stored_of, FromStored, KeptEntriesExpand, KeptEntriesMessages}
@@ -90,13 +91,13 @@ examples_accepted = (refl, refl, refl, refl)
 -- the arguments a are check's first, weights, costs, out, and b are expand's first, weights, bytes, out; s and s' hold them as the calls return; each
 -- reads.Post is the function's ensures
 module _ (κs κs' : Lfts 3) (a : ArgsD check.signature κs) (b : ArgsD expand.signature κs') (r : ResD check.signature κs) (r' : ResD expand.signature κs') (s : AtExit (ended_of 3 check-kinds.ps check-kinds.r) κs) (s' : AtExit (ended_of 3 expand-kinds.ps expand-kinds.r) κs') where
-  pub check-then_expand_kept : a.0 ≡ b.0 → a.1.0.now ≡ b.1.0.now → (n : ℕ) → r ≡ Bytes n → b.1.1.0.now ≡ take n s.1.1.1.0.now
+  pub check-then_expand_kept : a.0 ≡ b.0 → a.1.0.now ≡ b.1.0.now → (n : ℕ) → r ≡ Ok n → b.1.1.0.now ≡ take n s.1.1.1.0.now
       → length a.1.0.now * size_of a.0 ≤ length b.1.1.1.0.now
       → check-reads.Post κs a r s → expand-reads.Post κs' b r' s'
       → FromStored a.0 a.1.0.now a.1.1.0.now (take n s.1.1.1.0.now) s'.1.1.1.0.now
   check-then_expand_kept same-p same-weights n e same_bytes long c x =
-      kept_entries_expand a.0 a.1.0.now a.1.1.0.now n a.1.1.1.0.now s.1.1.1.0.now (record { replies = sym (ap written_reply e) ∙ c.0; out-then = c.1 })
-      b.1.1.1.0.now long (written_reply r') s'.1.1.1.0.now
+      kept_entries_expand a.0 a.1.0.now a.1.1.0.now n a.1.1.1.0.now s.1.1.1.0.now (record { replies = sym (ap reply_of e) ∙ c.0; out-then = c.1 })
+      b.1.1.1.0.now long (reply_of r') s'.1.1.1.0.now
       (record {
         replies = x.0 ∙ given (λ first w l. expand_reply first w l b.1.1.1.0.now) (sym same-p) (sym same-weights) same_bytes;
         out-then = x.1 ∙ given (λ first w l. expand_leaves first w l b.1.1.1.0.now) (sym same-p) (sym same-weights) same_bytes;
@@ -104,8 +105,8 @@ module _ (κs κs' : Lfts 3) (a : ArgsD check.signature κs) (b : ArgsD expand.s
 
 -- the arguments a are first, weights, costs, out, sent of messages
 module _ (κs : Lfts 4) (a : ArgsD messages.signature κs) (r : ResD messages.signature κs) (s : AtExit (ended_of 4 messages-kinds.ps messages-kinds.r) κs) where
-  pub messages_kept : (n : ℕ) → r ≡ Bytes n → messages-reads.Post κs a r s
+  pub messages_kept : (n : ℕ) → r ≡ Ok n → messages-reads.Post κs a r s
       → FromStored a.0 a.1.0.now a.1.1.0.now (take n s.1.1.1.0.now) s.1.1.1.1.0.now
   messages_kept n e c =
       kept_entries_messages a.0 a.1.0.now a.1.1.0.now n a.1.1.1.0.now a.1.1.1.1.0.now s.1.1.1.0.now s.1.1.1.1.0.now
-      (record { replies = sym (ap written_reply e) ∙ c.0; out-then = c.1.0; sent-then = c.1.1 })
+      (record { replies = sym (ap reply_of e) ∙ c.0; out-then = c.1.0; sent-then = c.1.1 })

@@ -7,8 +7,8 @@ use denote.Triple.Clauses.{AtExit}
 use borrow.Fn.Kinds.{ended_of}
 use borrow.Fn.World.{ArgsD, ResD}
 use Rattle.trellis.specs.Rules.{power_of}
-use Rattle.field.specs.declared.Written.TheVariants.{Bytes}
-use Rattle.field.specs.Answers.{written_reply}
+use Rattle.std.specs.Prelude.{Ok}
+use Rattle.refusal.specs.Replies.{reply_of}
 use Rattle.display.specs.Answers.{display_reply, display_leaves}
 use Rattle.display.specs.Views.{SameShown}
 use Rattle.display.proofs.Views.{displays-equal}
@@ -18,13 +18,13 @@ use Rattle.display.proofs.display.Reads as reads
 
 -- the arguments a and b are first, weights, bytes, out; s and s' hold them as the calls return; reads.Post is display's ensures
 module _ (κs κs' : Lfts 3) (a : ArgsD display.signature κs) (b : ArgsD display.signature κs') (r : ResD display.signature κs) (r' : ResD display.signature κs') (s : AtExit (ended_of 3 kinds.ps kinds.r) κs) (s' : AtExit (ended_of 3 kinds.ps kinds.r) κs') where
-  pub two-displays : power_of a.0 ≡ power_of b.0 → b.1.0.now ≡ a.1.0.now → (n n' : ℕ) → r ≡ Bytes n → r' ≡ Bytes n'
+  pub two-displays : power_of a.0 ≡ power_of b.0 → b.1.0.now ≡ a.1.0.now → (n n' : ℕ) → r ≡ Ok n → r' ≡ Ok n'
       → reads.Post κs a r s → reads.Post κs' b r' s'
       → SameShown (length a.1.0.now) n n' a.1.1.0.now b.1.1.0.now s.1.1.1.0.now s'.1.1.1.0.now
   two-displays e w n n' i j p q =
       displays-equal a.0 b.0 a.1.0.now a.1.1.0.now b.1.1.0.now a.1.1.1.0.now b.1.1.1.0.now n n' s.1.1.1.0.now s'.1.1.1.0.now e
-      (record { replies = sym (ap written_reply i) ∙ p.0; out-then = p.1 })
+      (record { replies = sym (ap reply_of i) ∙ p.0; out-then = p.1 })
       (record {
-        replies = sym (ap written_reply j) ∙ q.0 ∙ ap (λ w. display_reply b.0 w b.1.1.0.now b.1.1.1.0.now) w;
+        replies = sym (ap reply_of j) ∙ q.0 ∙ ap (λ w. display_reply b.0 w b.1.1.0.now b.1.1.1.0.now) w;
         out-then = q.1 ∙ ap (λ w. display_leaves b.0 w b.1.1.0.now b.1.1.1.0.now) w;
       })

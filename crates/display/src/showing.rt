@@ -1,26 +1,25 @@
 // The refusals, and the quotients of the shifts.
 ghost use Rattle.std.specs.Prelude.{◌≡◌};
+ghost use Rattle.refusal.specs.Replies.{fault_of};
 ghost use Rattle.trellis.specs.Display.{displayed};
 ghost use Rattle.display.specs.Answers.{display_fault};
 ghost use Rattle.display.specs.inner.Showing.{ShowRoom};
 
 use expansion::form;
+use refusal::Refusal;
 
-// "Both refuse as expansion does; the display's buffer is d bytes, refusal 2"; 0 for none.
-pub fn fault(first: u8, weights: &[u8], bytes: &[u8], room: usize) -> u8
-    ensures { result ≡ display_fault first weights.now bytes.now room }
+// "Both refuse as expansion does; the display's buffer is d bytes, refusal 2".
+pub fn validate(first: u8, weights: &[u8], bytes: &[u8], room: usize) -> Result<(), Refusal>
+    ensures { fault_of result ≡ display_fault first weights.now bytes.now room }
 {
-    let k = field::weights_fault(first, weights);
-    if k != 0 {
-        return k;
-    }
+    field::validate_weights(first, weights)?;
     if !form::record_ok(first, bytes, weights.len()) {
-        return 16;
+        return Err(Refusal::RecordForm);
     }
     if room < weights.len() {
-        return 2;
+        return Err(Refusal::OutputTooShort);
     }
-    0
+    Ok(())
 }
 
 // "the shifts alone, divided by the weights": the first d bytes of the record are all that is read.

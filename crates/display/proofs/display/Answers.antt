@@ -1,36 +1,37 @@
 -- A refusal leaves the buffer; else the display stands in its front.
+use mathlib.Core.Path.{◌≡◌}
 use native.Mathlib.Omega.{arith}
+use borrow.Author.Rules.{rules}
 use lib.ListN.{length-take}
+use Rattle.std.specs.Prelude.{Err}
+use Rattle.field.proofs.Weighed.{some_number}
 use Rattle.display.proofs.Refusals.{refused, room, show_room, written}
 use Rattle.display.proofs.display.Goals as goal
 
-pub returns-then-k-ne0 : goal.returns-then-k-ne0
-returns-then-k-ne0 c =
+pub returns-in_err-validate : goal.returns-in_err-validate
+returns-in_err-validate c =
     let a = c.args in
-    record {
-      reply = (refused a.first a.weights.now a.bytes.now a.out.now c.fault-k.result c.fault-k.ensures c.if-k-ne0.true).0;
-      out_then = (refused a.first a.weights.now a.bytes.now a.out.now c.fault-k.result c.fault-k.ensures c.if-k-ne0.true).1;
-    }
+    let e : c.from_residual.result ≡ Err c.in_err-validate.field-0.0 = search rules in
+    let R = refused a.first a.weights.now a.bytes.now a.out.now _ c.in_err-validate.ensures (some_number c.in_err-validate.field-0.0) in
+    record { reply = rw e R.0; out_then = R.1 }
 
 pub slice_bounds-show-end : goal.slice_bounds-show-end
 slice_bounds-show-end c =
     let a = c.args in
-    (room a.first a.weights.now a.bytes.now a.out.now c.fault-k.result c.fault-k.ensures c.if-k-ne0.false).enough
+    (room a.first a.weights.now a.bytes.now a.out.now 0 c.in_ok-validate.ensures (search rules)).enough
 
 pub slice_bounds-show-end-2 : goal.slice_bounds-show-end-2
 slice_bounds-show-end-2 c =
     let a = c.args in
-    simp length-take (omega (arith, (room a.first a.weights.now a.bytes.now a.out.now c.fault-k.result c.fault-k.ensures c.if-k-ne0.false).enough))
+    simp length-take (omega (arith, (room a.first a.weights.now a.bytes.now a.out.now 0 c.in_ok-validate.ensures (search rules)).enough))
 
 pub show-requires : goal.show-requires
 show-requires c =
     let a = c.args in
-    show_room a.first a.weights.now a.bytes.now a.out.now c.fault-k.result c.fault-k.ensures c.if-k-ne0.false c.power-p.result c.power-p.ensures
+    show_room a.first a.weights.now a.bytes.now a.out.now 0 c.in_ok-validate.ensures (search rules) c.power.result c.power.ensures
 
 pub returns : goal.returns
 returns c =
     let a = c.args in
-    record {
-      reply = (written a.first a.weights.now a.bytes.now a.out.now c.fault-k.result c.fault-k.ensures c.if-k-ne0.false c.power-p.result c.power-p.ensures c.show.new.out c.show.ensures).0;
-      out_then = (written a.first a.weights.now a.bytes.now a.out.now c.fault-k.result c.fault-k.ensures c.if-k-ne0.false c.power-p.result c.power-p.ensures c.show.new.out c.show.ensures).1;
-    }
+    let R = written a.first a.weights.now a.bytes.now a.out.now 0 c.in_ok-validate.ensures (search rules) c.power.result c.power.ensures c.show.new.out c.show.ensures in
+    record { reply = R.0; out_then = R.1 }
