@@ -18,72 +18,88 @@ use Rattle.machine.proofs.Encoding.{more-columns, others_lower, sum_own, length_
 use Rattle.division.specs.Numbers.{quotient_or, QuotientRoom}
 use Rattle.division.proofs.Quotients.{quotient_is}
 use Rattle.codeline.specs.declared.answers.Numbers.{Numbers}
+use Rattle.codeline.specs.declared.code.Code.{Code as LentCode}
 use Rattle.codeline.specs.Answers.{numbers_in}
-use Rattle.codeline.specs.inner.Coding.{code_of, Coded}
+use Rattle.codeline.specs.Codes.{code_in}
+use Rattle.codeline.specs.inner.Coding.{Coded}
 use Rattle.encoder.specs.inner.Rooms.{OwnRoom, FillRoom}
 
-module _ (k : Numbers) (ds cs ws : List ℕ) where
+module _ (K : LentCode) where
+  abbrev k : Numbers
+  k = K.numbers
+
+  abbrev ds : List ℕ
+  ds = K.degrees.now
+
+  abbrev cs : List ℕ
+  cs = K.columns.now
+
+  abbrev ws : List ℕ
+  ws = K.weights.now
+
   abbrev C : Code
-  C = code_of k ds cs ws
+  C = code_in K
+
+  abbrev T : Coded k ds cs ws
+  T = K.coded
+
+  abbrev hc : edges_before ds k.checks ≤ length cs
+  hc = T.for_columns
+
+  abbrev hw : edges_before ds k.checks ≤ length ws
+  hw = T.for_weights
+
+  pub counted : length C.checks ≡ k.checks
+  counted = count (numbers_in k) ds cs ws hc hw
 
   -- a check over the tables of a code
-  module _ (T : Coded k ds cs ws) where
-    abbrev hc : edges_before ds k.checks ≤ length cs
-    hc = T.for_columns
+  module _ (m at d : ℕ) (h : m < k.checks) (e : at ≡ edges_before ds m) (i : d ≡ get_or ds m 0) where
+    pub in_checks : m < length C.checks
+    in_checks = omega (arith, counted)
 
-    abbrev hw : edges_before ds k.checks ≤ length ws
-    hw = T.for_weights
+    pub degree : d ≡ length (check C m)
+    degree = i ∙ sym (degree_is (numbers_in k) ds cs ws hc hw m h)
 
-    pub counted : length C.checks ≡ k.checks
-    counted = count (numbers_in k) ds cs ws hc hw
+    pub some-edge : 1 ≤ d
+    some-edge = omega (arith, degree, (T.good.each-check m in_checks).low)
 
-    module _ (m at d : ℕ) (h : m < k.checks) (e : at ≡ edges_before ds m) (i : d ≡ get_or ds m 0) where
-      pub in_checks : m < length C.checks
-      in_checks = omega (arith, counted)
+    pub columns-end : at + d ≤ length cs
+    columns-end = rw (e, i) (in_columns (numbers_in k) ds cs ws hc hw m h)
 
-      pub degree : d ≡ length (check C m)
-      degree = i ∙ sym (degree_is (numbers_in k) ds cs ws hc hw m h)
+    pub weights-end : at + d ≤ length ws
+    weights-end = rw (e, i) (in_weights (numbers_in k) ds cs ws hc hw m h)
 
-      pub some-edge : 1 ≤ d
-      some-edge = omega (arith, degree, (T.good.each-check m in_checks).low)
-
-      pub columns-end : at + d ≤ length cs
-      columns-end = rw (e, i) (in_columns (numbers_in k) ds cs ws hc hw m h)
-
-      pub weights-end : at + d ≤ length ws
-      weights-end = rw (e, i) (in_weights (numbers_in k) ds cs ws hc hw m h)
-
-      -- the last column
-      pub last-column : (c : ℕ) → c ≡ get_or cs (at + (d - 1)) 0 → c ≡ (edge_at (check C m) (length (check C m) - 1)).column
-      last-column c o =
-          o
-          ∙ ap₂ (λ a d. get_or cs (a + (d - 1)) 0) e i
-          ∙ column_in (numbers_in k) ds cs ws hc hw m h (get_or ds m 0 - 1) (omega (arith, some-edge))
-          ∙ ap (λ d. (edge_at (check C m) (d - 1)).column) (sym i ∙ degree)
+    -- the last column
+    pub last-column : (c : ℕ) → c ≡ get_or cs (at + (d - 1)) 0 → c ≡ (edge_at (check C m) (length (check C m) - 1)).column
+    last-column c o =
+        o
+        ∙ ap₂ (λ a d. get_or cs (a + (d - 1)) 0) e i
+        ∙ column_in (numbers_in k) ds cs ws hc hw m h (get_or ds m 0 - 1) (omega (arith, some-edge))
+        ∙ ap (λ d. (edge_at (check C m) (d - 1)).column) (sym i ∙ degree)
 
   -- the symbol of a check, from the word before it
-  module _ (m at : ℕ) (w : List ℕ) (R : OwnRoom k ds cs ws m at w) (d : ℕ) (i : d ≡ get_or ds m 0) where
+  module _ (m at : ℕ) (w : List ℕ) (R : OwnRoom K m at w) (d : ℕ) (i : d ≡ get_or ds m 0) where
     pub enough : (1 ≤ d) × ((at + d ≤ length cs) × (at + d ≤ length ws))
     enough =
-        (some-edge R.coded m at d R.inside R.edge_is i, (columns-end R.coded m at d R.inside R.edge_is i, weights-end R.coded m at d R.inside R.edge_is i))
+        (some-edge m at d R.inside R.edge_is i, (columns-end m at d R.inside R.edge_is i, weights-end m at d R.inside R.edge_is i))
 
     inside : m < length C.checks
-    inside = in_checks R.coded m at d R.inside R.edge_is i
+    inside = in_checks m at d R.inside R.edge_is i
 
     degree-here : d ≡ length (check C m)
-    degree-here = degree R.coded m at d R.inside R.edge_is i
+    degree-here = degree m at d R.inside R.edge_is i
 
     weight-here : (n : ℕ) → n < d → get_or ws (at + n) 0 ≡ (edge_at (check C m) n).weight
     weight-here n l =
-        ap (λ a. get_or ws (a + n) 0) R.edge_is ∙ weight_in (numbers_in k) ds cs ws R.coded.for_columns R.coded.for_weights m R.inside n (omega arith)
+        ap (λ a. get_or ws (a + n) 0) R.edge_is ∙ weight_in (numbers_in k) ds cs ws hc hw m R.inside n (omega arith)
 
     column-here : (n : ℕ) → n < d → get_or cs (at + n) 0 ≡ (edge_at (check C m) n).column
     column-here n l =
-        ap (λ a. get_or cs (a + n) 0) R.edge_is ∙ column_in (numbers_in k) ds cs ws R.coded.for_columns R.coded.for_weights m R.inside n (omega arith)
+        ap (λ a. get_or cs (a + n) 0) R.edge_is ∙ column_in (numbers_in k) ds cs ws hc hw m R.inside n (omega arith)
 
     pub edge-room : (n : ℕ) → n < d - 1 → EdgeRoom (power_of k.first) cs ws w (at + n)
     edge-room n l =
-        let G = R.coded.good in
+        let G = T.good in
         let E = (G.each-check m inside).each-edge n (omega (arith, degree-here)) in
         let b : (edge_at (check C m) n).column < length w = omega (arith, others_lower C G R.form m inside n (omega (arith, degree-here)), R.full) in
         let c : get_or cs (at + n) 0 ≡ (edge_at (check C m) n).column = column-here n (omega arith) in
@@ -102,7 +118,7 @@ module _ (k : Numbers) (ds cs ws : List ℕ) where
     unfolding xor
     sum_more n s t l u v =
         let x : t ≡ product (power C) (edge_at (check C m) n).weight (get_or w (edge_at (check C m) n).column 0) =
-        v ∙ ap (λ a. term (power C) cs ws w (a + n)) R.edge_is ∙ term_in (numbers_in k) ds cs ws R.coded.for_columns R.coded.for_weights m R.inside (power C) w n (omega arith) in
+        v ∙ ap (λ a. term (power C) cs ws w (a + n)) R.edge_is ∙ term_in (numbers_in k) ds cs ws hc hw m R.inside (power C) w n (omega arith) in
         rw (add-one n, u, x)
 
     -- the sum of the others divides
@@ -110,7 +126,7 @@ module _ (k : Numbers) (ds cs ws : List ℕ) where
         → r ≡ own_symbol (power C) (check C m) w
     unfolding own_symbol
     own_is n s p r a u b o =
-        let G = R.coded.good in
+        let G = T.good in
         let l : n < d = omega (arith, enough.0) in
         let E = (G.each-check m inside).each-edge n (omega (arith, degree-here)) in
         let v : n ≡ length (check C m) - 1 = omega (arith, degree-here) in
@@ -124,7 +140,7 @@ module _ (k : Numbers) (ds cs ws : List ℕ) where
         o ∙ ap (λ p. quotient_or p (get_or ws (at + n) 0) s) b ∙ quotient_is (power C) (get_or ws (at + n) 0) s Q ∙ ap₂ (quotient (power C)) x y
 
   -- the loop over the checks
-  module _ (from : ℕ) (z : List ℕ) (R : FillRoom k ds cs ws from z) where
+  module _ (from : ℕ) (z : List ℕ) (R : FillRoom K from z) where
     abbrev word : ℕ → List ℕ
     word m = encode_to C (take from z) m
 
@@ -132,11 +148,11 @@ module _ (k : Numbers) (ds cs ws : List ℕ) where
     buffer m = word m ++ drop (from + m) z
 
     count-is : length C.checks ≡ k.checks
-    count-is = counted R.coded
+    count-is = counted
 
     -- N - M and M together are N
     pub whole : from + k.checks ≡ length z
-    whole = omega (arith, R.message, R.full, count-is, more-columns C R.coded.good R.form)
+    whole = omega (arith, R.message, R.full, count-is, more-columns C T.good R.form)
 
     message-length : length (take from z) ≡ message_length C
     message-length = length-take-le from z (omega (arith, whole)) ∙ R.message
@@ -145,23 +161,22 @@ module _ (k : Numbers) (ds cs ws : List ℕ) where
     message-small i h = let l : i < from = omega (arith, message-length, R.message) in rw (get_or-take from z i 0 l) (R.small i l)
 
     pub length-word : (m : ℕ) → length (word m) ≡ from + m
-    length-word m = length_to C R.coded.good R.form (take from z) message-length message-small m ∙ ap (λ n. n + m) (sym R.message)
+    length-word m = length_to C T.good R.form (take from z) message-length message-small m ∙ ap (λ n. n + m) (sym R.message)
 
     -- the room of a turn, and its front of the buffer
     module _ (m : ℕ) (h : m < k.checks) (now : List ℕ) (o : now ≡ buffer m) where
       pub front : take (from + m) now ≡ word m
       front = ap (take (from + m)) o ∙ take_at (word m) (drop (from + m) z) (from + m) (length-word m)
 
-      pub turn_room : (at : ℕ) → at ≡ edges_before ds m → OwnRoom k ds cs ws m at (take (from + m) now)
+      pub turn_room : (at : ℕ) → at ≡ edges_before ds m → OwnRoom K m at (take (from + m) now)
       turn_room at e =
           rw front
           record {
-            coded = R.coded;
             form = R.form;
             inside = h;
             edge_is = e;
             full = length-word m ∙ ap (λ n. n + m) R.message;
-            small = small_to C R.coded.good R.form (take from z) message-length message-small m (omega (arith, count-is));
+            small = small_to C T.good R.form (take from z) message-length message-small m (omega (arith, count-is));
           }
 
       pub fill_turn : (x : ℕ) → x ≡ own_symbol (power C) (check C m) (take (from + m) now) → set now (from + m) x ≡ buffer (m + 1)

@@ -9,32 +9,32 @@ use Rattle.encoder.proofs.fill.fill.Goals as goal
 
 pub loop-m-init : goal.loop-m-init
 loop-m-init c =
-    (omega arith, (refl, (refl, fill_start c.args.numbers c.args.degrees.now c.args.columns.now c.args.weights.now c.args.from c.args.symbols.now c.requires)))
+    (refl, (refl, fill_start c.args.code.now c.args.from c.args.symbols.now c.requires))
 
 pub slice_bounds-own-end : goal.slice_bounds-own-end
 slice_bounds-own-end c =
-    omega (arith, whole c.args.numbers c.args.degrees.now c.args.columns.now c.args.weights.now c.args.from c.args.symbols.now c.requires)
+    omega (arith, whole c.args.code.now c.args.from c.args.symbols.now c.requires)
 
 pub slice_bounds-own-end-in-loop-m : goal.slice_bounds-own-end-in-loop-m
 slice_bounds-own-end-in-loop-m c =
-    sym (length-take-le (c.args.from + c.loop-m.m) c.loop-m.symbols (omega (arith, whole c.args.numbers c.args.degrees.now c.args.columns.now c.args.weights.now c.args.from c.args.symbols.now c.requires)))
+    sym (length-take-le (c.args.from + c.loop-m.m) c.loop-m.symbols (omega (arith, whole c.args.code.now c.args.from c.args.symbols.now c.requires)))
 
-pub own-x-requires : goal.own-x-requires
-own-x-requires c =
-    turn_room c.args.numbers c.args.degrees.now c.args.columns.now c.args.weights.now c.args.from c.args.symbols.now c.requires c.loop-m.m (omega arith) c.loop-m.symbols c.loop-m.invariant.1.1.1 c.loop-m.at c.loop-m.invariant.1.0
+pub own-requires : goal.own-requires
+own-requires c =
+    turn_room c.args.code.now c.args.from c.args.symbols.now c.requires c.loop-m.m (omega arith) c.loop-m.symbols c.loop-m.invariant.1.1 c.loop-m.at c.loop-m.invariant.0
 
 pub bounds-symbols-e : goal.bounds-symbols-e
 bounds-symbols-e c =
-    omega (arith, whole c.args.numbers c.args.degrees.now c.args.columns.now c.args.weights.now c.args.from c.args.symbols.now c.requires)
+    omega (arith, whole c.args.code.now c.args.from c.args.symbols.now c.requires)
 
 pub overflow_add-at : goal.overflow_add-at
 overflow_add-at c =
-    omega (arith, columns-end c.args.numbers c.args.degrees.now c.args.columns.now c.args.weights.now c.requires.coded c.loop-m.m c.loop-m.at c.u8_to_usize-at.result (omega arith) c.loop-m.invariant.1.0 c.u8_to_usize-at.ensures.0)
+    omega (arith, columns-end c.args.code.now c.loop-m.m c.loop-m.at c.from-at.result (omega arith) c.loop-m.invariant.0 c.from-at.ensures)
 
 pub loop-m-preserved : goal.loop-m-preserved
 loop-m-preserved c =
-    (omega arith, (before_more c.args.degrees.now c.loop-m.m c.loop-m.at c.u8_to_usize-at.result c.loop-m.invariant.1.0 c.u8_to_usize-at.ensures.0, (length-set c.loop-m.symbols (c.args.from + c.loop-m.m) c.own-x.result ∙ c.loop-m.invariant.1.1.0, fill_turn c.args.numbers c.args.degrees.now c.args.columns.now c.args.weights.now c.args.from c.args.symbols.now c.requires c.loop-m.m (omega arith) c.loop-m.symbols c.loop-m.invariant.1.1.1 c.own-x.result c.own-x.ensures)))
+    (before_more c.args.code.now.degrees.now c.loop-m.m c.loop-m.at c.from-at.result c.loop-m.invariant.0 c.from-at.ensures, (length-set c.loop-m.symbols (c.args.from + c.loop-m.m) c.own.result ∙ c.loop-m.invariant.1.0, fill_turn c.args.code.now c.args.from c.args.symbols.now c.requires c.loop-m.m (omega arith) c.loop-m.symbols c.loop-m.invariant.1.1 c.own.result c.own.ensures))
 
 pub returns : goal.returns
 returns c =
-    fill_done c.args.numbers c.args.degrees.now c.args.columns.now c.args.weights.now c.args.from c.args.symbols.now c.requires c.loop-m.m c.loop-m.symbols (omega arith) c.loop-m.invariant.1.1.1
+    fill_done c.args.code.now c.args.from c.args.symbols.now c.requires c.loop-m.m c.loop-m.symbols (omega arith) c.loop-m.invariant.1.1
