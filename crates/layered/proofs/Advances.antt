@@ -9,7 +9,6 @@ use native.Mathlib.Numerals.{add-one}
 use native.Mathlib.Omega.{arith}
 use lib.Dec.{eqb, ltb}
 use lib.ListN.{length, get_or, set}
-use borrow.Author.Tests.{eq-eqb, ne_eqb}
 use Rattle.trellis.specs.Lists.{pick, upto, tab}
 use Rattle.trellis.specs.Check.{decide}
 use Rattle.machine.specs.CodeLine.{Code, size, check, edge_at, column_of}
@@ -32,7 +31,7 @@ use Rattle.layered.specs.declared.place.Place.{Place}
 use Rattle.layered.specs.inner.Parity.{EdgeOf}
 use Rattle.layered.specs.inner.Iterations.{ended_in, RunRoom}
 use Rattle.layered.specs.inner.Places.{Stands, Around, Updatable}
-use Rattle.layered.specs.inner.Early.{decided_again, RetestRoom, Retested, Unsettled, Going}
+use Rattle.layered.specs.inner.Early.{decided_again, RetestRoom, RetestedAt, Unsettled, Going}
 use Rattle.layered.proofs.Places.{stands_own}
 use Rattle.layered.proofs.Satisfied.{symbols_are}
 use Rattle.layered.proofs.Runs.{checks-count}
@@ -203,28 +202,23 @@ module _ (K : Tables) (most : ℕ) (l₀ : Lent) where
             next_retest K P s z u G.unsettled here.check G.check_is b i P' s' o here refl G.stands.edge_is from G.from_edge G.from_inside
             (unsettled-full K P s z u G.unsettled)
 
-        module _ (h : u < most) (r : CheckAt) (R : Retested D K.degrees.now P' r) (n : ℕ) (all : n ≡ K.numbers.checks) where
+        module _ (h : u < most) where
           on : lent P' s' ≡ next_lent D u (lent P s)
           on = as_next K P s z u G.unsettled here.check G.check_is b i P' s' o
 
-          checks-all : n ≡ length D.checks
-          checks-all = all ∙ sym (checks-count K)
+          pub going_found : settled D P' ≡ true → ended_in (Found (u + 1)) (lent P' s') ≡ stop_lent D most 0 l₀
+          going_found e = stop_found D most u (lent P s) l₀ G.unsettled.unsettled G.left h (lent P' s') on e
 
-          pub going_found : r.check ≡ n → ended_in (Found (u + 1)) (lent P' s') ≡ stop_lent D most 0 l₀
-          going_found e =
-              stop_found D most u (lent P s) l₀ G.unsettled.unsettled G.left h (lent P' s') on (sym R.test_is ∙ eq-eqb _ _ (e ∙ checks-all))
-
-          pub going_next : (r.check ≡ n → ⊥) → (next here' : Place) → Stands K.numbers.first K.degrees.now (here.check + 1) next → Around n next here'
-              → (y : List ℕ) → y ≡ symbols D P' → Going K most l₀ (u + 1) here' r P' s' y
-          going_next e next here' S A y d =
-              let f : r.check ≡ length D.checks → ⊥ = λ i. e (i ∙ sym checks-all) in
+          pub going_next : (r : CheckAt) → RetestedAt D K.degrees.now P' r → (n : ℕ) → n ≡ K.numbers.checks → (next here' : Place) → Stands K.numbers.first K.degrees.now (here.check + 1) next
+              → Around n next here' → (y : List ℕ) → y ≡ symbols D P' → Going K most l₀ (u + 1) here' r P' s' y
+          going_next r R n all next here' S A y d =
               record {
                 at_most = omega arith;
                 check_is = around_next K.numbers.first K.degrees.now K.numbers.checks next here' (rw all at A) u here.check (some-check K P s z u G.unsettled) G.check_is S.check_is;
                 stands = around_stands K.numbers.first K.degrees.now n next here' A (stands_own K.numbers.first K.degrees.now _ next S);
                 from_edge = R.edge_is;
-                from_inside = omega (arith, R.high, f, checks-all, all);
-                unsettled = next-unsettled K P s z u G.unsettled here.check G.check_is b i P' s' o y d (sym R.test_is ∙ ne_eqb _ _ f);
+                from_inside = omega (arith, R.inside, checks-count K);
+                unsettled = next-unsettled K P s z u G.unsettled here.check G.check_is b i P' s' o y d R.unsettled;
                 left = stop_more D most u (lent P s) l₀ G.unsettled.unsettled G.left h (lent P' s') on;
               }
 

@@ -16,7 +16,7 @@ use Rattle.machine.proofs.Lists.{map-after}
 use Rattle.machine.proofs.Leasts.{least_le, smallest_loop, up_to_tab}
 use Rattle.machine.proofs.Places.{length_part}
 use Rattle.machine.proofs.Updates.{length-incoming}
-use Rattle.machine.proofs.Ranges.{below-take, below-drop, length-outgoing, length-patch, column-room}
+use Rattle.machine.proofs.Ranges.{length-outgoing, length-patch, column-room}
 use Rattle.machine.specs.inner.InRange.{Below}
 use Rattle.layered.specs.inner.Columns.{raised, least_raised, one_column, gathered, GatherRoom, summed, least_summed, scattered, ScatterRoom}
 
@@ -59,9 +59,6 @@ front_kept l s n h e = length-append s (drop n l) ∙ omega (arith, length-take-
 
 pub front-room : (l s : List ℕ) (n : ℕ) → n ≤ length l → length s ≡ length (take n l) → n ≤ length (s ++ drop n l)
 front-room l s n h e = omega (arith, front_kept l s n h e)
-
-pub below-part : (b a n : ℕ) (l : List ℕ) → Below b l → Below b (part l a n)
-below-part b a n l h = below-take b n (drop a l) (below-drop b a l h)
 
 length-one : (P cols old : List ℕ) (g q k : ℕ) → 0 < q → length (one_column P cols old g q k) ≡ q
 length-one P cols old g q k some = length-incoming q some _ _
@@ -115,10 +112,6 @@ least-summed_le g n Q new i h = least_le (summed g Q new) n i h
 pub outgoing_done : (g : ℕ) (Q new out : List ℕ) (least : ℕ) → 0 < length Q → ((x : ℕ) → summed g Q new x ≤ 1000) → least ≡ least_summed g Q new (length Q)
     → out ≡ tab (λ x. summed g Q new x - least) (length Q) → out ≡ outgoing (length Q) Q (map (scaled g) new)
 outgoing_done g Q new out least some b m o = o ∙ rw m (sym (outgoing-tab g (length Q) Q new some b))
-
-pub scatter_room : (Q new cols : List ℕ) (g q : ℕ) (P : List ℕ) → ScatterRoom Q new cols g q P → (k : ℕ) → k < length cols → (w : ℕ) → w ≡ get_or cols k 0
-    → (w * q + q ≤ length P) × ((k * q + q ≤ length Q) × (k * q + q ≤ length new))
-scatter_room Q new cols g q P R k h w e = (rw e (R.columns k h), (omega (arith, column-room k (length cols) q h, R.for_q), omega (arith, column-room k (length cols) q h, R.for_new)))
 
 pub scatter_turn : (Q new cols : List ℕ) (g q : ℕ) (P : List ℕ) → ScatterRoom Q new cols g q P → (k : ℕ) → k < length cols → (w : ℕ) → w ≡ get_or cols k 0 → (now x : List ℕ)
     → now ≡ scattered Q new cols g q k P

@@ -3,17 +3,15 @@ use mathlib.Core.Path.{◌≡◌, refl, sym, ap, ap₂, ◌∙◌}
 use mathlib.Core.List.{List}
 use Prim.Native.Nat.{ℕ, ◌+◌, ◌-◌, ◌*◌, ◌≤◌, ◌<◌}
 use native.Mathlib.Nat.{add-sub_cancel_left}
-use native.Mathlib.Decide.{ℕ_discrete, dec_lt}
-use native.Mathlib.Numerals.{add-one}
+use native.Mathlib.Decide.{dec_lt}
 use native.Mathlib.Omega.{arith}
-use lib.ListN.{length, get_or, set, drop, length-set}
-use lib.Seq.{ext_get_or, get_or-set_same, get_or-set_other, get_or-take, get_or-drop}
-use borrow.Author.Tests.{eq-eqb, ne_eqb}
+use lib.ListN.{length, get_or, drop}
+use lib.Seq.{get_or-take, get_or-drop}
+use Rattle.std.specs.Prelude.{Option, Some, None}
 use Rattle.trellis.specs.Lists.{part}
-use Rattle.trellis.specs.Check.{decide}
 use Rattle.trellis.specs.Rules.{power_of, size_of}
 use Rattle.trellis.proofs.Recurrence.{size_64}
-use Rattle.machine.specs.CodeLine.{Code, check, edge_at, column_of}
+use Rattle.machine.specs.CodeLine.{Code, check, edge_at}
 use Rattle.machine.specs.Machine.{symbols}
 use Rattle.machine.specs.inner.Tables.{edges_before, table_at}
 use Rattle.machine.proofs.Ranges.{column-room}
@@ -29,62 +27,19 @@ use Rattle.machine.proofs.Places.{length_part}
 use Rattle.layered.proofs.Satisfied.{decided-room, settled-by, all_hold_lem, one-not}
 use Rattle.layered.proofs.Runs.{checks-count}
 
--- what stands at a place put in there again
-set_own : (l : List ℕ) (c : ℕ) → c < length l → set l c (get_or l c 0) ≡ l
-set_own l c h =
-    ext_get_or 0 (set l c (get_or l c 0)) l (length-set l c (get_or l c 0)) (λ i k. elim (ℕ_discrete i c) [
-      | yes e ↦ rw e (get_or-set_same l c (get_or l c 0) 0 h)
-      | no e ↦ get_or-set_other l c i (get_or l c 0) 0 e
-    ])
-
--- one column decided again
-module _ (q c z : ℕ) (P y : List ℕ) (e : z ≡ (decide (column_of q P c)).symbol) where
-  pub decided-same : c < length y → get_or y c 0 ≡ z → y ≡ set y c (decide (column_of q P c)).symbol
-  decided-same h i = sym (set_own y c h) ∙ ap (set y c) (i ∙ e)
-
-  pub decided-other : set y c z ≡ set y c (decide (column_of q P c)).symbol
-  decided-other = ap (set y c) e
-
--- one more
-pub again-start : (q : ℕ) (P cs z : List ℕ) → z ≡ decided_again q P cs 0 z
-unfolding decided_again
-again-start q P cs z = refl
-
-pub again-more : (q : ℕ) (P cs z now now' : List ℕ) (k c : ℕ) → c ≡ get_or cs k 0 → now ≡ decided_again q P cs k z
-    → now' ≡ set now c (decide (column_of q P c)).symbol → now' ≡ decided_again q P cs (k + 1) z
-unfolding decided_again
-again-more q P cs z now now' k c e o i = i ∙ rw (add-one k, ← e, o)
-
 -- the test from a check on
 module _ (C : Code) (ds z : List ℕ) (n : ℕ) (all : n ≡ length C.checks) (from : CheckAt) where
-  module _ (r : CheckAt) (F : FirstNot C ds z from.check n r) where
-    pub not_behind : (r.check ≡ n → ⊥) → SomeNot C ds z r
-    not_behind o =
-        record {
-          edge_is = F.edge_is;
-          high = omega (arith, F.high);
-          test_is = ne_eqb _ _ (λ (i : r.check ≡ length C.checks). o (omega arith)) ∙ sym (one-not C z r.check (omega (arith, F.high)) (F.not_it (omega (arith, F.high))));
-        }
+  pub behind_it : (r : Option CheckAt) → (r ≡ None → ⊥) → FirstNot C ds z from.check n r → SomeNot C ds z r
+  behind_it None e F = absurd (e refl)
+  behind_it (Some r) e F = record { edge_is = F.edge_is; inside = omega (arith, F.high); not_all = one-not C z r.check (omega (arith, F.high)) F.not_it }
 
-    module _ (h : from.check ≤ n) (e : r.check ≡ n) (b : CheckAt) (B : FirstNot C ds z 0 from.check b) where
-      pub not-before : (b.check ≡ from.check → ⊥) → SomeNot C ds z b
-      not-before o =
-          record {
-            edge_is = B.edge_is;
-            high = omega (arith, B.high);
-            test_is = ne_eqb _ _ (λ (i : b.check ≡ length C.checks). o (omega (arith, B.high))) ∙ sym (one-not C z b.check (omega (arith, B.high)) (B.not_it (omega (arith, B.high))));
-          }
-
-      pub none-not : b.check ≡ from.check → SomeNot C ds z r
-      none-not i =
-          record {
-            edge_is = F.edge_is;
-            high = omega (arith, F.high);
-            test_is = eq-eqb _ _ (e ∙ all) ∙ sym (all_hold_lem C z (λ j l. elim (dec_lt j from.check) [
-              | yes u ↦ B.before_it j (omega arith) (omega arith)
-              | no u ↦ F.before_it j (omega arith) (omega arith)
-            ]));
-          }
+  pub before_it : from.check ≤ n → FirstNot C ds z from.check n None → (b : Option CheckAt) → FirstNot C ds z 0 from.check b → SomeNot C ds z b
+  before_it h F (Some b) B = record { edge_is = B.edge_is; inside = omega (arith, B.high); not_all = one-not C z b.check (omega (arith, B.high)) B.not_it }
+  before_it h F None B =
+      all_hold_lem C z (λ j l. elim (dec_lt j from.check) [
+        | yes u ↦ B j (omega arith) (omega arith)
+        | no u ↦ F j (omega arith) (omega arith)
+      ])
 
 -- the test after an update of the check that stands at p
 module _ (K : Tables) (p : Place) (from : CheckAt) (P z : List ℕ) (R : RetestRoom K p from P z) where
@@ -151,14 +106,13 @@ module _ (K : Tables) (p : Place) (from : CheckAt) (P z : List ℕ) (R : RetestR
       again-decided =
           o ∙ ap₂ (λ n (l : List ℕ). decided_again n P l (length l) z) e own_is ∙ ap (decided_again (size_of K.numbers.first) P (table_at K.degrees.now K.columns.now m) (length (table_at K.degrees.now K.columns.now m))) R.decided ∙ R.again
 
-      pub again-same : y ≡ z → Retested C K.degrees.now P from
+      pub again-same : y ≡ z → Retested C K.degrees.now P (Some from)
       again-same s =
           let u : symbols C P ≡ symbols C R.old = sym again-decided ∙ s ∙ R.decided in
           record {
             edge_is = R.from_edge;
-            high = omega (arith, R.from_inside, checks-are);
-            test_is = ne_eqb _ _ (λ (i : from.check ≡ length C.checks). omega (arith, R.from_inside, checks-are))
-                ∙ sym (sym (settled-by K P) ∙ ap (all_hold C) u ∙ settled-by K R.old ∙ R.unsettled);
+            inside = omega (arith, R.from_inside, checks-are);
+            unsettled = sym (settled-by K P) ∙ ap (all_hold C) u ∙ settled-by K R.old ∙ R.unsettled;
           }
 
       pub again-room : ParityRoom K y × FromTo K from K.numbers.checks
@@ -167,10 +121,6 @@ module _ (K : Tables) (p : Place) (from : CheckAt) (P z : List ℕ) (R : RetestR
         record { edge_is = R.from_edge; ordered = omega (arith, R.from_inside); inside = omega arith },
       )
 
-      pub again_tested : (r : CheckAt) → SomeNot C K.degrees.now y r → Retested C K.degrees.now P r
-      again_tested r S =
-          record {
-            edge_is = S.edge_is;
-            high = S.high;
-            test_is = S.test_is ∙ ap (all_hold C) again-decided ∙ settled-by K P;
-          }
+      pub again_tested : (r : Option CheckAt) → SomeNot C K.degrees.now y r → Retested C K.degrees.now P r
+      again_tested (Some r) S = record { edge_is = S.edge_is; inside = S.inside; unsettled = sym (settled-by K P) ∙ ap (all_hold C) (sym again-decided) ∙ S.not_all }
+      again_tested None S = sym (settled-by K P) ∙ ap (all_hold C) (sym again-decided) ∙ S

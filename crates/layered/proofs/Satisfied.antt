@@ -1,16 +1,16 @@
 -- The loops of the parity test: decisions and margins column by column; a check's sum term by term; a check that fails makes the whole test fail,
 -- however many come after it.
 use mathlib.Core.Path.{◌≡◌, refl, sym, ap, ◌∙◌}
-use mathlib.Core.Bool.{Bool, true, false}
+use mathlib.Core.Bool.{Bool, true, false, true≢false}
 use mathlib.Core.List.{List}
 use Prim.Native.Nat.{ℕ, zero, suc, ◌+◌, ◌*◌, ◌≤◌, ◌<◌}
 use native.Mathlib.Decide.{ℕ_discrete}
 use native.Mathlib.Numerals.{add-one}
 use native.Mathlib.Omega.{arith}
 use lib.Bits.{bit_xor}
-use lib.Dec.{eqb}
 use lib.ListN.{length, get_or}
 use borrow.Author.Tests.{eq-eqb, ne_eqb}
+use Rattle.std.specs.Prelude.{Option, Some, None, is_some, not}
 use Rattle.trellis.specs.Lists.{tab, all_to}
 use Rattle.trellis.specs.Field.{xor, product}
 use Rattle.trellis.specs.Check.{first_zero, decide}
@@ -62,13 +62,12 @@ module _ (C : Code) (z : List ℕ) where
   unfolding all_hold
   one-not m h e = all-not _ m (length C.checks) h e
 
-  -- of all checks
-  pub first-not-all : (ds : List ℕ) (r : CheckAt) (n : ℕ) → n ≡ length C.checks → FirstNot C ds z 0 n r → eqb r.check n ≡ all_hold C z
-  first-not-all ds r n k F =
-      elim (ℕ_discrete r.check n) [
-        | yes e ↦ eq-eqb _ _ e ∙ sym (all_hold_lem (λ j h. F.before_it j (omega arith) (omega arith)))
-        | no e ↦ ne_eqb _ _ e ∙ sym (one-not r.check (omega (arith, F.high)) (F.not_it (omega (arith, F.high))))
-      ]
+  -- of all checks: b is whether there is none
+  pub first-not-all : (ds : List ℕ) (r : Option CheckAt) (b : Bool) → is_some r ≡ not b → (n : ℕ) → n ≡ length C.checks → FirstNot C ds z 0 n r → b ≡ all_hold C z
+  first-not-all ds None true e n k F = sym (all_hold_lem (λ j h. F j (omega arith) (omega arith)))
+  first-not-all ds None false e n k F = absurd (true≢false (sym e))
+  first-not-all ds (Some r) true e n k F = absurd (true≢false e)
+  first-not-all ds (Some r) false e n k F = sym (one-not r.check (omega (arith, F.high)) F.not_it)
 
 module _ (K : Tables) where
   -- what the two loops over the columns leave are the machine's

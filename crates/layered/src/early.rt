@@ -49,34 +49,28 @@ fn decide_again(costs: &[u16], q: usize, columns: &[u16], symbols: &mut [u8]) ->
     changed
 }
 
-// The test from a check on that the symbols did not satisfy before: a check that they do not satisfy, found behind it or else before it;
-// the number of checks where there is none.
-fn unsatisfied_from(code: &Code<'_>, from: CheckAt, symbols: &[u8]) -> CheckAt
+// The test from a check on that the symbols did not satisfy before: a check that they do not satisfy, found behind it or else before it.
+fn unsatisfied_from(code: &Code<'_>, from: CheckAt, symbols: &[u8]) -> Option<CheckAt>
     requires { ParityRoom code.now symbols.now × FromTo code.now from code.now.numbers.checks }
     ensures { SomeNot (code_in code.now) code.now.degrees.now symbols.now result }
 {
     let count = usize::from(code.numbers.checks);
-    let behind = parity::unsatisfied(code, from, count, symbols);
-    if behind.check != count {
-        return behind;
-    }
     let first = CheckAt { check: 0, edge: 0 };
-    let before = parity::unsatisfied(code, first, from.check, symbols);
-    if before.check != from.check {
-        return before;
+    match parity::unsatisfied(code, from, count, symbols) {
+        None => parity::unsatisfied(code, first, from.check, symbols),
+        behind => behind,
     }
-    behind
 }
 
-// The decisions after an update of the check that stands here, and a check that they do not satisfy, or the number of checks. They did
-// not satisfy `from` before it, and its columns alone have other costs now: where none of their symbols changed they still do not.
+// The decisions after an update of the check that stands here, and a check that they do not satisfy. They did not satisfy `from` before
+// it, and its columns alone have other costs now: where none of their symbols changed they still do not.
 fn tested_again(
     code: &Code<'_>,
     here: Place,
     from: CheckAt,
     costs: &[u16],
     symbols: &mut [u8],
-) -> CheckAt
+) -> Option<CheckAt>
     requires { RetestRoom code.now here from costs.now symbols.old }
     ensures test { Retested (code_in code.now) code.now.degrees.now costs.now result }
     ensures symbols_then { symbols.new ≡ symbols_of (code_in code.now) costs.now }
@@ -87,7 +81,7 @@ fn tested_again(
     let e = at + d;
     let q = rules::size(code.numbers.first);
     if decide_again(costs, q, &code.columns[at..e], symbols) == 0 {
-        return from;
+        return Some(from);
     }
     unsatisfied_from(code, from, symbols)
 }
@@ -129,9 +123,9 @@ fn go_on(
             sent,
         );
         u += 1;
-        from = tested_again(code, here, from, costs, symbols);
-        if from.check == count {
-            return Outcome::Found(u);
+        match tested_again(code, here, from, costs, symbols) {
+            None => return Outcome::Found(u),
+            Some(check) => from = check,
         }
         here = place::around(next, count);
     }

@@ -79,9 +79,9 @@ pub struct CheckAt {
     pub edge: usize,
 }
 
-// The first check from `from` on and before `to` that the symbols do not satisfy, "the sum of h_n times x_n is 0"; `to` where they
-// satisfy them all.
-pub fn unsatisfied(code: &Code<'_>, from: CheckAt, to: usize, symbols: &[u8]) -> CheckAt
+// The first check from `from` on and before `to` that the symbols do not satisfy, "the sum of h_n times x_n is 0". Both loops are left
+// at once, by the label.
+pub fn unsatisfied(code: &Code<'_>, from: CheckAt, to: usize, symbols: &[u8]) -> Option<CheckAt>
     requires { ParityRoom code.now symbols.now × FromTo code.now from to }
     ensures { FirstNot (code_in code.now) code.now.degrees.now symbols.now from.check to result }
 {
@@ -89,7 +89,7 @@ pub fn unsatisfied(code: &Code<'_>, from: CheckAt, to: usize, symbols: &[u8]) ->
     let mut at = from.edge;
     'checks: loop {
         if m == to {
-            break 'checks CheckAt { check: m, edge: at };
+            break 'checks None;
         }
         let d = usize::from(code.degrees[m]);
         let mut sum = 0u8;
@@ -97,7 +97,7 @@ pub fn unsatisfied(code: &Code<'_>, from: CheckAt, to: usize, symbols: &[u8]) ->
         loop {
             if n == d {
                 if sum != 0 {
-                    break 'checks CheckAt { check: m, edge: at };
+                    break 'checks Some(CheckAt { check: m, edge: at });
                 }
                 break;
             }
@@ -116,7 +116,7 @@ fn holds(code: &Code<'_>, symbols: &[u8]) -> bool
 {
     let count = usize::from(code.numbers.checks);
     let from = CheckAt { check: 0, edge: 0 };
-    unsatisfied(code, from, count, symbols).check == count
+    unsatisfied(code, from, count, symbols).is_none()
 }
 
 // The decisions into the symbol buffer, and whether they satisfy every check.

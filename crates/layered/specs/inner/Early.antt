@@ -1,6 +1,6 @@
 -- What the functions ask that stop inside an iteration, and the loop's invariant over stop_lent of the machine. proofs/Advances.antt keeps
 -- it.
-use Rattle.std.specs.Prelude.{◌≡◌, false, List, ℕ, ◌+◌, ◌-◌, ◌*◌, ◌%◌, ◌≤◌, ◌<◌, eqb, length, get_or, set}
+use Rattle.std.specs.Prelude.{◌≡◌, true, false, List, ℕ, Option, Some, None, ◌+◌, ◌-◌, ◌*◌, ◌%◌, ◌≤◌, ◌<◌, length, get_or, set}
 use Rattle.trellis.specs.Lists.{upto}
 use Rattle.trellis.specs.Check.{decide}
 use Rattle.trellis.specs.Rules.{size_of}
@@ -42,11 +42,16 @@ pub record RetestRoom (K : Tables) (p : Place) (from : CheckAt) (P z : List ℕ)
       (symbols (code_in K) old)
       ≡ symbols (code_in K) P
 
--- r is the number of checks exactly where the decisions of P satisfy every one
-pub record Retested (C : Code) (ds P : List ℕ) (r : CheckAt) : Type 0 where
+-- r is a check, and the decisions of P do not satisfy every one
+pub record RetestedAt (C : Code) (ds P : List ℕ) (r : CheckAt) : Type 0 where
   pub edge_is : EdgeOf ds r
-  pub high : r.check ≤ length C.checks
-  pub test_is : eqb r.check (length C.checks) ≡ settled C P
+  pub inside : r.check < length C.checks
+  pub unsettled : settled C P ≡ false
+
+-- none where they do
+abbrev pub Retested : Code → List ℕ → List ℕ → Option CheckAt → Type 0
+Retested C ds P (Some r) = RetestedAt C ds P r
+Retested C ds P None = settled C P ≡ true
 
 -- after u updates, which have not satisfied every check: the symbols are the decisions
 pub record Unsettled (K : Tables) (u : ℕ) (P store z : List ℕ) : Type 0 where

@@ -1,5 +1,5 @@
 -- The search for a check that the symbols do not satisfy, over the tables of a code, and what the functions of the parity test ask.
-use Rattle.std.specs.Prelude.{◌≡◌, Bool, true, false, List, ℕ, ◌≤◌, ◌<◌, eqb, length, get_or}
+use Rattle.std.specs.Prelude.{◌≡◌, Bool, true, false, List, ℕ, Option, Some, None, ◌≤◌, ◌<◌, length, get_or}
 use Rattle.trellis.specs.Lists.{all_to}
 use Rattle.trellis.specs.Rules.{size_of}
 use Rattle.machine.specs.CodeLine.{Code, power, check}
@@ -32,19 +32,28 @@ pub record FromTo (K : Tables) (from : CheckAt) (to : ℕ) : Type 0 where
   pub ordered : from.check ≤ to
   pub inside : to ≤ K.numbers.checks
 
--- of the checks from `from` on and before `to` r is the first that is not satisfied, or `to`
-pub record FirstNot (C : Code) (ds z : List ℕ) (from to : ℕ) (r : CheckAt) : Type 0 where
+-- of the checks from `from` on and before `to` r is the first that is not satisfied
+pub record FirstAt (C : Code) (ds z : List ℕ) (from to : ℕ) (r : CheckAt) : Type 0 where
   pub edge_is : EdgeOf ds r
   pub low : from ≤ r.check
-  pub high : r.check ≤ to
+  pub high : r.check < to
   pub before_it : (j : ℕ) → from ≤ j → j < r.check → holds_at C z j ≡ true
-  pub not_it : r.check < to → holds_at C z r.check ≡ false
+  pub not_it : holds_at C z r.check ≡ false
 
--- r is a check that is not satisfied; the number of checks where every one is
-pub record SomeNot (C : Code) (ds z : List ℕ) (r : CheckAt) : Type 0 where
+abbrev pub FirstNot : Code → List ℕ → List ℕ → ℕ → ℕ → Option CheckAt → Type 0
+FirstNot C ds z from to (Some r) = FirstAt C ds z from to r
+FirstNot C ds z from to None = (j : ℕ) → from ≤ j → j < to → holds_at C z j ≡ true
+
+-- r is a check, and not every check is satisfied
+pub record SomeAt (C : Code) (ds z : List ℕ) (r : CheckAt) : Type 0 where
   pub edge_is : EdgeOf ds r
-  pub high : r.check ≤ length C.checks
-  pub test_is : eqb r.check (length C.checks) ≡ all_hold C z
+  pub inside : r.check < length C.checks
+  pub not_all : all_hold C z ≡ false
+
+-- none where every one is
+abbrev pub SomeNot : Code → List ℕ → List ℕ → Option CheckAt → Type 0
+SomeNot C ds z (Some r) = SomeAt C ds z r
+SomeNot C ds z None = all_hold C z ≡ true
 
 -- before the decisions: costs in range, and room for a symbol of each column
 pub record SettledRoom (K : Tables) (P z : List ℕ) : Type 0 where

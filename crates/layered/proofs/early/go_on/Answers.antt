@@ -24,36 +24,13 @@ pub overflow_add-u : goal.overflow_add-u
 overflow_add-u c =
     omega (arith, c.loop-u.invariant.0.at_most, c.if-u-most.false, c.ranges.most)
 
-pub tested_again-from-requires : goal.tested_again-from-requires
-tested_again-from-requires c =
+pub tested_again-requires : goal.tested_again-requires
+tested_again-requires c =
     going_retest c.args.code.now c.args.most (lent c.args.costs.now c.args.store.now) c.loop-u.u c.loop-u.here c.loop-u.from c.loop-u.costs c.loop-u.store c.loop-u.symbols c.loop-u.invariant.0 _ (ap₂ ltb c.from.ensures c.from-count.ensures) _ _ c.update_at-next.ensures.buffers
 
-pub shape_of-symbols-then-from-count : goal.shape_of-symbols-then-from-count
-shape_of-symbols-then-from-count c =
-    omega (arith, c.tested_again-from.auto, c.loop-u.invariant.1.0)
-
-pub shape_of-costs-then-from-count : goal.shape_of-costs-then-from-count
-shape_of-costs-then-from-count c =
-    omega (arith, c.update_at-next.auto, c.loop-u.invariant.1.1.0)
-
-pub shape_of-store-then-from-count : goal.shape_of-store-then-from-count
-shape_of-store-then-from-count c =
-    omega (arith, c.update_at-next.auto, c.loop-u.invariant.1.1.1.0)
-
-pub shape_of-arrived-then-from-count : goal.shape_of-arrived-then-from-count
-shape_of-arrived-then-from-count c =
-    omega (arith, c.update_at-next.auto, c.loop-u.invariant.1.1.1.1.0)
-
-pub shape_of-sent-then-from-count : goal.shape_of-sent-then-from-count
-shape_of-sent-then-from-count c =
-    omega (arith, c.update_at-next.auto, c.loop-u.invariant.1.1.1.1.1)
-
-pub returns-then-from-count : goal.returns-then-from-count
-returns-then-from-count c =
-    record {
-      ends = going_found c.args.code.now c.args.most (lent c.args.costs.now c.args.store.now) c.loop-u.u c.loop-u.here c.loop-u.from c.loop-u.costs c.loop-u.store c.loop-u.symbols c.loop-u.invariant.0 _ (ap₂ ltb c.from.ensures c.from-count.ensures) _ _ c.update_at-next.ensures.buffers (omega (arith, c.loop-u.invariant.0.at_most, c.if-u-most.false)) c.tested_again-from.result c.tested_again-from.ensures.test c.from-count.result c.from-count.ensures c.if-from-count.true;
-      symbols_then = c.tested_again-from.ensures.symbols_then;
-    }
+pub returns-in-None-clause-ends : goal.returns-in-None-clause-ends
+returns-in-None-clause-ends c =
+    going_found c.args.code.now c.args.most (lent c.args.costs.now c.args.store.now) c.loop-u.u c.loop-u.here c.loop-u.from c.loop-u.costs c.loop-u.store c.loop-u.symbols c.loop-u.invariant.0 _ (ap₂ ltb c.from.ensures c.from-count.ensures) _ _ c.update_at-next.ensures.buffers (omega (arith, c.loop-u.invariant.0.at_most, c.if-u-most.false)) (rw c.in-None.is at c.tested_again.ensures.test)
 
 pub loop-u-smaller : goal.loop-u-smaller
 loop-u-smaller c =
@@ -61,4 +38,4 @@ loop-u-smaller c =
 
 pub loop-u-preserved : goal.loop-u-preserved
 loop-u-preserved c =
-    (going_next c.args.code.now c.args.most (lent c.args.costs.now c.args.store.now) c.loop-u.u c.loop-u.here c.loop-u.from c.loop-u.costs c.loop-u.store c.loop-u.symbols c.loop-u.invariant.0 _ (ap₂ ltb c.from.ensures c.from-count.ensures) _ _ c.update_at-next.ensures.buffers (omega (arith, c.loop-u.invariant.0.at_most, c.if-u-most.false)) c.tested_again-from.result c.tested_again-from.ensures.test c.from-count.result c.from-count.ensures c.if-from-count.false c.update_at-next.result _ c.update_at-next.ensures.next c.around-here.ensures _ c.tested_again-from.ensures.symbols_then, (omega (arith, c.tested_again-from.auto, c.loop-u.invariant.1.0), (omega (arith, c.update_at-next.auto, c.loop-u.invariant.1.1.0), (omega (arith, c.update_at-next.auto, c.loop-u.invariant.1.1.1.0), (omega (arith, c.update_at-next.auto, c.loop-u.invariant.1.1.1.1.0), omega (arith, c.update_at-next.auto, c.loop-u.invariant.1.1.1.1.1))))))
+    (going_next c.args.code.now c.args.most (lent c.args.costs.now c.args.store.now) c.loop-u.u c.loop-u.here c.loop-u.from c.loop-u.costs c.loop-u.store c.loop-u.symbols c.loop-u.invariant.0 _ (ap₂ ltb c.from.ensures c.from-count.ensures) _ _ c.update_at-next.ensures.buffers (omega (arith, c.loop-u.invariant.0.at_most, c.if-u-most.false)) c.in-Some.check (rw c.in-Some.is at c.tested_again.ensures.test) c.from-count.result c.from-count.ensures c.update_at-next.result _ c.update_at-next.ensures.next c.around-here.ensures _ c.tested_again.ensures.symbols_then, (omega (arith, c.tested_again.auto, c.loop-u.invariant.1.0), (omega (arith, c.update_at-next.auto, c.loop-u.invariant.1.1.0), (omega (arith, c.update_at-next.auto, c.loop-u.invariant.1.1.1.0), (omega (arith, c.update_at-next.auto, c.loop-u.invariant.1.1.1.1.0), omega (arith, c.update_at-next.auto, c.loop-u.invariant.1.1.1.1.1))))))

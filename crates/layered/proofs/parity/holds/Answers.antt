@@ -12,4 +12,4 @@ unsatisfied-requires c =
 
 pub returns : goal.returns
 returns c =
-    first-not-all (code_in c.args.code.now) c.args.symbols.now c.args.code.now.degrees.now c.unsatisfied.result c.from-count.result (c.from-count.ensures ∙ sym (checks-count c.args.code.now)) c.unsatisfied.ensures
+    first-not-all (code_in c.args.code.now) c.args.symbols.now c.args.code.now.degrees.now c.unsatisfied.result c.is_none.result c.is_none.ensures c.from-count.result (c.from-count.ensures ∙ sym (checks-count c.args.code.now)) c.unsatisfied.ensures

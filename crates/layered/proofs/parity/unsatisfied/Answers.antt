@@ -53,8 +53,15 @@ checks-preserved c =
 
 pub returns-then-m-to : goal.returns-then-m-to
 returns-then-m-to c =
-    record { edge_is = c.checks.invariant.1.1.0; low = c.checks.invariant.0; high = c.checks.invariant.1.0; before_it = c.checks.invariant.1.1.1; not_it = λ (h : c.checks.m < c.args.to). absurd (omega (arith, h, c.if-m-to.true)) }
+    λ j h i. c.checks.invariant.1.1.1 j h (omega (arith, i, c.if-m-to.true))
 
 pub returns-then-sum-ne0 : goal.returns-then-sum-ne0
 returns-then-sum-ne0 c =
-    let h = (let h : c.checks.m < c.args.code.now.numbers.checks = omega (arith, c.requires.1.inside, c.checks.invariant) in h) in record { edge_is = c.checks.invariant.1.1.0; low = c.checks.invariant.0; high = c.checks.invariant.1.0; before_it = c.checks.invariant.1.1.1; not_it = λ _. sum-not (code_in c.args.code.now) c.args.symbols.now c.checks.m c.from-d.result c.loop-n.n c.loop-n.sum (degree c.args.code.now c.args.symbols.now c.requires.0 c.checks.m c.loop-n.n c.checks.at c.from-d.result h c.checks.invariant.1.1.0 c.from-d.ensures) c.if-n-d.true c.loop-n.invariant.1 c.if-sum-ne0.true }
+    let h : c.checks.m < c.args.code.now.numbers.checks = omega (arith, c.requires.1.inside, c.checks.invariant) in
+    record {
+      edge_is = c.checks.invariant.1.1.0;
+      low = c.checks.invariant.0;
+      high = omega (arith, c.checks.invariant);
+      before_it = c.checks.invariant.1.1.1;
+      not_it = sum-not (code_in c.args.code.now) c.args.symbols.now c.checks.m c.from-d.result c.loop-n.n c.loop-n.sum (degree c.args.code.now c.args.symbols.now c.requires.0 c.checks.m c.loop-n.n c.checks.at c.from-d.result h c.checks.invariant.1.1.0 c.from-d.ensures) c.if-n-d.true c.loop-n.invariant.1 c.if-sum-ne0.true;
+    }
