@@ -1,18 +1,17 @@
 -- Blocks of sixteen rows: exclusive or with multiples of sixteen, lists filled block by block.
 use mathlib.Core.Path.{◌≡◌, refl, sym, ap, ap₂, ◌∙◌}
 use mathlib.Core.List.{List, [], ◌∷◌, ◌++◌, append_assoc, append-nil}
-use Prim.Native.Nat.{ℕ, zero, suc, ◌+◌, ◌-◌, ◌*◌, ◌/◌, ◌%◌, ◌^◌, ◌≤◌, ◌<◌, max}
+use Prim.Native.Nat.{ℕ, zero, suc, ◌+◌, ◌-◌, ◌/◌, ◌%◌, ◌^◌, ◌≤◌, ◌<◌, max}
 use native.Mathlib.Nat.{add-zero}
 use native.Mathlib.Omega.{arith}
 use lib.ListN.{length, drop, take, get_or, length-take, length-drop}
-use lib.Seq.{ext_get_or, get_or-take, get_or-drop, take_at, drop_at, drop-drop, take_all}
-use lib.Bits.{bit_xor, xor_shr, xor_mod, xor_zero_l}
+use lib.Seq.{ext_get_or, get_or-take, get_or-drop, take_at, drop_at, drop-drop}
+use lib.Bits.{xor_shr, xor_mod, xor_zero_l}
 use Rattle.trellis.specs.Lists.{tab}
 use Rattle.trellis.specs.Field.{xor}
-use Rattle.trellis.proofs.Xor.{xor_assoc, xor_comm, xor_lt, xor_self, xor_right}
+use Rattle.trellis.proofs.Xor.{xor_assoc, xor_comm, xor_self, xor_right}
 use Rattle.trellis.proofs.Loops.{tab-length, length-tab, get_d_tab, tab_ext}
-use Rattle.tables.specs.declared.rests.Four.{Four}
-use Rattle.tables.specs.inner.Lanes.{lane_at, lanes, Wide, four_at}
+use Rattle.tables.specs.inner.Lanes.{lanes}
 
 -- what two numbers share modulo sixteen
 xor_sixteen : (x y : ℕ) → (xor x y / 16 ≡ xor (x / 16) (y / 16)) × (xor x y % 16 ≡ xor (x % 16) (y % 16))
@@ -55,14 +54,6 @@ power-even l b e h k = go b e h k
     go (suc (suc (suc (suc (suc (suc zero)))))) e h k = let q : l ≡ 64 = e in rw q (refl, (omega arith, omega arith))
     go (suc (suc (suc (suc (suc (suc (suc b))))))) e h k = absurd (omega arith)
 
--- a block inside a table
-pub block_inside : (l t v : ℕ) → Wide l t → v % 16 ≡ 0 → v < l → (xor v t + 16 ≤ l) × (v + 16 ≤ l)
-block_inside l t v W h k =
-    let p = power-even l W.bits W.power W.least W.most in
-    let i : xor v t < l = rw W.power (xor_lt W.bits v t (rw W.power at k) (rw W.power at W.inside)) in
-    let e = xor-even v t h W.even in
-    (omega arith, omega arith)
-
 pub tab-append : (f : ℕ → ℕ) (n m : ℕ) → tab f (n + m) ≡ tab f n ++ tab (λ i. f (n + i)) m
 tab-append f n zero = rw (add-zero n) (sym (append-nil (tab f n)))
 tab-append f n (suc m) =
@@ -91,44 +82,6 @@ block_seam f d out v i e h =
     let a : v + 16 - v ≡ 16 = omega arith in
     let u : drop v (tab f v ++ drop v d) ≡ drop v d = drop_at (tab f v) (drop v d) v (length-tab f v) in
     rw (a, e, u) (get_or-take 16 (drop v d) i 0 h ∙ get_or-drop v d i 0)
-
-module _ (f : Four) (s : List ℕ) (at turn l : ℕ) (d out : List ℕ) (v : ℕ) (W : Wide l turn) (even : v % 16 ≡ 0) (inside : v < l) (full : length d ≡ l)
-    (filled : out ≡ tab (four_at f s at turn l d) v ++ drop v d) where
-  tail_at : (a n i : ℕ) → n ≡ length s → get_or (take (n - a) (drop a s)) i 0 ≡ get_or s (a + i) 0
-  tail_at a n i e = ap (λ y. get_or y i 0) (take_all (n - a) (drop a s) (omega (arith, length-drop a s))) ∙ get_or-drop a s i 0
-
-  lane-is : (a n i : ℕ) → n ≡ length s → a ≡ at + xor v turn → i < 16 → lane_at f (take (n - a) (drop a s)) l (take (v + 16 - v) (drop v out)) i ≡ four_at f s at turn l d (v + i)
-  unfolding lane_at four_at
-  lane-is a n i e k h =
-      let t = turn_lane v turn i even W.even h in
-      let p : a + i ≡ at + xor (v + i) turn = omega arith in
-      let p1 : a + (l + i) ≡ at + xor (v + i) turn + l = omega arith in
-      let p2 : a + (2 * l + i) ≡ at + xor (v + i) turn + 2 * l = omega arith in
-      let p3 : a + (3 * l + i) ≡ at + xor (v + i) turn + 3 * l = omega arith in
-      rw (
-        block_seam (four_at f s at turn l d) d out v i filled h,
-        tail_at a n i e ∙ ap (λ y. get_or s y 0) p,
-        tail_at a n (l + i) e ∙ ap (λ y. get_or s y 0) p1,
-        tail_at a n (2 * l + i) e ∙ ap (λ y. get_or s y 0) p2,
-        tail_at a n (3 * l + i) e ∙ ap (λ y. get_or s y 0) p3,
-      )
-
-  pub four_turn : (a n b : ℕ) {r : List ℕ} → n ≡ length s → a ≡ at + xor v turn → b ≡ v + 16 → r ≡ lanes (lane_at f (take (n - a) (drop a s)) l (take (b - v) (drop v out)))
-      → let next : List ℕ = take v out ++ (r ++ drop (b - v) (drop v out)) in
-      (length next ≡ length d) × (next ≡ tab (four_at f s at turn l d) (v + 16) ++ drop (v + 16) d)
-  four_turn a n b {r} e k u o =
-      let i = block_inside l turn v W even inside in
-      let t : take v out ++ (r ++ drop (b - v) (drop v out)) ≡ tab (four_at f s at turn l d) (v + 16) ++ drop (v + 16) d =
-      rw u (block_turn (four_at f s at turn l d) (lane_at f (take (n - a) (drop a s)) l (take (v + 16 - v) (drop v out))) d out v filled (rw u at o) (λ j h. lane-is a n j e k h)) in
-      (ap length t ∙ tab-length (four_at f s at turn l d) d (v + 16) (omega (arith, i)), t)
-
-pub place_is : (at turn l v : ℕ) {r : ℕ} → Wide l turn → v % 16 ≡ 0 → v < l → r ≡ at + bit_xor v turn → (r ≡ at + xor v turn) × ((r + 3 * l + 16 ≤ at + 4 * l) × (v + 16 ≤ l))
-unfolding xor
-place_is at turn l v W h k e = let i = block_inside l turn v W h k in (e, (omega (arith, e, i), omega (arith, i)))
-
-pub place-small : (turn l v : ℕ) → Wide l turn → v % 16 ≡ 0 → v < l → bit_xor v turn < l
-unfolding xor
-place-small turn l v W h k = let i = block_inside l turn v W h k in omega (arith, i)
 
 part_at : (w : List ℕ) (v b i : ℕ) → b ≡ v + 16 → i < 16 → get_or (take (b - v) (drop v w)) i 0 ≡ get_or w (v + i) 0
 part_at w v b i e h = let a : b - v ≡ 16 = omega arith in rw a (get_or-take 16 (drop v w) i 0 h ∙ get_or-drop v w i 0)

@@ -2,31 +2,29 @@
 use mathlib.Core.Path.{◌≡◌, sym, ap, ap₂, ◌∙◌}
 use mathlib.Core.Bool.{Bool}
 use mathlib.Core.List.{List, [], ◌++◌, append-nil}
-use Prim.Native.Nat.{ℕ, zero, suc, ◌+◌, ◌-◌, ◌*◌, ◌%◌, ◌≤◌, ◌<◌, min, max}
+use Prim.Native.Nat.{ℕ, zero, suc, ◌+◌, ◌-◌, ◌*◌, ◌%◌, ◌≤◌, ◌<◌, max}
 use native.Mathlib.Nat.{suc-mul, mul-le-mul_right}
 use lib.Seq.{take_at, drop_at, drop-drop, take_all, get_or-take}
 use Rattle.trellis.proofs.Loops.{length-tab, tab_ext}
 use native.Mathlib.Omega.{arith}
 use lib.ListN.{length, drop, take, get_or, length-append, length-take, length-drop, drop_of_length-le}
 use Rattle.trellis.specs.Lists.{tab, blocks, part, patch}
-use Rattle.tables.specs.inner.Lanes.{Copied, join_to}
 use Rattle.tables.specs.inner.Tables.{Table, risen_at, risen_in, grown_at, grown_list, after_to}
-use Rattle.tables.proofs.Copying.{rise_is, mul-even}
+use Rattle.tables.proofs.Copying.{mul-even}
 use Rattle.tables.proofs.Parts.{past_first, part-front, part_twice, take-front, take_twice, blocks-length, blocks-drop, part_of, patch_turn, fill_end}
 
--- table j with a column taken in, by copies and a join
-pub rise_in_is : (g : Bool) (q l k : ℕ) (line d s : List ℕ) (j m n : ℕ) {r : List ℕ} → 1 ≤ j → m ≡ j * l → n ≡ m + l → Table l → q ≤ l
-    → Copied (min 16 q) l (take (m - (m - l)) (drop (m - l) d)) s → r ≡ tab (join_to g line s l (take (n - m) (drop m d)) q) l
+-- table j with a column taken in, by a join with a copy of the table below it
+pub rise_in_is : (g : Bool) (q l k : ℕ) (line d s : List ℕ) (j m n : ℕ) {r : List ℕ} → 1 ≤ j → m ≡ j * l → n ≡ m + l
+    → s ≡ take (m - (m - l)) (drop (m - l) d) → r ≡ tab (risen_at g q line s (take (n - m) (drop m d))) l
     → take m d ++ (r ++ drop (n - m) (drop m d)) ≡ risen_in g q l k line d j
 unfolding risen_in
-rise_in_is g q l k line d s j m n {r} h em en W w C o =
+rise_in_is g q l k line d s j m n {r} h em en C o =
     let p = past_first j l h in
     let a : n - m ≡ l = omega arith in
     let b : m - (m - l) ≡ l = omega arith in
-    let t = rise_is g q l line (take (m - (m - l)) (drop (m - l) d)) s (take (n - m) (drop m d)) W w C o in
-    let low : take (m - (m - l)) (drop (m - l) d) ≡ part d (j * l - l) l = ap (λ y. take y (drop (m - l) d)) b ∙ ap (λ y. take l (drop (y - l) d)) em in
+    let low : s ≡ part d (j * l - l) l = C ∙ ap (λ y. take y (drop (m - l) d)) b ∙ ap (λ y. take l (drop (y - l) d)) em in
     let top : take (n - m) (drop m d) ≡ part d (j * l) l = ap (λ y. take y (drop m d)) a ∙ ap (λ y. take l (drop y d)) em in
-    let u : r ≡ tab (risen_at g q line (part d (j * l - l) l) (part d (j * l) l)) l = t ∙ ap₂ (λ x y. tab (risen_at g q line x y) l) low top in
+    let u : r ≡ tab (risen_at g q line (part d (j * l - l) l) (part d (j * l) l)) l = o ∙ ap₂ (λ x y. tab (risen_at g q line x y) l) low top in
     ap₂ {C = List ℕ} (λ x y. take m d ++ (x ++ drop y (drop m d))) u a
     ∙ ap (λ y. take y d ++ (tab (risen_at g q line (part d (j * l - l) l) (part d (j * l) l)) l ++ drop l (drop y d))) em
 

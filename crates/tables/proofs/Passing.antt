@@ -2,7 +2,7 @@
 use mathlib.Core.Path.{◌≡◌, sym, ap, ap₂, ◌∙◌}
 use mathlib.Core.Bool.{Bool, true, false}
 use mathlib.Core.List.{List}
-use Prim.Native.Nat.{ℕ, zero, suc, ◌+◌, ◌-◌, ◌*◌, ◌≤◌, ◌<◌, min, max}
+use Prim.Native.Nat.{ℕ, zero, suc, ◌+◌, ◌-◌, ◌*◌, ◌≤◌, ◌<◌, max}
 use native.Mathlib.Nat.{suc-mul, mul-le-mul_right}
 use native.Mathlib.Omega.{arith}
 use borrow.Author.Tests.{eq-eqb, ne_eqb}
@@ -10,9 +10,7 @@ use lib.Dec.{eqb}
 use lib.ListN.{length, drop, take, get_or, length-take, length-drop}
 use Rattle.trellis.specs.Lists.{pick, tab, blocks, part}
 use Rattle.trellis.proofs.Loops.{length-tab}
-use Rattle.tables.specs.inner.Lanes.{Copied, join_to}
-use Rattle.tables.specs.inner.Tables.{Table, risen_at, met_in, grown_at, grown_list, after_to, before_to, last_table, sent_to, sent_row, sent_rows}
-use Rattle.tables.proofs.Copying.{rise_is}
+use Rattle.tables.specs.inner.Tables.{risen_at, met_in, grown_at, grown_list, after_to, before_to, last_table, sent_to, sent_row, sent_rows}
 use Rattle.tables.proofs.Parts.{past_first, part_of, blocks-length, blocks-part}
 use Rattle.tables.proofs.Growing.{Half, half_low, after-length}
 
@@ -24,17 +22,16 @@ apart_is g q l k before after t n {o} {r} et en eo lo er =
     er ∙ ap (tab (λ a. max (get_or o a 0) (get_or (take (n - t) (drop t before)) a 0))) lo
     ∙ ap₂ (λ x y. tab (λ a. max (get_or x a 0) (get_or y a 0)) l) (eo ∙ part_of after t n (k - 1) l et en) (part_of before t n (k - 1) l et en)
 
--- some deviations on either side, by copies and a join
-pub met_is : (g : Bool) (q l k : ℕ) (before after out s : List ℕ) (j m a b : ℕ) {r : List ℕ} → 1 ≤ j → m ≡ j * l → a ≡ (k - 1 - j) * l → b ≡ a + l → Table l → q ≤ l
-    → Copied (min 16 q) l (take (m - (m - l)) (drop (m - l) before)) s → r ≡ tab (join_to g (take (b - a) (drop a after)) s l out q) l
+-- some deviations on either side, by a join with a copy of a table before
+pub met_is : (g : Bool) (q l k : ℕ) (before after out s : List ℕ) (j m a b : ℕ) {r : List ℕ} → 1 ≤ j → m ≡ j * l → a ≡ (k - 1 - j) * l → b ≡ a + l
+    → s ≡ take (m - (m - l)) (drop (m - l) before) → r ≡ tab (risen_at g q (take (b - a) (drop a after)) s out) l
     → r ≡ met_in g q l k before after out j
 unfolding met_in
-met_is g q l k before after out s j m a b h em ea eb W w C o =
+met_is g q l k before after out s j m a b h em ea eb C o =
     let p = past_first j l h in
     let c : m - (m - l) ≡ l = omega arith in
-    let low : take (m - (m - l)) (drop (m - l) before) ≡ part before (j * l - l) l = ap (λ y. take y (drop (m - l) before)) c ∙ ap (λ y. take l (drop (y - l) before)) em in
-    rise_is g q l (take (b - a) (drop a after)) (take (m - (m - l)) (drop (m - l) before)) s out W w C o
-    ∙ ap₂ (λ x y. tab (risen_at g q x y out) l) (part_of after a b (k - 1 - j) l ea eb) low
+    let low : s ≡ part before (j * l - l) l = C ∙ ap (λ y. take y (drop (m - l) before)) c ∙ ap (λ y. take l (drop (y - l) before)) em in
+    o ∙ ap₂ (λ x y. tab (risen_at g q x y out) l) (part_of after a b (k - 1 - j) l ea eb) low
 
 pub sent-length : (g : Bool) (q l k : ℕ) (before after : List ℕ) (i : ℕ) → length (sent_to g q l k before after i) ≡ l
 unfolding sent_to

@@ -1,24 +1,13 @@
 -- Turns of loops that fill a list from the front.
-use mathlib.Core.Path.{◌≡◌, ap, ap₂, ◌∙◌}
-use mathlib.Core.Bool.{Bool, true, false}
+use mathlib.Core.Path.{◌≡◌, ap, ◌∙◌}
 use mathlib.Core.List.{List, ◌++◌}
-use Prim.Native.Nat.{ℕ, ◌+◌, ◌-◌, ◌*◌, ◌<◌, min, max}
+use Prim.Native.Nat.{ℕ, ◌+◌, ◌<◌}
 use native.Mathlib.Omega.{arith}
 use lib.ListN.{length, drop, get_or, set}
 use lib.Seq.{ext_get_or}
 use Rattle.trellis.specs.Lists.{tab}
 use Rattle.trellis.proofs.Loops.{tab-more, tab_whole, length-tab, get_d_tab}
-use Rattle.tables.specs.declared.rests.Four.{Four}
-use Rattle.tables.specs.inner.Lanes.{cut, taken, two_of, lane_at, lanes}
-
-pub cut_lower : {g : Bool} (v x : ℕ) {r : ℕ} → g ≡ true → r ≡ min v x → r ≡ cut g v x
-cut_lower v x e o = rw e o
-
-pub cut_left : {g : Bool} (v x : ℕ) {r : ℕ} → g ≡ false → r ≡ v - x → r ≡ cut g v x
-cut_left v x e o = rw e o
-
-pub taken-cost : {g : Bool} (u : ℕ) {r : ℕ} → g ≡ false → r ≡ 255 - u → r ≡ taken g u
-taken-cost u e o = rw e o
+use Rattle.tables.specs.inner.Lanes.{lanes}
 
 pub list_tab : (l : List ℕ) → tab (λ k. get_or l k 0) (length l) ≡ l
 list_tab l = ext_get_or 0 (tab (λ k. get_or l k 0) (length l)) l (length-tab _ (length l)) (λ i h. get_d_tab (λ k. get_or l k 0) (length l) i (omega (arith, length-tab (λ k. get_or l k 0) (length l))))
@@ -44,9 +33,3 @@ lanes-length f = length-tab f 16
 pub lanes_at : (f : ℕ → ℕ) (i : ℕ) → i < 16 → get_or (lanes f) i 0 ≡ f i
 unfolding lanes
 lanes_at f i h = get_d_tab f 16 i h
-
-pub lane_value : (f : Four) (s : List ℕ) (l : ℕ) (e : List ℕ) (i : ℕ) {a b c r : ℕ}
-    → a ≡ two_of f.greatest f.x (get_or s i 0) f.y (get_or s (l + i) 0)
-    → b ≡ two_of f.greatest f.z (get_or s (2 * l + i) 0) f.w (get_or s (3 * l + i) 0) → c ≡ max a b → r ≡ max (get_or e i 0) c → r ≡ lane_at f s l e i
-unfolding lane_at
-lane_value f s l e i p q o u = u ∙ ap (max (get_or e i 0)) (o ∙ ap₂ max p q)

@@ -2,7 +2,6 @@
 #![tactic(auto)]
 
 mod block;
-mod copies;
 mod grow;
 mod join;
 mod lane;
