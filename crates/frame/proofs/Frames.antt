@@ -1,14 +1,19 @@
 -- The laws behind a frame's tests: a turn of the loops over columns and costs, and the tests in their order.
 use mathlib.Core.Path.{◌≡◌, refl, sym, ap, ◌∙◌}
-use mathlib.Core.Bool.{Bool, true, false, not}
-use mathlib.Core.List.{List}
-use Prim.Native.Nat.{ℕ, ◌+◌, ◌-◌, ◌*◌, ◌≤◌, ◌<◌, min}
+use mathlib.Core.Bool.{Bool, true, false}
+use mathlib.Core.Logic.{◌≢◌}
+use mathlib.Core.List.{List, [], ◌∷◌, map}
+use Prim.Native.Nat.{ℕ, ◌+◌, ◌-◌, ◌*◌, ◌<◌, min}
 use native.Mathlib.Nat.{add-sub_cancel_left}
 use native.Mathlib.Numerals.{add-one}
 use native.Mathlib.Omega.{arith}
 use lib.Dec.{eqb, ltb}
+use borrow.Author.Rules.{rules}
 use borrow.Author.Tests.{eqb-true, eq-eqb, ne_eqb}
-use lib.ListN.{length}
+use lib.ListN.{length, take, drop}
+use Rattle.std.proofs.lemmas.List.{take-map, drop-map}
+use Rattle.refusal.specs.Numbers.{number_of}
+use Rattle.refusal.specs.declared.Refusal.{Refusal}
 use Rattle.trellis.specs.Lists.{part, all_to, pick}
 use Rattle.trellis.specs.Check.{first_zero}
 use Rattle.trellis.specs.Refusals.{fault_by}
@@ -22,43 +27,26 @@ use Rattle.machine.proofs.Lists.{all-not}
 use Rattle.codeline.specs.declared.answers.Numbers.{Numbers}
 use Rattle.frame.specs.Answers.{frame_fault_of, room_fault_of, fault_of}
 
-not_false : (b : Bool) → not b ≡ false → b ≡ true
-not_false true h = refl
-not_false false h = sym h
-
-not_true : (b : Bool) → not b ≡ true → b ≡ false
-not_true true h = sym h
-not_true false h = refl
-
 -- a column's test, by the place of its first zero
-pub zero_told : (q c z : ℕ) (f : List ℕ) → z ≡ first_zero (part f (c * q) (c * q + q - c * q)) → ltb z q ≡ zero_in q f c
-zero_told q c z f e = rw (e, add-sub_cancel_left (c * q) q)
+pub zero_told : {A : Type 0} (v : A → ℕ) (q c z : ℕ) (l : List A) → z ≡ first_zero (map v (take (c * q + q - c * q) (drop (c * q) l))) → ltb z q ≡ zero_in q (map v l) c
+zero_told v q c z l e =
+    let w : map v (take q (drop (c * q) l)) ≡ part (map v l) (c * q) q = sym (take-map v q (drop (c * q) l)) ∙ ap (take q) (sym (drop-map v (c * q) l)) in
+    rw (e, add-sub_cancel_left (c * q) q, w)
 
--- a loop that ends at the first test that fails: of n tests those before i passed
-pub record PassedTo (p : ℕ → Bool) (n i : ℕ) : Type 0 where
-  pub inside : i ≤ n
-  pub passed : all_to p i ≡ true
+-- a loop that ends at the first test that fails
+pub all_more : (p : ℕ → Bool) (i : ℕ) → all_to p i ≡ true → p i ≡ true → all_to p (i + 1) ≡ true
+all_more p i h e = rw (add-one i, h, e)
 
-module _ {p : ℕ → Bool} {n i : ℕ} (o : PassedTo p n i) where
-  pub passed_all : n ≤ i → true ≡ all_to p n
-  passed_all h = let e : i ≡ n = omega arith in rw (← e) (sym o.passed)
+pub zeros_fail : (q n c : ℕ) (l : List ℕ) → c < n → zero_in q l c ≡ false → all_to (zero_in q l) n ≡ false
+zeros_fail q n c l h e = all-not (zero_in q l) c n h e
 
-  module _ {r : Bool} (h : i < n) (e : r ≡ p i) where
-    pub passed_more : not r ≡ false → PassedTo p n (i + 1)
-    passed_more k = record { inside = omega arith; passed = rw (add-one i, o.passed, ← e) (not_false r k) }
-
-    pub passed_not : not r ≡ true → false ≡ all_to p n
-    passed_not k = sym (all-not p i n h (sym e ∙ not_true r k))
-
--- the frame's tests
-module _ (first n q : ℕ) (f : List ℕ) (e : q ≡ size_of first) where
-  pub fault_count : (length f ≡ n * q → ⊥) → 12 ≡ frame_fault_of first n f
-  unfolding frame_fault_of
-  fault_count h = rw (ne_eqb (length f) (n * size_of first) (λ k. h (k ∙ ap (λ y. n * y) (sym e))))
-
-  pub fault_zeros : (b : Bool) → length f ≡ n * q → b ≡ all_to (zero_in q f) n → pick b 0 13 ≡ frame_fault_of first n f
-  unfolding frame_fault_of
-  fault_zeros b h o = rw (eq-eqb (length f) (n * size_of first) (h ∙ ap (λ y. n * y) e), ← e, ← o)
+-- costs that are numbers as they are
+pub zeros_plain : (q n : ℕ) (l : List ℕ) → all_to (zero_in q (map (λ x. x) l)) n ≡ all_to (zero_in q l) n
+zeros_plain q n l = ap (λ k. all_to (zero_in q k) n) (plain l)
+  where
+    plain : (l : List ℕ) → map (λ x. x) l ≡ l
+    plain [] = refl
+    plain (x ∷ l) = ap {B = List ℕ} (λ k. x ∷ k) (plain l)
 
 pub frame-counted : (first n : ℕ) (f : List ℕ) → frame_fault_of first n f ≡ 0 → length f ≡ n * size_of first
 unfolding frame_fault_of
@@ -87,11 +75,15 @@ fault_by_lem : (k : Numbers) (ds f : List ℕ) (y c s v : ℕ)
 unfolding fault_of frame_fault_of room_fault_of
 fault_by_lem k ds f y c s v = decode_parts (size_of k.first) k.columns (bytes_before k.first ds (min k.checks (length ds))) f y c s v
 
-module _ (k : Numbers) (ds f : List ℕ) (y c s v r : ℕ) (e : r ≡ frame_fault_of k.first k.columns f) where
-  pub fault_frame : (r ≡ 0 → ⊥) → r ≡ fault_of k ds f y c s v
-  fault_frame h = e ∙ rw (fault_by_lem k ds f y c s v, ne_eqb (frame_fault_of k.first k.columns f) 0 (λ z. h (e ∙ z)))
+-- no refusal has the number 0
+some_number : (r : Refusal) → number_of r ≢ 0
+some_number r = search rules
 
-  pub fault_room : r ≡ 0 → (n w u x : ℕ) → n ≡ k.columns → w ≡ length f → u ≡ bytes_before k.first ds (min k.checks (length ds))
-      → x ≡ room_fault_of n w u y c s v → x ≡ fault_of k ds f y c s v
-  fault_room h n w u x i j l o =
-      o ∙ rw (fault_by_lem k ds f y c s v, i, j, l, frame-counted k.first k.columns f (sym e ∙ h), eq-eqb (frame_fault_of k.first k.columns f) 0 (sym e ∙ h))
+module _ (k : Numbers) (ds f : List ℕ) (y c s v : ℕ) where
+  pub decode_refused : (r : Refusal) → number_of r ≡ frame_fault_of k.first k.columns f → number_of r ≡ fault_of k ds f y c s v
+  decode_refused r e = e ∙ rw (fault_by_lem k ds f y c s v, ne_eqb (frame_fault_of k.first k.columns f) 0 (λ z. some_number r (e ∙ z)))
+
+  pub decode_room : (n u x : ℕ) → 0 ≡ frame_fault_of k.first k.columns f → n ≡ k.columns → u ≡ bytes_before k.first ds (min k.checks (length ds))
+      → x ≡ room_fault_of n (length f) u y c s v → x ≡ fault_of k ds f y c s v
+  decode_room n u x e i j o =
+      o ∙ rw (fault_by_lem k ds f y c s v, i, j, frame-counted k.first k.columns f (sym e), eq-eqb (frame_fault_of k.first k.columns f) 0 (sym e))

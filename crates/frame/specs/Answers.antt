@@ -1,14 +1,15 @@
 -- What each public call answers, by the numbers of a line and its degrees: refusals in the documents' order, 0 for none.
 -- layered/proofs/{Decoded,Steps}.antt show that under a code these are the machine's.
-use Rattle.std.specs.Prelude.{Bool, ◌&&◌, ◌||◌, List, [], ◌∷◌, ℕ, ◌*◌, min, eqb, leb, length, get_or}
+use Rattle.std.specs.Prelude.{Bool, ◌&&◌, ◌||◌, List, [], ◌∷◌, ℕ, ◌*◌, min, eqb, ltb, leb, length, get_or}
 use Rattle.trellis.specs.Lists.{all_to, part}
-use Rattle.trellis.specs.Refusals.{unless, fault_by}
+use Rattle.trellis.specs.Refusals.{when, unless, fault_by}
 use Rattle.trellis.specs.Record.{record_length, record_ok}
 use Rattle.trellis.specs.Rules.{size_of, rule_for}
 use Rattle.machine.specs.CodeLine.{frame_tests, zero_in}
 use Rattle.machine.specs.Decoding.{room_tests, decode_tests}
 use Rattle.machine.specs.inner.Tables.{bytes_before}
 use Rattle.codeline.specs.declared.answers.Numbers.{Numbers}
+use Rattle.frame.specs.declared.Lengths.{Lengths}
 
 -- a frame's refusal by the first byte and N
 unfoldable pub frame_fault_of : ℕ → ℕ → List ℕ → ℕ
@@ -17,6 +18,16 @@ frame_fault_of first n f = fault_by (frame_tests (size_of first) n f)
 -- that of the buffers by their lengths
 unfoldable pub room_fault_of : ℕ → ℕ → ℕ → ℕ → ℕ → ℕ → ℕ → ℕ
 room_fault_of n w u y c s v = fault_by (room_tests n w u y c s v)
+
+-- the same, of each buffer by what it needs itself
+abbrev pub short_fault : Lengths → Lengths → ℕ
+short_fault needed lent =
+    fault_by
+    (when (ltb lent.symbols needed.symbols) 2
+    ∷ when (ltb lent.costs needed.costs) 3
+    ∷ when (ltb lent.store needed.store) 4
+    ∷ when (ltb lent.margins needed.margins) 19
+    ∷ [])
 
 -- both, "12, 13, 2, 3, 4", 19
 unfoldable pub fault_of : Numbers → List ℕ → List ℕ → ℕ → ℕ → ℕ → ℕ → ℕ

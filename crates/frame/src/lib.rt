@@ -6,73 +6,81 @@ mod columns;
 mod stored;
 
 ghost use Rattle.std.specs.Prelude.{◌≡◌, min, length};
+ghost use Rattle.refusal.specs.Replies.{fault_of as refusal_of};
 ghost use Rattle.machine.specs.inner.Tables.{bytes_before};
 ghost use Rattle.slices.specs.Copies.{copied_to};
-ghost use Rattle.frame.specs.Answers.{frame_fault_of, room_fault_of, fault_of, resume_fault};
+ghost use Rattle.frame.specs.Answers.{frame_fault_of, room_fault_of, short_fault, fault_of, resume_fault};
 
 use codeline::answers::Numbers;
+use refusal::Refusal;
 
-// "12, cost count wrong; 13, a column without a cost of 0"; 0 for none.
-pub fn frame_fault(numbers: Numbers, frame: &[u8]) -> u8
-    ensures { result ≡ frame_fault_of numbers.first numbers.columns frame.now }
+// How many elements the symbol buffer, the cost buffer, the store and the margin buffer have, or need.
+#[derive(Clone, Copy, Debug, PartialEq, Eq)]
+pub struct Lengths {
+    pub symbols: usize,
+    pub costs: usize,
+    pub store: usize,
+    pub margins: usize,
+}
+
+// "12, cost count wrong; 13, a column without a cost of 0".
+#[tactic(auto, unfolding(crate::specs::Answers::frame_fault_of))]
+pub fn validate_frame(numbers: Numbers, frame: &[u8]) -> Result<(), Refusal>
+    ensures { refusal_of result ≡ frame_fault_of numbers.first numbers.columns frame.now }
 {
-    let n = scalar::u16_to_usize(numbers.columns);
+    let n = usize::from(numbers.columns);
     let q = rules::size(numbers.first);
     if frame.len() != n * q {
-        return 12;
+        return Err(Refusal::CostCount);
     }
-    if columns::zeros_u8(frame, q, n) {
-        return 0;
+    if !columns::zeros(frame, q, n) {
+        return Err(Refusal::NoZeroCost);
     }
-    13
+    Ok(())
 }
 
 // "as many bytes as the M record lengths add up to": of the first M of these degrees.
+#[tactic(auto, using(crate::proofs::Resuming::groups_small, crate::proofs::Resuming::bytes_none, crate::proofs::Resuming::place_more))]
 pub fn used(numbers: Numbers, degrees: &[u8]) -> usize
     ensures { result
         ≡ bytes_before numbers.first degrees.now (min numbers.checks (length degrees.now)) }
 {
     let groups = rules::groups(numbers.first);
-    let count = scalar::min_usize(scalar::u8_to_usize(numbers.checks), degrees.len());
+    let count = usize::from(numbers.checks).min(degrees.len());
     let mut sum = 0;
-    let mut m = 0;
-    while m < count {
-        let d = scalar::u8_to_usize(degrees[m]);
-        sum += d + groups;
-        m += 1;
+    for &d in &degrees[..count] {
+        sum += usize::from(d) + groups;
     }
     sum
 }
 
-// 2, 3, 4 and 19 by the lengths of the symbol buffer, the cost buffer, the store and the margin buffer; 0 for none.
-pub fn room_fault(
-    n: usize,
-    w: usize,
-    u: usize,
-    symbols: usize,
-    costs: usize,
-    store: usize,
-    margins: usize,
-) -> u8
-    ensures { result ≡ room_fault_of n w u symbols costs store margins }
+// 2, 3, 4 and 19 for the first buffer that is too short.
+#[tactic(auto, unfolding(crate::specs::Answers::room_fault_of))]
+pub fn validate_room(needed: Lengths, lent: Lengths) -> Result<(), Refusal>
+    ensures each { refusal_of result ≡ short_fault needed lent }
+
+    // As many margins are needed as symbols: then these are the documents' tests.
+    ensures fault { needed.margins ≡ needed.symbols → refusal_of result
+        ≡ room_fault_of needed.symbols needed.costs needed.store lent.symbols lent.costs lent.store lent.margins }
 {
-    if symbols < n {
-        return 2;
+    if lent.symbols < needed.symbols {
+        return Err(Refusal::OutputTooShort);
     }
-    if costs < w {
-        return 3;
+    if lent.costs < needed.costs {
+        return Err(Refusal::CostsTooShort);
     }
-    if store < u {
-        return 4;
+    if lent.store < needed.store {
+        return Err(Refusal::StoreTooShort);
     }
-    if margins < n {
-        return 19;
+    if lent.margins < needed.margins {
+        return Err(Refusal::MarginsTooShort);
     }
-    0
+    Ok(())
 }
 
-// "Decode: code, 12, 13, 2, 3, 4.", 19: what comes after the code; 0 for none.
-pub fn fault(
+// "Decode: code, 12, 13, 2, 3, 4.", 19: what comes after the code.
+#[tactic(auto, using(crate::proofs::Frames::decode_refused, crate::proofs::Frames::decode_room))]
+pub fn validate_decode(
     numbers: Numbers,
     degrees: &[u8],
     frame: &[u8],
@@ -80,27 +88,26 @@ pub fn fault(
     costs: &[u16],
     store: &[u8],
     margins: &[u16],
-) -> u8
-    ensures { result
+) -> Result<(), Refusal>
+    ensures { refusal_of result
         ≡ fault_of numbers degrees.now frame.now (length symbols.now)
         (length costs.now) (length store.now) (length margins.now) }
 {
-    let k = frame_fault(numbers, frame);
-    if k != 0 {
-        return k;
-    }
-    let n = scalar::u16_to_usize(numbers.columns);
-    let w = frame.len();
-    let u = used(numbers, degrees);
-    room_fault(
-        n,
-        w,
-        u,
-        symbols.len(),
-        costs.len(),
-        store.len(),
-        margins.len(),
-    )
+    validate_frame(numbers, frame)?;
+    let n = usize::from(numbers.columns);
+    let needed = Lengths {
+        symbols: n,
+        costs: frame.len(),
+        store: used(numbers, degrees),
+        margins: n,
+    };
+    let lent = Lengths {
+        symbols: symbols.len(),
+        costs: costs.len(),
+        store: store.len(),
+        margins: margins.len(),
+    };
+    validate_room(needed, lent)
 }
 
 // "Start: P is the frame". Nothing changes where the two have other lengths.
@@ -110,26 +117,30 @@ pub fn copy(frame: &[u8], costs: &mut [u16])
     if frame.len() != costs.len() {
         return;
     }
-    let mut i = 0;
-    while i < costs.len() {
-        costs[i] = scalar::u8_to_u16(frame[i]);
-        i += 1;
+    for (c, &cost) in frame.iter().enumerate() {
+        costs[c] = u16::from(cost);
     }
 }
 
-// "then 13 for a cost above 510, or a column without a 0, in the cost buffer's used part, then, if t is not 0, 16 for each stored record";
-// 0 for none.
-pub fn resume_fault(numbers: Numbers, t: u8, degrees: &[u8], costs: &[u16], store: &[u8]) -> u8
-    ensures { result ≡ resume_fault numbers degrees.now t costs.now store.now }
+// "then 13 for a cost above 510, or a column without a 0, in the cost buffer's used part, then, if t is not 0, 16 for each stored record".
+#[tactic(auto, using(crate::proofs::Resuming::records_taken), unfolding(crate::specs::Answers::resume_fault))]
+pub fn validate_resumed(
+    numbers: Numbers,
+    t: u8,
+    degrees: &[u8],
+    costs: &[u16],
+    store: &[u8],
+) -> Result<(), Refusal>
+    ensures { refusal_of result ≡ resume_fault numbers degrees.now t costs.now store.now }
 {
-    let n = scalar::u16_to_usize(numbers.columns);
+    let n = usize::from(numbers.columns);
     let q = rules::size(numbers.first);
     if !stored::costs_ok(costs, q, n) {
-        return 13;
+        return Err(Refusal::NoZeroCost);
     }
-    let count = scalar::min_usize(scalar::u8_to_usize(numbers.checks), degrees.len());
-    if !stored::records_ok(numbers.first, t, degrees, count, store) {
-        return 16;
+    let count = usize::from(numbers.checks).min(degrees.len());
+    if !stored::records_ok(numbers.first, t, &degrees[..count], store) {
+        return Err(Refusal::RecordForm);
     }
-    0
+    Ok(())
 }

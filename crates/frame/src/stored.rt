@@ -7,30 +7,24 @@ use crate::columns;
 use expansion::form;
 
 // n columns of q costs, without "a cost above 510, or a column without a 0".
+#[tactic(auto, using(crate::proofs::Resuming::low_taken, crate::proofs::Frames::zeros_plain), unfolding(crate::specs::Answers::costs_in))]
 pub fn costs_ok(costs: &[u16], q: usize, n: usize) -> bool
     requires { (n ≤ 65535) × (q ≤ 32768) }
     ensures { result ≡ costs_in q n costs.now }
 {
     let w = n * q;
-    if costs.len() < w {
-        return false;
-    }
-    if !columns::low_costs(costs, w) {
-        return false;
-    }
-    columns::zeros_u16(costs, q, n)
+    w <= costs.len() && columns::low_costs(&costs[..w]) && columns::zeros(costs, q, n)
 }
 
-// Whether the records of the first `count` checks are of accepted form; one that the store does not hold whole is not.
-fn store_ok(first: u8, degrees: &[u8], count: usize, store: &[u8]) -> bool
-    requires { count ≤ length degrees.now }
-    ensures { result ≡ all_to (formed_at first degrees.now store.now) count }
+// Whether the records of the checks are of accepted form; one that the store does not hold whole is not.
+#[tactic(auto, using(crate::proofs::Resuming::groups_small, crate::proofs::Resuming::bytes_none, crate::proofs::Resuming::place_more, crate::proofs::Resuming::form_short, crate::proofs::Resuming::form_more, crate::proofs::Resuming::form_fails))]
+fn store_ok(first: u8, degrees: &[u8], store: &[u8]) -> bool
+    ensures { result ≡ all_to (formed_at first degrees.now store.now) (length degrees.now) }
 {
     let groups = rules::groups(first);
-    let mut m = 0;
     let mut place = 0;
-    while m < count {
-        let d = scalar::u8_to_usize(degrees[m]);
+    for &degree in degrees {
+        let d = usize::from(degree);
         let n = d + groups;
         if store.len() - place < n {
             return false;
@@ -40,18 +34,14 @@ fn store_ok(first: u8, degrees: &[u8], count: usize, store: &[u8]) -> bool
             return false;
         }
         place = end;
-        m += 1;
     }
     true
 }
 
 // At t = 0 there is no record to test.
-pub fn records_ok(first: u8, t: u8, degrees: &[u8], count: usize, store: &[u8]) -> bool
-    requires { count ≤ length degrees.now }
-    ensures { result ≡ records_in first degrees.now count t store.now }
+#[tactic(auto, unfolding(crate::specs::Answers::records_in))]
+pub fn records_ok(first: u8, t: u8, degrees: &[u8], store: &[u8]) -> bool
+    ensures { result ≡ records_in first degrees.now (length degrees.now) t store.now }
 {
-    if t == 0 {
-        return true;
-    }
-    store_ok(first, degrees, count, store)
+    t == 0 || store_ok(first, degrees, store)
 }

@@ -1,20 +1,14 @@
-use mathlib.Core.Path.{◌≡◌, refl, ap, ◌∙◌}
-use Prim.Native.Nat.{min}
-use native.Mathlib.Numerals.{add-one}
+use mathlib.Core.Path.{◌∙◌}
 use native.Mathlib.Omega.{arith}
-use lib.ListN.{length}
-use Rattle.machine.specs.inner.Tables.{bytes_before}
-use Rattle.frame.proofs.Resuming.{groups_small, sum-bytes}
+use lib.ListN.{length-take}
+use Rattle.std.proofs.lemmas.List.{get_or-take}
+use Rattle.frame.proofs.Resuming.{groups_small, place_more}
 use Rattle.frame.proofs.used.Goals as goal
 
-pub loop-m-init : goal.loop-m-init
-loop-m-init c =
-    (omega arith, (omega (arith, c.min_usize-count.ensures), (omega (arith, c.min_usize-count.ensures, c.u8_to_usize.ensures), (omega (arith, c.groups-groups.ensures, (groups_small c.args.numbers.first)), (refl, omega arith)))))
-
-pub loop-m-preserved : goal.loop-m-preserved
-loop-m-preserved c =
-    (omega arith, (c.loop-m.invariant.1.0, (c.loop-m.invariant.1.1.0, (c.loop-m.invariant.1.1.1.0, (rw (add-one c.loop-m.m, ← c.loop-m.invariant.1.1.1.1.0, ← c.u8_to_usize-d.ensures.0) refl, omega (arith, c.u8_to_usize-d.ensures.1, c.loop-m.invariant))))))
-
-pub returns : goal.returns
-returns c =
-    let e : c.loop-m.m ≡ min c.args.numbers.checks (length c.args.degrees.now) = omega (arith, c.min_usize-count.ensures, c.u8_to_usize.ensures.0) in c.loop-m.invariant.1.1.1.1.0 ∙ sum-bytes c.args.numbers.first c.args.degrees.now c.groups-groups.result c.loop-m.m c.groups-groups.ensures ∙ ap (bytes_before c.args.numbers.first c.args.degrees.now) e
+pub loop-d-preserved : goal.loop-d-preserved
+loop-d-preserved c =
+    let ds = c.args.degrees.now in
+    let i = c.loop-d.d-index in (
+      place_more c.args.numbers.first ds i c.loop-d.sum _ _ c.loop-d.invariant.0 (c.from-in-loop-d.ensures ∙ get_or-take c.min-count.result ds i 0 (let h = rw length-take at c.loop-d-test.true in omega (arith, h))) c.groups-groups.ensures,
+      omega (arith, c.from-in-loop-d.ensures, c.groups-groups.ensures, groups_small c.args.numbers.first, c.loop-d.invariant),
+    )

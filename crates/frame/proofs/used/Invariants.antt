@@ -1,12 +1,7 @@
--- The invariant is the definition's own recursion, with a bound that no sum reaches.
-use mathlib.Core.Path.{◌≡◌}
-use Prim.Native.Nat.{◌+◌, ◌-◌, ◌*◌, ◌≤◌}
-use lib.ListN.{length, get_or}
-use Rattle.trellis.specs.Lists.{upto}
+-- The sum is the place behind the records so far, with a bound that no sum reaches.
+use Rattle.std.proofs.Common.{◌≡◌, ◌*◌, ◌≤◌}
+use Rattle.machine.specs.inner.Tables.{bytes_before}
 use Rattle.frame.proofs.used.Given as goal
 
-abbrev pub invariant-loop-m : goal.invariant-loop-m
-invariant-loop-m l = (l.m ≤ l.count) × ((l.count ≤ length l.degrees) × ((l.count ≤ 255) × ((l.groups ≤ 229369) × ((l.sum ≡ upto (λ k a. a + (get_or l.degrees k 0 + l.groups)) l.m 0) × (l.sum ≤ l.m * 229624)))))
-
-abbrev pub decreases-loop-m : goal.decreases-loop-m
-decreases-loop-m l = l.count - l.m
+abbrev pub invariant-loop-d : goal.invariant-loop-d
+invariant-loop-d l = (l.sum ≡ bytes_before l.fn.numbers.first l.degrees l.d-index) × (l.sum ≤ l.d-index * 229624)
