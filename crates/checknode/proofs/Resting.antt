@@ -5,11 +5,10 @@ use mathlib.Core.Bool.{Bool}
 use mathlib.Core.List.{List, [], ◌∷◌, ◌++◌, map, append-nil}
 use Prim.Native.Nat.{ℕ, zero, suc, ◌+◌, ◌-◌, ◌*◌, ◌^◌, ◌≤◌, ◌<◌, max}
 use native.Mathlib.Nat.{zero-add, mul_comm, mul-le-mul, le_refl}
-use native.Mathlib.Decide.{dec_le}
 use native.Mathlib.Omega.{arith}
 use lib.Pow.{pow_mono}
 use borrow.Author.Tests.{le-leb}
-use lib.ListN.{length, take, drop, get_or, drop_of_length-le, length-take, length-drop}
+use lib.ListN.{length, take, drop, get_or, drop_of_length-le, length-take, length-drop, replicate, length-replicate}
 use lib.Seq.{get_or-take, get_or-drop, take_at, drop_at, drop-drop}
 use Rattle.trellis.specs.Lists.{tab, blocks, part, each, up_to, count_from}
 use Rattle.trellis.specs.Field.{xor, product}
@@ -32,11 +31,12 @@ use Rattle.tables.proofs.Meaning.{CallRoom, sent_means}
 use Rattle.groups.proofs.Meaning.{groups_mean}
 use Rattle.checknode.specs.inner.Asks.{shifts_of}
 use Rattle.field.specs.Answers.{row_of}
-use Rattle.checknode.specs.inner.Lines.{rests_of, side_of, Rests, sent_in, sent_column, SendsRoom}
+use Rattle.checknode.specs.inner.Lines.{rests_of, side_of, Rests, PartsRoom, sent_in, sent_column, SendsRoom}
+use Rattle.checknode.specs.declared.accepted.Check.{Check}
 use Rattle.field.proofs.Blocks.{in_block}
 use Rattle.field.proofs.Filling.{row-full}
 use Rattle.checknode.proofs.Turns.{ready-times}
-use Rattle.checknode.proofs.Lining.{rests_full}
+use Rattle.checknode.proofs.Lining.{rests_full, cleared-room, cleared-part}
 
 -- elements that are bytes, in a part too
 take-bytes : (n : ℕ) (l : List ℕ) → ((i : ℕ) → get_or l i 0 ≤ 255) → (i : ℕ) → get_or (take n l) i 0 ≤ 255
@@ -193,38 +193,28 @@ module _ (first : ℕ) (ws cs : List ℕ) (D : Ready first ws cs) where
             rw (a, shift-at n u) (omega (arith, b));
       })
 
--- the room: up to sixteen rows, and up to sixty-four
-pub room_small : (p d : ℕ) → p ≤ 4 → d ≤ 32 → (d * 2 ^ p ≤ 512) × (d * max 16 (2 ^ p) ≤ 512)
-room_small p d h k =
-    let a : 2 ^ p ≤ 16 = pow_mono {i = p} {j = 4} h in
-    let b : d * 2 ^ p ≤ d * 16 = mul-le-mul (le_refl d) a in
-    let c : max 16 (2 ^ p) ≡ 16 = omega arith in
-    (omega arith, rw c (omega arith))
+-- the largest room is enough
+pub room_most : (c : Check) → (length c.weights.now * max 16 (size_of c.first) ≤ 2048) × (2048 ≤ 2048)
+room_most c =
+    let a : size_of c.first ≤ 64 = pow_mono {i = power_of c.first} {j = 6} (ready-high _ _ _ c.ready) in
+    let b : length c.weights.now * max 16 (size_of c.first) ≤ length c.weights.now * 64 = mul-le-mul (le_refl (length c.weights.now)) (omega arith) in
+    (omega (arith, b, c.ready.few), omega arith)
 
-pub room_large : (p d : ℕ) → p ≤ 6 → d ≤ 32 → (d * 2 ^ p ≤ 2048) × (d * max 16 (2 ^ p) ≤ 2048)
-room_large p d h k =
-    let a : 2 ^ p ≤ 64 = pow_mono {i = p} {j = 6} h in
-    let b : d * 2 ^ p ≤ d * 64 = mul-le-mul (le_refl d) a in
-    let c : d * max 16 (2 ^ p) ≤ d * 64 = mul-le-mul (le_refl d) (omega arith) in
-    (omega arith, omega arith)
+-- parts of room of n places, for d columns with q products and l places of a line each
+module _ (first d q l n : ℕ) (size : q ≡ size_of first) (side : l ≡ max 16 (size_of first)) (room : d * max 16 (size_of first) ≤ n) where
+  pub parts_within : (d * q ≤ n) × (d * l ≤ n)
+  parts_within =
+      let a : d * l ≤ n = rw side room in
+      let b : d * q ≤ d * l = mul-le-mul (le_refl d) (omega arith) in
+      (omega arith, a)
 
--- the parts of the room that d columns take, with q products and l rests each
-module _ (first q l d : ℕ) (rows rests : List ℕ) (size : q ≡ size_of first) (side : l ≡ max 16 q) (of_rows : d * q ≤ length rows) (of_rests : d * max 16 q ≤ length rests) where
-  pub rests_room : d * l ≤ length rests
-  rests_room = rw side of_rests
+  part-length : (m : ℕ) → m ≤ n → length (take m (replicate {A = ℕ} n 0)) ≡ m
+  part-length m h = simp (length-take, length-replicate) (omega arith)
 
-  pub room_parts : (length (take (d * q) rows) ≡ d * size_of first) × (length (take (d * l) rests) ≡ d * max 16 (size_of first))
-  room_parts =
-      let a : length (take (d * q) rows) ≡ d * q = simp length-take (omega arith) in
-      let b : length (take (d * l) rests) ≡ d * l = simp length-take (omega (arith, rests_room)) in
-      (a ∙ ap (λ y. d * y) size, b ∙ ap (λ y. d * y) (side ∙ ap (max 16) size))
-
-pub power_small : (p : ℕ) → 2 ^ p ≤ 16 → p ≤ 4
-power_small p h =
-    elim (dec_le p 4) [
-      | yes k ↦ k
-      | no k ↦ absurd (omega (arith, h, pow_mono {i = 5} {j = p} (omega arith)))
-    ]
+  pub parts_room : PartsRoom first d (take (d * q) (replicate n 0)) (take (d * l) (replicate n 0)) (take (d * l) (replicate n 0))
+  parts_room =
+      let b = part-length (d * l) parts_within.1 ∙ ap (λ y. d * y) side in
+      record { of_rows = part-length (d * q) parts_within.0 ∙ ap (λ y. d * y) size; of_lines = b; cleared = cleared-part (replicate n 0) 0 (d * l) (cleared-room n); of_rests = b }
 
 -- the calls of `tables`, with the rule as its numbers
 pub sent-same : {p p' k k' : ℕ} {g g' : Bool} (d : ℕ) {x y : List ℕ} (out : List ℕ) → p ≡ p' → k ≡ k' → g ≡ g' → x ≡ y → sent_leaves p k g d x out ≡ sent_leaves p' k' g' d y out

@@ -1,6 +1,7 @@
 // One check: the packed record of a check's messages, alone and beside the messages.
 #![tactic(auto)]
 
+pub mod accepted;
 mod lines;
 mod record;
 mod refusals;
@@ -10,6 +11,7 @@ ghost use Rattle.std.specs.Prelude.{◌≡◌};
 ghost use Rattle.refusal.specs.Replies.{reply_of, fault_of};
 ghost use Rattle.checknode.specs.Answers.{check_fault, check_reply, check_leaves, messages_reply, messages_leaves, messages_sent};
 
+use accepted::Check;
 use refusal::Refusal;
 
 // The refusal of a check whose record buffer has `room` bytes: 6, the first byte; 9, degree not 2 to 32; 11, a weight 0 or no element;
@@ -27,9 +29,13 @@ pub fn check(first: u8, weights: &[u8], costs: &[u8], out: &mut [u8]) -> Result<
     ensures out_then { out.new ≡ check_leaves first weights.now costs.now out.old }
 {
     validate_check(first, weights, costs, out.len())?;
-    let q = rules::size(first);
+    let check = Check {
+        first,
+        weights,
+        costs,
+    };
     let n = record::record_bytes(first, weights.len());
-    record::record_in(first, q, weights, costs, &mut out[..n]);
+    record::record(&check, &mut out[..n]);
     Ok(n)
 }
 
@@ -47,13 +53,16 @@ pub fn messages(
     ensures sent_then { sent.new ≡ messages_sent first weights.now costs.now out.old sent.old }
 {
     validate_check(first, weights, costs, out.len())?;
-    let d = weights.len();
-    let q = rules::size(first);
-    let m = d * q;
+    let m = weights.len() * rules::size(first);
     if sent.len() < m {
         return Err(Refusal::OutputTooShort);
     }
-    let n = record::record_bytes(first, d);
-    record::messages_in(first, q, weights, costs, &mut out[..n], &mut sent[..m]);
+    let check = Check {
+        first,
+        weights,
+        costs,
+    };
+    let n = record::record_bytes(first, weights.len());
+    record::messages(&check, &mut out[..n], &mut sent[..m]);
     Ok(n)
 }

@@ -2,17 +2,20 @@
 // 255, and each deviation takes its cost off, so that two costs are never added.
 ghost use Rattle.std.specs.Prelude.{◌≡◌, ◌*◌, ◌≤◌, max, length};
 ghost use Rattle.trellis.specs.Lists.{tab, blocks};
-ghost use Rattle.trellis.specs.Check.{all_sent};
-ghost use Rattle.trellis.specs.Record.{record_of, record_length};
-ghost use Rattle.trellis.specs.Rules.{rule_for, power_of, size_of, columns_of};
-ghost use Rattle.trellis.specs.Ready.{Ready};
-ghost use Rattle.trellis.specs.Sizes.{most_degree, most_size};
+ghost use Rattle.trellis.specs.Record.{record_length};
+ghost use Rattle.trellis.specs.Rules.{rule_for, power_of, size_of};
+ghost use Rattle.trellis.specs.Sizes.{most_degree, most_expansion};
 ghost use Rattle.field.specs.Answers.{row_of};
 ghost use Rattle.checknode.specs.inner.Asks.{shifts_of};
-ghost use Rattle.checknode.specs.inner.Lines.{RestsRoom, Rests};
+ghost use Rattle.checknode.specs.inner.Lines.{PartsRoom, Rests};
+ghost use Rattle.checknode.specs.inner.Checks.{record_in, sent_in};
 
+use crate::accepted::Check;
 use crate::{lines, send};
 use scalar::sizes;
+
+// Room for eight lines of sixteen places, which is most of what small fields ask for.
+const TINY: usize = 128;
 
 // The length of a record of degree d.
 pub fn record_bytes(first: u8, d: usize) -> usize
@@ -23,213 +26,140 @@ pub fn record_bytes(first: u8, d: usize) -> usize
 }
 
 // The places of a line: the field's rows, and sixteen at least.
-fn side(q: usize) -> usize
-    ensures { result ≡ max 16 q }
+fn side(check: &Check<'_>) -> usize
+    ensures { result ≡ max 16 (size_of check.now.first) }
 {
-    if q < 16 { 16 } else { q }
+    rules::size(check.first).max(16)
 }
 
 // Rests of the sent costs, and shifts, from the products, in room of the caller's; that for the lines comes cleared.
-fn rests_with(
-    first: u8,
-    weights: &[u8],
-    costs: &[u8],
-    rows: &[u8],
+fn rests_with(check: &Check<'_>, rows: &[u8], lines: &mut [u8], rests: &mut [u8], shifts: &mut [u8])
+    requires rows_value { rows.now ≡ blocks (row_of (power_of check.now.first) check.now.weights.now) (length check.now.weights.now) }
+    requires lines_len { length lines.old ≡ length check.now.weights.now * max 16 (size_of check.now.first) }
+    requires lines_value { lines.old ≡ tab (λ a. 0) (length lines.old) }
+    requires rests_len { length rests.old ≡ length check.now.weights.now * max 16 (size_of check.now.first) }
+    requires shifts_len { length shifts.old ≡ length check.now.weights.now }
+    ensures rests_then { Rests check.now.first check.now.weights.now check.now.costs.now rests.new }
+    ensures shifts_then { shifts.new ≡ shifts_of (power_of check.now.first) check.now.weights.now check.now.costs.now }
+{
+    let sum = lines::lines(check, side(check), rows, lines, shifts);
+    lines::shift_all(shifts, sum);
+    tables::sent(
+        rules::rule_of(check.first),
+        check.weights.len(),
+        lines,
+        rests,
+    );
+}
+
+// The record: the shifts, then the groups. Products and rests are left in their room; that for the lines comes cleared.
+fn record_with(
+    check: &Check<'_>,
+    rows: &mut [u8],
     lines: &mut [u8],
     rests: &mut [u8],
-    shifts: &mut [u8],
-)
-    requires ready { Ready first weights.now costs.now }
-    requires rows_value { rows.now ≡ blocks (row_of (power_of first) weights.now) (length weights.now) }
-    requires rests_room { RestsRoom (power_of first) (length weights.now) rests.old shifts.old
-        × (length weights.now * max 16 (size_of first) ≤ length lines.old) }
-    requires lines_value { lines.old ≡ tab (λ a. 0) (length lines.old) }
-    ensures rests_then { Rests first weights.now costs.now rests.new }
-    ensures shifts_then { shifts.new ≡ shifts_of (power_of first) weights.now costs.now }
-{
-    let d = weights.len();
-    let l = side(rules::size(first));
-    let n = d * l;
-    let sum = lines::lines(first, l, weights, costs, rows, &mut lines[..n], shifts);
-    lines::shift_all(shifts, sum);
-    tables::sent(rules::rule_of(first), d, &lines[..n], rests);
-}
-
-// The same with room for the lines, fresh and so cleared: a fourth of it is enough up to 16 rows.
-fn rests_in(
-    first: u8,
-    weights: &[u8],
-    costs: &[u8],
-    rows: &[u8],
-    rests: &mut [u8],
-    shifts: &mut [u8],
-)
-    requires ready { Ready first weights.now costs.now }
-    requires rows_value { rows.now ≡ blocks (row_of (power_of first) weights.now) (length weights.now) }
-    requires rests_room { RestsRoom (power_of first) (length weights.now) rests.old shifts.old }
-    ensures rests_then { Rests first weights.now costs.now rests.new }
-    ensures shifts_then { shifts.new ≡ shifts_of (power_of first) weights.now costs.now }
-{
-    if rules::power(first) <= 4 {
-        let mut lines = [0u8; sizes::SMALL_EXPANSION];
-        rests_with(first, weights, costs, rows, &mut lines, rests, shifts);
-        return;
-    }
-    let mut lines = [0u8; sizes::MOST_EXPANSION];
-    rests_with(first, weights, costs, rows, &mut lines, rests, shifts);
-}
-
-// The record: the shifts, then the groups. Products and rests are left in their room.
-fn record_with(
-    first: u8,
-    weights: &[u8],
-    costs: &[u8],
-    rows: &mut [u8],
-    rests: &mut [u8],
     out: &mut [u8],
 )
-    requires ready { Ready first weights.now costs.now }
-    requires rows_len { (length rows.old ≡ length weights.now * size_of first)
-        × ((length rests.old ≡ length weights.now * max 16 (size_of first))
-        × (length out.old ≡ record_length (rule_for first) (length weights.now))) }
-    ensures rows_then { rows.new ≡ blocks (row_of (power_of first) weights.now) (length weights.now) }
-    ensures rests_then { Rests first weights.now costs.now rests.new }
-    ensures out_then { out.new
-        ≡ record_of (rule_for first) (columns_of (size_of first) weights.now costs.now) }
+    requires parts { PartsRoom check.now.first (length check.now.weights.now) rows.old lines.old rests.old }
+    requires out_len { length out.old ≡ record_length (rule_for check.now.first) (length check.now.weights.now) }
+    ensures rows_then { rows.new ≡ blocks (row_of (power_of check.now.first) check.now.weights.now) (length check.now.weights.now) }
+    ensures rests_then { Rests check.now.first check.now.weights.now check.now.costs.now rests.new }
+    ensures out_then { out.new ≡ record_in check.now }
 {
-    let d = weights.len();
-    let e = out.len();
-    field::rows(rules::power(first), weights, rows);
-    rests_in(first, weights, costs, rows, rests, &mut out[..d]);
-    groups::groups(rules::rule_of(first), d, rests, &mut out[d..e]);
+    let d = check.weights.len();
+    field::rows(rules::power(check.first), check.weights, rows);
+    rests_with(check, rows, lines, rests, &mut out[..d]);
+    groups::groups(rules::rule_of(check.first), d, rests, &mut out[d..]);
 }
 
-// The record, in parts of the room.
-fn record_room(
-    first: u8,
-    q: usize,
-    weights: &[u8],
-    costs: &[u8],
-    rows: &mut [u8],
-    rests: &mut [u8],
-    out: &mut [u8],
-)
-    requires ready { Ready first weights.now costs.now }
-    requires q_value { (q ≡ size_of first)
-        × ((length weights.now * q ≤ length rows.old)
-        × ((length weights.now * max 16 q ≤ length rests.old)
-        × (length out.old ≡ record_length (rule_for first) (length weights.now)))) }
-    ensures { out.new ≡ record_of (rule_for first) (columns_of (size_of first) weights.now costs.now) }
+// The record, with fresh room of ROOM bytes for products, lines and rests each.
+fn record_in<const ROOM: usize>(check: &Check<'_>, out: &mut [u8])
+    requires room { (length check.now.weights.now * max 16 (size_of check.now.first) ≤ ROOM) × (ROOM ≤ most_expansion) }
+    requires out_len { length out.old ≡ record_length (rule_for check.now.first) (length check.now.weights.now) }
+    ensures { out.new ≡ record_in check.now }
 {
-    let a = weights.len() * q;
-    let b = weights.len() * side(q);
-    record_with(first, weights, costs, &mut rows[..a], &mut rests[..b], out);
+    let d = check.weights.len();
+    let a = d * rules::size(check.first);
+    let b = d * side(check);
+    let mut rows = [0u8; ROOM];
+    let mut lines = [0u8; ROOM];
+    let mut rests = [0u8; ROOM];
+    record_with(check, &mut rows[..a], &mut lines[..b], &mut rests[..b], out);
 }
 
-// The record, with the room that it takes: a fourth of it is enough up to 16 rows.
-pub fn record_in(first: u8, q: usize, weights: &[u8], costs: &[u8], out: &mut [u8])
-    requires ready { Ready first weights.now costs.now }
-    requires q_le_most_size { q ≤ most_size }
-    requires q_value { (q ≡ size_of first) × (length out.old ≡ record_length (rule_for first) (length weights.now)) }
-    ensures { out.new ≡ record_of (rule_for first) (columns_of (size_of first) weights.now costs.now) }
+// The record, in the least room that is enough.
+pub fn record(check: &Check<'_>, out: &mut [u8])
+    requires out_len { length out.old ≡ record_length (rule_for check.now.first) (length check.now.weights.now) }
+    ensures { out.new ≡ record_in check.now }
 {
-    if q <= 16 {
-        let mut rows = [0u8; sizes::SMALL_EXPANSION];
-        let mut rests = [0u8; sizes::SMALL_EXPANSION];
-        record_room(first, q, weights, costs, &mut rows, &mut rests, out);
-        return;
+    let n = check.weights.len() * side(check);
+    if n <= TINY {
+        record_in::<TINY>(check, out);
+    } else if n <= sizes::SMALL_EXPANSION {
+        record_in::<{ sizes::SMALL_EXPANSION }>(check, out);
+    } else {
+        record_in::<{ sizes::MOST_EXPANSION }>(check, out);
     }
-    let mut rows = [0u8; sizes::MOST_EXPANSION];
-    let mut rests = [0u8; sizes::MOST_EXPANSION];
-    record_room(first, q, weights, costs, &mut rows, &mut rests, out);
 }
 
 // The record and the sent costs, in room of the caller's.
 fn messages_with(
-    first: u8,
-    weights: &[u8],
-    costs: &[u8],
+    check: &Check<'_>,
     rows: &mut [u8],
+    lines: &mut [u8],
     rests: &mut [u8],
     out: &mut [u8],
     sent: &mut [u8],
 )
-    requires ready { Ready first weights.now costs.now }
-    requires rows_len { (length rows.old ≡ length weights.now * size_of first)
-        × ((length rests.old ≡ length weights.now * max 16 (size_of first))
-        × ((length out.old ≡ record_length (rule_for first) (length weights.now))
-        × (length sent.old ≡ length weights.now * size_of first))) }
-    ensures out_then { out.new
-        ≡ record_of (rule_for first) (columns_of (size_of first) weights.now costs.now) }
-    ensures sent_then { sent.new
-        ≡ all_sent (rule_for first) (columns_of (size_of first) weights.now costs.now) }
+    requires parts { PartsRoom check.now.first (length check.now.weights.now) rows.old lines.old rests.old }
+    requires out_len { length out.old ≡ record_length (rule_for check.now.first) (length check.now.weights.now) }
+    requires sent_len { length sent.old ≡ length check.now.weights.now * size_of check.now.first }
+    ensures out_then { out.new ≡ record_in check.now }
+    ensures sent_then { sent.new ≡ sent_in check.now }
 {
-    record_with(first, weights, costs, rows, rests, out);
-    let d = weights.len();
-    let q = rules::size(first);
-    send::columns(q, side(q), rows, &out[..d], rests, sent);
+    record_with(check, rows, lines, rests, out);
+    let d = check.weights.len();
+    let q = rules::size(check.first);
+    send::columns(q, side(check), rows, &out[..d], rests, sent);
 }
 
-fn messages_room(
-    first: u8,
-    q: usize,
-    weights: &[u8],
-    costs: &[u8],
-    rows: &mut [u8],
-    rests: &mut [u8],
-    out: &mut [u8],
-    sent: &mut [u8],
-)
-    requires ready { Ready first weights.now costs.now }
-    requires q_value { (q ≡ size_of first)
-        × ((length weights.now * q ≤ length rows.old)
-        × ((length weights.now * max 16 q ≤ length rests.old)
-        × ((length out.old ≡ record_length (rule_for first) (length weights.now))
-        × (length sent.old ≡ length weights.now * size_of first)))) }
-    ensures out_then { out.new
-        ≡ record_of (rule_for first) (columns_of (size_of first) weights.now costs.now) }
-    ensures sent_then { sent.new
-        ≡ all_sent (rule_for first) (columns_of (size_of first) weights.now costs.now) }
+// The record and the sent costs, with fresh room of ROOM bytes for products, lines and rests each.
+fn messages_in<const ROOM: usize>(check: &Check<'_>, out: &mut [u8], sent: &mut [u8])
+    requires room { (length check.now.weights.now * max 16 (size_of check.now.first) ≤ ROOM) × (ROOM ≤ most_expansion) }
+    requires out_len { length out.old ≡ record_length (rule_for check.now.first) (length check.now.weights.now) }
+    requires sent_len { length sent.old ≡ length check.now.weights.now * size_of check.now.first }
+    ensures out_then { out.new ≡ record_in check.now }
+    ensures sent_then { sent.new ≡ sent_in check.now }
 {
-    let a = weights.len() * q;
-    let b = weights.len() * side(q);
+    let d = check.weights.len();
+    let a = d * rules::size(check.first);
+    let b = d * side(check);
+    let mut rows = [0u8; ROOM];
+    let mut lines = [0u8; ROOM];
+    let mut rests = [0u8; ROOM];
     messages_with(
-        first,
-        weights,
-        costs,
+        check,
         &mut rows[..a],
+        &mut lines[..b],
         &mut rests[..b],
         out,
         sent,
     );
 }
 
-// The record and the sent costs, with the room that they take.
-pub fn messages_in(
-    first: u8,
-    q: usize,
-    weights: &[u8],
-    costs: &[u8],
-    out: &mut [u8],
-    sent: &mut [u8],
-)
-    requires ready { Ready first weights.now costs.now }
-    requires q_le_most_size { q ≤ most_size }
-    requires q_value { (q ≡ size_of first)
-        × ((length out.old ≡ record_length (rule_for first) (length weights.now))
-        × (length sent.old ≡ length weights.now * size_of first)) }
-    ensures out_then { out.new
-        ≡ record_of (rule_for first) (columns_of (size_of first) weights.now costs.now) }
-    ensures sent_then { sent.new
-        ≡ all_sent (rule_for first) (columns_of (size_of first) weights.now costs.now) }
+// The record and the sent costs, in the least room that is enough.
+pub fn messages(check: &Check<'_>, out: &mut [u8], sent: &mut [u8])
+    requires out_len { length out.old ≡ record_length (rule_for check.now.first) (length check.now.weights.now) }
+    requires sent_len { length sent.old ≡ length check.now.weights.now * size_of check.now.first }
+    ensures out_then { out.new ≡ record_in check.now }
+    ensures sent_then { sent.new ≡ sent_in check.now }
 {
-    if q <= 16 {
-        let mut rows = [0u8; sizes::SMALL_EXPANSION];
-        let mut rests = [0u8; sizes::SMALL_EXPANSION];
-        messages_room(first, q, weights, costs, &mut rows, &mut rests, out, sent);
-        return;
+    let n = check.weights.len() * side(check);
+    if n <= TINY {
+        messages_in::<TINY>(check, out, sent);
+    } else if n <= sizes::SMALL_EXPANSION {
+        messages_in::<{ sizes::SMALL_EXPANSION }>(check, out, sent);
+    } else {
+        messages_in::<{ sizes::MOST_EXPANSION }>(check, out, sent);
     }
-    let mut rows = [0u8; sizes::MOST_EXPANSION];
-    let mut rests = [0u8; sizes::MOST_EXPANSION];
-    messages_room(first, q, weights, costs, &mut rows, &mut rests, out, sent);
 }

@@ -1,25 +1,23 @@
--- Five hundred and twelve bytes are enough up to sixteen rows.
-use native.Mathlib.Omega.{arith}
+-- The room is enough for the columns, and fresh arrays are zeros.
 use lib.ListN.{length}
-use Rattle.trellis.specs.Rules.{power_of}
-use Rattle.trellis.proofs.Ready.{ready-high}
-use Rattle.checknode.proofs.Resting.{room_small, room_large, power_small}
+use native.Mathlib.Omega.{arith}
+use Rattle.checknode.proofs.Resting.{parts_room, parts_within}
 use Rattle.checknode.proofs.record.messages_in.Goals as goal
 
-pub messages_room-requires : goal.messages_room-requires
-messages_room-requires c =
-    let e = c.requires.q_value.0 in
-    let b = room_small (power_of c.args.first) (length c.args.weights.now) (power_small (power_of c.args.first) (omega (arith, c.requires.q_value.0))) c.requires.ready.few in
-    record {
-      ready = c.requires.ready;
-      q_value = (e, (rw e b.0, (rw e b.1, (c.requires.q_value.1.0, c.requires.q_value.1.1))));
-    }
+pub whole_as_front-messages_with : goal.whole_as_front-messages_with
+whole_as_front-messages_with g c =
+    let b = parts_within c.args.check.now.first (length c.args.check.now.weights.now) _ _ g.row.ROOM c.size.ensures.0 c.side.ensures c.requires.room.0 in
+    (b.0, omega (arith, c.requires.room.1))
 
-pub messages_room-requires-2 : goal.messages_room-requires-2
-messages_room-requires-2 c =
-    let e = c.requires.q_value.0 in
-    let b = room_large (power_of c.args.first) (length c.args.weights.now) (ready-high _ _ _ c.requires.ready) c.requires.ready.few in
-    record {
-      ready = c.requires.ready;
-      q_value = (e, (rw e b.0, (rw e b.1, (c.requires.q_value.1.0, c.requires.q_value.1.1))));
-    }
+pub whole_as_front-messages_with-2 : goal.whole_as_front-messages_with-2
+whole_as_front-messages_with-2 g c =
+    let b = parts_within c.args.check.now.first (length c.args.check.now.weights.now) _ _ g.row.ROOM c.size.ensures.0 c.side.ensures c.requires.room.0 in
+    (b.1, omega (arith, c.requires.room.1))
+
+pub whole_as_front-messages_with-3 : goal.whole_as_front-messages_with-3
+whole_as_front-messages_with-3 g c =
+    let b = parts_within c.args.check.now.first (length c.args.check.now.weights.now) _ _ g.row.ROOM c.size.ensures.0 c.side.ensures c.requires.room.0 in
+    (b.1, omega (arith, c.requires.room.1))
+
+pub messages_with-requires-clause-parts : goal.messages_with-requires-clause-parts
+messages_with-requires-clause-parts g c = parts_room c.args.check.now.first (length c.args.check.now.weights.now) _ _ g.row.ROOM c.size.ensures.0 c.side.ensures c.requires.room.0
