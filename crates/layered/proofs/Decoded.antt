@@ -25,15 +25,16 @@ use Rattle.machine.proofs.Ranges.{frame-ranged}
 use Rattle.machine.proofs.Buffers.{room_of}
 use Rattle.machine.proofs.Lent.{run-stands}
 use Rattle.machine.proofs.InTables.{place_is}
-use Rattle.codeline.specs.declared.answers.Header.{Header}
-use Rattle.codeline.specs.declared.answers.Header.TheVariants.{Refused as HeaderRefused}
+use Rattle.codeline.specs.declared.answers.Numbers.{Numbers}
+use Rattle.std.specs.Prelude.{Result, Ok, Err}
+use Rattle.refusal.specs.Numbers.{number_of}
+use Rattle.refusal.specs.declared.Refusal.{Refusal}
 use Rattle.codeline.specs.declared.code.Code.{Code as Tables}
 use Rattle.codeline.specs.Answers.{numbers_in, header_numbers}
 use Rattle.layered.specs.inner.Codes.{code_in}
 use Rattle.codeline.proofs.Answered.{header_refused}
 use Rattle.layered.specs.declared.answers.Outcome.{Outcome}
 use Rattle.layered.specs.declared.answers.Outcome.TheVariants.{Found, NotFound}
-use Rattle.layered.specs.declared.answers.Answer.TheVariants.{Decoded}
 use Rattle.layered.specs.Answers.{answer_reply}
 use Rattle.machine.specs.inner.InRange.{Below}
 use Rattle.layered.specs.inner.Iterations.{ended_in, RunRoom}
@@ -73,7 +74,7 @@ split_fault x r h = go (eqb x 0) refl h
     go false e h = absurd (eqb-false x 0 e h)
 
 -- an outcome is its status and t
-reply_is : (o : Outcome) (l : Lent) (st : Status) (t : ℕ) (l' : Lent) → ended_in o l ≡ ended st t l' → (answer_reply (Decoded o) ≡ outcome st t) × (l ≡ l')
+reply_is : (o : Outcome) (l : Lent) (st : Status) (t : ℕ) (l' : Lent) → ended_in o l ≡ ended st t l' → (answer_reply (Ok o) ≡ outcome st t) × (l ≡ l')
 reply_is (Found u) l st t l' e = (ap₂ outcome (ap (λ (x : Ended). x.status) e) (ap (λ (x : Ended). x.t) e), ap (λ (x : Ended). x.lent) e)
 reply_is (NotFound u) l st t l' e = (ap₂ outcome (ap (λ (x : Ended). x.status) e) (ap (λ (x : Ended). x.t) e), ap (λ (x : Ended). x.lent) e)
 
@@ -159,7 +160,7 @@ module _ (K : Tables) (n : ℕ) (N : n ≡ K.numbers.columns) where
 
         -- the run, by the machine over the lent buffers
         call-of : (early : Bool) (o : Outcome) (P u : List ℕ) → ended_in o (lent P u) ≡ run_lent early K.numbers C (lent (take (length f) (f' ++ drop (length f) c)) s)
-            → call_under early (good C) f b ≡ record { reply = answer_reply (Decoded o); buffers = holding C P u b }
+            → call_under early (good C) f b ≡ record { reply = answer_reply (Ok o); buffers = holding C P u b }
         call-of false o P u a =
             let E = reply_is o (lent P u) _ _ _ (a ∙ ap (λ q. go_lent C K.numbers.limit 0 (lent q s)) copied_front ∙ run-stands C K.coded.good s rooms.for_store f) in
             ap₂ (λ r (l : Lent). record { reply = r; buffers = holding C l.costs l.store b }) (sym E.0) (sym E.1)
@@ -171,9 +172,9 @@ module _ (K : Tables) (n : ℕ) (N : n ≡ K.numbers.columns) where
         pub copied_leaves : (early : Bool) (o : Outcome) (P x u x' : List ℕ)
             → ended_in o (lent P u) ≡ run_lent early K.numbers C (lent (take (length f) (f' ++ drop (length f) c)) s)
             → x ≡ symbols C P → x' ≡ margins C P
-            → Leaves (decoding_of early C f b) (answer_reply (Decoded o)) (lending (x ++ drop n y) (P ++ drop (length f) (f' ++ drop (length f) c)) u (x' ++ drop n v))
+            → Leaves (decoding_of early C f b) (answer_reply (Ok o)) (lending (x ++ drop n y) (P ++ drop (length f) (f' ++ drop (length f) c)) u (x' ++ drop n v))
         copied_leaves early o P x u x' a j j' =
-            rw copied_rest (holds-leaves (λ r. call_under early r f b) (answer_reply (Decoded o)) P u x x' (call-of early o P u a) j j')
+            rw copied_rest (holds-leaves (λ r. call_under early r f b) (answer_reply (Ok o)) P u x x' (call-of early o P u a) j j')
 
 -- a call whose code line is refused, and one whose code line says C
 module _ (s₀ f : List ℕ) (b : Buffers) where
@@ -183,10 +184,10 @@ module _ (s₀ f : List ℕ) (b : Buffers) where
   call-is true = refl
 
   module _ (early : Bool) where
-    pub refused-calls : (h : Header) → header_numbers h ≡ numbers_of (parse s₀) → (k : ℕ) → h ≡ HeaderRefused k → Leaves (called early s₀ f b) (refusal k) b
+    pub refused-calls : (h : Result Numbers Refusal) → header_numbers h ≡ numbers_of (parse s₀) → (r : Refusal) → h ≡ Err r → Leaves (called early s₀ f b) (refusal (number_of r)) b
     unfolding admitted
-    refused-calls h e k i =
-        let x : called early s₀ f b ≡ record { reply = refusal k; buffers = b } = call-is early ∙ ap (λ r. call_under early (admitted_under r f b) f b) (header_refused s₀ h e k i) ∙ bad_call early k f b in
+    refused-calls h e r i =
+        let x : called early s₀ f b ≡ record { reply = refusal (number_of r); buffers = b } = call-is early ∙ ap (λ l. call_under early (admitted_under l f b) f b) (header_refused s₀ h e r i) ∙ bad_call early (number_of r) f b in
         rw x record { replies = refl; symbols-then = refl; costs-then = refl; store_then = refl; margins-then = refl }
 
     pub said-calls : (C : Code) → parse s₀ ≡ good C → (r : Reply) (b' : Buffers) → Leaves (decoding_of early C f b) r b' → Leaves (called early s₀ f b) r b'

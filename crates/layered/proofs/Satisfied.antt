@@ -10,7 +10,9 @@ use native.Mathlib.Omega.{arith}
 use lib.Bits.{bit_xor}
 use lib.ListN.{length, get_or}
 use borrow.Author.Tests.{eq-eqb, ne_eqb}
-use Rattle.std.specs.Prelude.{Option, Some, None, is_some, not}
+use borrow.Author.Rules.{rules}
+use Rattle.refusal.specs.declared.Refusal.{Refusal}
+use Rattle.std.specs.Prelude.{Result, Ok, Err, IsOk, Option, Some, None, is_some, not}
 use Rattle.trellis.specs.Lists.{tab, all_to}
 use Rattle.trellis.specs.Field.{xor, product}
 use Rattle.trellis.specs.Check.{first_zero, decide}
@@ -31,6 +33,11 @@ use Rattle.machine.specs.inner.Tables.{EdgeRoom}
 use Rattle.layered.specs.inner.Parity.{holds_at, all_hold, ParityRoom, FirstNot, SettledRoom}
 use Rattle.machine.proofs.Leasts.{up_to_tab}
 use Rattle.machine.proofs.Places.{length_part}
+
+-- a call that does not refuse
+pub ok_by : (e : Result ℕ Refusal) → ((r : Refusal) → e ≡ Err r → ⊥) → IsOk e
+ok_by (Ok x) h = search rules
+ok_by (Err r) h = absurd (h r refl)
 
 -- a check by its sum
 module _ (C : Code) (z : List ℕ) where

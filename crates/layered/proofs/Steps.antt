@@ -20,8 +20,10 @@ use Rattle.machine.specs.inner.InRange.{Below}
 use Rattle.machine.proofs.Ranges.{frame-ranged}
 use Rattle.machine.proofs.InTables.{degree_is, place_is}
 use Rattle.machine.proofs.Tested.{tested}
-use Rattle.codeline.specs.declared.answers.Header.{Header}
-use Rattle.codeline.specs.declared.answers.Header.TheVariants.{Refused as HeaderRefused}
+use Rattle.codeline.specs.declared.answers.Numbers.{Numbers}
+use Rattle.std.specs.Prelude.{Result, Err}
+use Rattle.refusal.specs.Numbers.{number_of}
+use Rattle.refusal.specs.declared.Refusal.{Refusal}
 use Rattle.codeline.specs.declared.code.Code.{Code as Tables}
 use Rattle.codeline.specs.Answers.{numbers_in, header_numbers}
 use Rattle.layered.specs.inner.Codes.{code_in}
@@ -197,17 +199,17 @@ module _ (K : Tables) (n : ℕ) (N : n ≡ K.numbers.columns) where
 
 -- a code line that is refused, and one that says C
 module _ (s₀ f : List ℕ) (b : Buffers) where
-  module _ (h : Header) (e : header_numbers h ≡ numbers_of (parse s₀)) (k : ℕ) (i : h ≡ HeaderRefused k) where
-    pub refused_loads : Moves (loading s₀ f b) (ends 4 k) b
+  module _ (h : Result Numbers Refusal) (e : header_numbers h ≡ numbers_of (parse s₀)) (r : Refusal) (i : h ≡ Err r) where
+    pub refused_loads : Moves (loading s₀ f b) (ends 4 (number_of r)) b
     unfolding loading admitted
     refused_loads =
-        let x : loading s₀ f b ≡ moment 4 k 0 b = ap (λ r. loading_under (admitted_under r f b) f b) (header_refused s₀ h e k i) in
+        let x : loading s₀ f b ≡ moment 4 (number_of r) 0 b = ap (λ l. loading_under (admitted_under l f b) f b) (header_refused s₀ h e r i) in
         rw x record { staged = refl; symbols-then = refl; costs-then = refl; store_then = refl; margins-then = refl }
 
-    pub refused_steps : (t : ℕ) → Moves (iterating s₀ f t b) (ends 4 k) b
+    pub refused_steps : (t : ℕ) → Moves (iterating s₀ f t b) (ends 4 (number_of r)) b
     unfolding iterating resumable admitted
     refused_steps t =
-        let x : iterating s₀ f t b ≡ moment 4 k 0 b = ap (λ r. iterating_under (resumable_under (admitted_under r f b) t b) t b) (header_refused s₀ h e k i) in
+        let x : iterating s₀ f t b ≡ moment 4 (number_of r) 0 b = ap (λ l. iterating_under (resumable_under (admitted_under l f b) t b) t b) (header_refused s₀ h e r i) in
         rw x record { staged = refl; symbols-then = refl; costs-then = refl; store_then = refl; margins-then = refl }
 
   module _ (C : Code) (e : parse s₀ ≡ good C) (q : Ends) (b' : Buffers) where

@@ -11,10 +11,10 @@ ghost use Rattle.layered.specs.inner.Codes.{code_in};
 ghost use Rattle.layered.specs.inner.Iterations.{ended_in, RunRoom};
 ghost use Rattle.layered.specs.inner.Calls.{run_lent, decoding_of, called, WorkRoom};
 
-use crate::answers::{Answer, Counted, Outcome};
+use crate::answers::{Counted, Outcome};
 use crate::{early, iterate, parity};
-use codeline::answers::Header;
 use codeline::code::Code;
+use refusal::Refusal;
 use scalar::sizes;
 
 // The machine on the costs in `costs`.
@@ -74,7 +74,7 @@ fn under_code(
     margins: &mut [u16],
     arrived: &mut [u8],
     sent: &mut [u8],
-) -> Answer
+) -> Result<Outcome, Refusal>
     requires { WorkRoom arrived.old sent.old }
     ensures { Leaves
         (decoding_of early (code_in code.now)
@@ -83,7 +83,7 @@ fn under_code(
         (lending symbols.new costs.new store.new margins.new) }
 {
     let n = usize::from(code.numbers.columns);
-    let k = frame::fault(
+    frame::validate_decode(
         code.numbers,
         code.degrees,
         frame,
@@ -91,10 +91,7 @@ fn under_code(
         costs,
         store,
         margins,
-    );
-    if k != 0 {
-        return Answer::Refused(k);
-    }
+    )?;
     let w = frame.len();
     frame::copy(frame, &mut costs[..w]);
     let o = run_to_margins(
@@ -107,7 +104,7 @@ fn under_code(
         arrived,
         sent,
     );
-    Answer::Decoded(o)
+    Ok(o)
 }
 
 // Over the tables and lists of decode_counted and decode_early.
@@ -132,11 +129,11 @@ pub fn decode_in(
     ensures columns { (result.columns ≡ columns_read (numbers_of (parse code.now))) × (result.columns ≤ most_symbols) }
 {
     match codeline::code_tables(code, degrees, columns, weights) {
-        Header::Refused(k) => Counted {
-            answer: Answer::Refused(k),
+        Err(refusal) => Counted {
+            answer: Err(refusal),
             columns: 0,
         },
-        Header::Read(numbers) => {
+        Ok(numbers) => {
             let accepted = Code {
                 numbers,
                 degrees,

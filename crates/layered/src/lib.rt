@@ -19,7 +19,8 @@ ghost use Rattle.machine.specs.Early.{DecodesEarly};
 ghost use Rattle.machine.specs.Moments.{Moves, loading, iterating};
 ghost use Rattle.layered.specs.Answers.{answer_reply, stage_of};
 
-use crate::answers::{Answer, Counted, Stage};
+use crate::answers::{Counted, Outcome, Stage};
+use refusal::Refusal;
 use scalar::sizes;
 
 // Decodes a frame of N times q costs under a code line: found or not found with the iterations made, the decisions in `symbols`, the
@@ -32,7 +33,7 @@ pub fn decode(
     costs: &mut [u16],
     store: &mut [u8],
     margins: &mut [u16],
-) -> Answer
+) -> Result<Outcome, Refusal>
     ensures { Decodes code.now frame.now
         (lending symbols.old costs.old store.old margins.old) (answer_reply result)
         (lending symbols.new costs.new store.new margins.new) }
@@ -85,7 +86,7 @@ pub fn decode_early(
     costs: &mut [u16],
     store: &mut [u8],
     margins: &mut [u16],
-) -> Answer
+) -> Result<Outcome, Refusal>
     ensures { DecodesEarly code.now frame.now
         (lending symbols.old costs.old store.old margins.old) (answer_reply result)
         (lending symbols.new costs.new store.new margins.new) }
@@ -121,7 +122,7 @@ pub fn load(
     costs: &mut [u16],
     store: &[u8],
     margins: &mut [u16],
-) -> Stage
+) -> Result<Stage, Refusal>
     ensures { Moves (loading code.now frame.now
         (lending symbols.old costs.old store.now margins.old)) (stage_of result)
         (lending symbols.new costs.new store.now margins.new) }
@@ -152,7 +153,7 @@ pub fn step(
     costs: &mut [u16],
     store: &mut [u8],
     margins: &mut [u16],
-) -> Stage
+) -> Result<Stage, Refusal>
     ensures { Moves (iterating code.now frame.now t
         (lending symbols.old costs.old store.old margins.old)) (stage_of result)
         (lending symbols.new costs.new store.new margins.new) }

@@ -14,7 +14,6 @@ ghost use Rattle.layered.specs.inner.Parity.{all_hold, ParityRoom, FromTo, First
 
 use codeline::code::Code;
 use decision::answers::Decision;
-use field::Element;
 
 // The decision of column c of q costs.
 pub fn decided(costs: &[u16], q: usize, c: usize) -> Decision
@@ -23,7 +22,7 @@ pub fn decided(costs: &[u16], q: usize, c: usize) -> Decision
     ensures margin { result.margin ≡ (decide_of (column_of q costs.now c)).margin }
 {
     let at = c * q;
-    decision::decide_u16(&costs[at..at + q])
+    decision::decide(&costs[at..at + q])
 }
 
 // The symbol of each column.
@@ -53,10 +52,7 @@ fn times(p: u8, a: u8, b: u8) -> u8
     requires { (2 ≤ p) × ((p ≤ 6) × ((a < 2 ^ p) × (b < 2 ^ p))) }
     ensures { result ≡ product p a b }
 {
-    match field::product(p, a, b) {
-        Element::Is(x) => x,
-        Element::Refused(_) => 0,
-    }
+    field::product(p, a, b).unwrap()
 }
 
 // What one edge adds to its check's sum.

@@ -1,6 +1,6 @@
 // A load and one iteration: decoding's refusals, then the first test, or the iteration from the lent costs and records and the test after
 // it.
-ghost use Rattle.std.specs.Prelude.{◌≡◌};
+ghost use Rattle.std.specs.Prelude.{◌≡◌, Ok};
 ghost use Rattle.machine.specs.Machine.{settled, symbols as symbols_of, margins as margins_of};
 ghost use Rattle.machine.specs.Lent.{lent, iteration_lent};
 ghost use Rattle.machine.specs.Decoding.{lending};
@@ -12,13 +12,13 @@ ghost use Rattle.layered.specs.inner.Stages.{stage_after, loading_of, iterating_
 
 use crate::answers::Stage;
 use crate::{iterate, parity};
-use codeline::answers::Header;
 use codeline::code::Code;
+use refusal::Refusal;
 use scalar::sizes;
 
 // "2 if the test holds, else 3 if t is I or more, else 1".
 pub fn stage_after(found: bool, t: u16, limit: u8) -> Stage
-    ensures { stage_of result ≡ stage_after found t limit }
+    ensures { stage_of (Ok result) ≡ stage_after found t limit }
 {
     if found {
         return Stage::Found;
@@ -70,14 +70,14 @@ fn load_under(
     costs: &mut [u16],
     store: &[u8],
     margins: &mut [u16],
-) -> Stage
+) -> Result<Stage, Refusal>
     ensures { Moves
         (loading_of (code_in code.now) frame.now (lending symbols.old costs.old store.now margins.old))
         (stage_of result)
         (lending symbols.new costs.new store.now margins.new) }
 {
     let n = usize::from(code.numbers.columns);
-    let k = frame::fault(
+    frame::validate_decode(
         code.numbers,
         code.degrees,
         frame,
@@ -85,14 +85,11 @@ fn load_under(
         costs,
         store,
         margins,
-    );
-    if k != 0 {
-        return Stage::Refused(k);
-    }
+    )?;
     let w = frame.len();
     frame::copy(frame, &mut costs[..w]);
     let found = tested(code, &costs[..w], &mut symbols[..n], &mut margins[..n]);
-    stage_after(found, 0, code.numbers.limit)
+    Ok(stage_after(found, 0, code.numbers.limit))
 }
 
 // "While running, command 2 first tests decoding's refusals, then 13 .. then, if t is not 0, 16"; then it "goes on from the lent costs
@@ -107,7 +104,7 @@ fn step_under(
     margins: &mut [u16],
     arrived: &mut [u8],
     sent: &mut [u8],
-) -> Stage
+) -> Result<Stage, Refusal>
     requires { WorkRoom arrived.old sent.old }
     ensures { Moves
         (iterating_of (code_in code.now) frame.now t (lending symbols.old costs.old store.old margins.old))
@@ -115,7 +112,7 @@ fn step_under(
         (lending symbols.new costs.new store.new margins.new) }
 {
     let n = usize::from(code.numbers.columns);
-    let k = frame::fault(
+    frame::validate_decode(
         code.numbers,
         code.degrees,
         frame,
@@ -123,14 +120,8 @@ fn step_under(
         costs,
         store,
         margins,
-    );
-    if k != 0 {
-        return Stage::Refused(k);
-    }
-    let l = frame::resume_fault(code.numbers, t, code.degrees, costs, store);
-    if l != 0 {
-        return Stage::Refused(l);
-    }
+    )?;
+    frame::validate_resumed(code.numbers, t, code.degrees, costs, store)?;
     let w = frame.len();
     let found = iterated(
         code,
@@ -142,7 +133,7 @@ fn step_under(
         arrived,
         sent,
     );
-    stage_after(found, u16::from(t) + 1, code.numbers.limit)
+    Ok(stage_after(found, u16::from(t) + 1, code.numbers.limit))
 }
 
 // Over the tables of load.
@@ -156,23 +147,19 @@ pub fn load_in(
     degrees: &mut [u8; sizes::MOST_CHECKS],
     columns: &mut [u16; sizes::MOST_EDGES],
     weights: &mut [u8; sizes::MOST_EDGES],
-) -> Stage
+) -> Result<Stage, Refusal>
     ensures { Moves (loading code.now frame.now
         (lending symbols.old costs.old store.now margins.old)) (stage_of result)
         (lending symbols.new costs.new store.now margins.new) }
 {
-    match codeline::code_tables(code, degrees, columns, weights) {
-        Header::Refused(k) => Stage::Refused(k),
-        Header::Read(numbers) => {
-            let accepted = Code {
-                numbers,
-                degrees,
-                columns,
-                weights,
-            };
-            load_under(&accepted, frame, symbols, costs, store, margins)
-        }
-    }
+    let numbers = codeline::code_tables(code, degrees, columns, weights)?;
+    let accepted = Code {
+        numbers,
+        degrees,
+        columns,
+        weights,
+    };
+    load_under(&accepted, frame, symbols, costs, store, margins)
 }
 
 // Over the tables and lists of step.
@@ -189,23 +176,19 @@ pub fn step_in(
     weights: &mut [u8; sizes::MOST_EDGES],
     arrived: &mut [u8; sizes::MOST_EXPANSION],
     sent: &mut [u8; sizes::MOST_EXPANSION],
-) -> Stage
+) -> Result<Stage, Refusal>
     ensures { Moves (iterating code.now frame.now t
         (lending symbols.old costs.old store.old margins.old)) (stage_of result)
         (lending symbols.new costs.new store.new margins.new) }
 {
-    match codeline::code_tables(code, degrees, columns, weights) {
-        Header::Refused(k) => Stage::Refused(k),
-        Header::Read(numbers) => {
-            let accepted = Code {
-                numbers,
-                degrees,
-                columns,
-                weights,
-            };
-            step_under(
-                &accepted, t, frame, symbols, costs, store, margins, arrived, sent,
-            )
-        }
-    }
+    let numbers = codeline::code_tables(code, degrees, columns, weights)?;
+    let accepted = Code {
+        numbers,
+        degrees,
+        columns,
+        weights,
+    };
+    step_under(
+        &accepted, t, frame, symbols, costs, store, margins, arrived, sent,
+    )
 }

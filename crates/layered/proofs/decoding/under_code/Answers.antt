@@ -1,5 +1,10 @@
 -- Each refusal by its number; after them the run starts on the copied frame, and its equations give all five of the promise's.
-use mathlib.Core.Path.{◌∙◌, sym}
+use mathlib.Core.Path.{◌≡◌, refl, ◌∙◌, sym}
+use borrow.Author.Rules.{rules}
+use Rattle.trellis.specs.Reply.{refusal}
+use Rattle.refusal.specs.Numbers.{number_of}
+use Rattle.field.proofs.Weighed.{some_number}
+use Rattle.layered.specs.Answers.{answer_reply}
 use native.Mathlib.Omega.{arith}
 use lib.ListN.{length, take, length-take}
 use lib.Seq.{length-take-le}
@@ -8,46 +13,48 @@ use Rattle.slices.proofs.Copies.{copied_is}
 use Rattle.layered.proofs.Decoded.{fits, refused-leaves, copied_room, copied_leaves}
 use Rattle.layered.proofs.decoding.under_code.Goals as goal
 
-pub returns-then-k-ne0 : goal.returns-then-k-ne0
-returns-then-k-ne0 c =
-    refused-leaves c.args.code.now c.from-n.result c.from-n.ensures c.args.frame.now c.args.symbols.now c.args.costs.now c.args.store.now c.args.margins.now c.fault-k.result c.fault-k.ensures c.args.early c.if-k-ne0.true
+pub returns-in_err-validate_decode : goal.returns-in_err-validate_decode
+returns-in_err-validate_decode c =
+    let r = c.in_err-validate_decode.field-0.0 in
+    let e : answer_reply c.from_residual.result ≡ refusal (number_of r) = search rules in
+    rw e (refused-leaves c.args.code.now c.from-n.result c.from-n.ensures c.args.frame.now c.args.symbols.now c.args.costs.now c.args.store.now c.args.margins.now (number_of r) c.in_err-validate_decode.ensures c.args.early (some_number r))
 
 pub slice_bounds-copy-end : goal.slice_bounds-copy-end
 slice_bounds-copy-end c =
-    omega (arith, (fits c.args.code.now c.from-n.result c.from-n.ensures c.args.frame.now c.args.symbols.now c.args.costs.now c.args.store.now c.args.margins.now c.fault-k.result c.fault-k.ensures c.if-k-ne0.false))
+    omega (arith, (fits c.args.code.now c.from-n.result c.from-n.ensures c.args.frame.now c.args.symbols.now c.args.costs.now c.args.store.now c.args.margins.now 0 c.in_ok-validate_decode.ensures refl))
 
 pub slice_bounds-copy-end-2 : goal.slice_bounds-copy-end-2
 slice_bounds-copy-end-2 c =
-    simp length-take (omega (arith, (fits c.args.code.now c.from-n.result c.from-n.ensures c.args.frame.now c.args.symbols.now c.args.costs.now c.args.store.now c.args.margins.now c.fault-k.result c.fault-k.ensures c.if-k-ne0.false)))
+    simp length-take (omega (arith, (fits c.args.code.now c.from-n.result c.from-n.ensures c.args.frame.now c.args.symbols.now c.args.costs.now c.args.store.now c.args.margins.now 0 c.in_ok-validate_decode.ensures refl)))
 
 pub slice_bounds-run_to_margins-end : goal.slice_bounds-run_to_margins-end
 slice_bounds-run_to_margins-end c =
-    omega (arith, (fits c.args.code.now c.from-n.result c.from-n.ensures c.args.frame.now c.args.symbols.now c.args.costs.now c.args.store.now c.args.margins.now c.fault-k.result c.fault-k.ensures c.if-k-ne0.false))
+    omega (arith, (fits c.args.code.now c.from-n.result c.from-n.ensures c.args.frame.now c.args.symbols.now c.args.costs.now c.args.store.now c.args.margins.now 0 c.in_ok-validate_decode.ensures refl))
 
 pub slice_bounds-run_to_margins-end-2 : goal.slice_bounds-run_to_margins-end-2
 slice_bounds-run_to_margins-end-2 c =
-    sym (length-take-le c.from-n.result c.args.symbols.now (omega (arith, (fits c.args.code.now c.from-n.result c.from-n.ensures c.args.frame.now c.args.symbols.now c.args.costs.now c.args.store.now c.args.margins.now c.fault-k.result c.fault-k.ensures c.if-k-ne0.false))))
+    sym (length-take-le c.from-n.result c.args.symbols.now (omega (arith, (fits c.args.code.now c.from-n.result c.from-n.ensures c.args.frame.now c.args.symbols.now c.args.costs.now c.args.store.now c.args.margins.now 0 c.in_ok-validate_decode.ensures refl))))
 
 pub slice_bounds-run_to_margins-end-3 : goal.slice_bounds-run_to_margins-end-3
 slice_bounds-run_to_margins-end-3 c =
-    (front-room c.args.costs.now c.copy.new.costs (length c.args.frame.now) (omega (arith, (fits c.args.code.now c.from-n.result c.from-n.ensures c.args.frame.now c.args.symbols.now c.args.costs.now c.args.store.now c.args.margins.now c.fault-k.result c.fault-k.ensures c.if-k-ne0.false))) c.copy.auto.costs)
+    (front-room c.args.costs.now c.copy.new.costs (length c.args.frame.now) (omega (arith, (fits c.args.code.now c.from-n.result c.from-n.ensures c.args.frame.now c.args.symbols.now c.args.costs.now c.args.store.now c.args.margins.now 0 c.in_ok-validate_decode.ensures refl))) c.copy.auto.costs)
 
 pub slice_bounds-run_to_margins-end-4 : goal.slice_bounds-run_to_margins-end-4
 slice_bounds-run_to_margins-end-4 c =
-    sym (length-take-le (length c.args.frame.now) _ (front-room c.args.costs.now c.copy.new.costs (length c.args.frame.now) (omega (arith, (fits c.args.code.now c.from-n.result c.from-n.ensures c.args.frame.now c.args.symbols.now c.args.costs.now c.args.store.now c.args.margins.now c.fault-k.result c.fault-k.ensures c.if-k-ne0.false))) c.copy.auto.costs))
+    sym (length-take-le (length c.args.frame.now) _ (front-room c.args.costs.now c.copy.new.costs (length c.args.frame.now) (omega (arith, (fits c.args.code.now c.from-n.result c.from-n.ensures c.args.frame.now c.args.symbols.now c.args.costs.now c.args.store.now c.args.margins.now 0 c.in_ok-validate_decode.ensures refl))) c.copy.auto.costs))
 
 pub slice_bounds-run_to_margins-end-5 : goal.slice_bounds-run_to_margins-end-5
 slice_bounds-run_to_margins-end-5 c =
-    omega (arith, (fits c.args.code.now c.from-n.result c.from-n.ensures c.args.frame.now c.args.symbols.now c.args.costs.now c.args.store.now c.args.margins.now c.fault-k.result c.fault-k.ensures c.if-k-ne0.false))
+    omega (arith, (fits c.args.code.now c.from-n.result c.from-n.ensures c.args.frame.now c.args.symbols.now c.args.costs.now c.args.store.now c.args.margins.now 0 c.in_ok-validate_decode.ensures refl))
 
 pub slice_bounds-run_to_margins-end-6 : goal.slice_bounds-run_to_margins-end-6
 slice_bounds-run_to_margins-end-6 c =
-    sym (length-take-le c.from-n.result c.args.margins.now (omega (arith, (fits c.args.code.now c.from-n.result c.from-n.ensures c.args.frame.now c.args.symbols.now c.args.costs.now c.args.store.now c.args.margins.now c.fault-k.result c.fault-k.ensures c.if-k-ne0.false))))
+    sym (length-take-le c.from-n.result c.args.margins.now (omega (arith, (fits c.args.code.now c.from-n.result c.from-n.ensures c.args.frame.now c.args.symbols.now c.args.costs.now c.args.store.now c.args.margins.now 0 c.in_ok-validate_decode.ensures refl))))
 
 pub run_to_margins-o-requires : goal.run_to_margins-o-requires
 run_to_margins-o-requires c =
-    (copied_room c.args.code.now c.from-n.result c.from-n.ensures c.args.frame.now c.args.symbols.now c.args.costs.now c.args.store.now c.args.margins.now c.fault-k.result c.fault-k.ensures c.if-k-ne0.false c.copy.new.costs (copied_is c.args.frame.now (take (length c.args.frame.now) c.args.costs.now) c.copy.new.costs (sym (length-take-le (length c.args.frame.now) c.args.costs.now (omega (arith, (fits c.args.code.now c.from-n.result c.from-n.ensures c.args.frame.now c.args.symbols.now c.args.costs.now c.args.store.now c.args.margins.now c.fault-k.result c.fault-k.ensures c.if-k-ne0.false))))) c.copy.ensures) (λ x. omega (arith, c.type_inv.frame x)) (take c.from-n.result c.args.symbols.now) c.args.arrived.now c.args.sent.now (length-take-le c.from-n.result c.args.symbols.now (omega (arith, (fits c.args.code.now c.from-n.result c.from-n.ensures c.args.frame.now c.args.symbols.now c.args.costs.now c.args.store.now c.args.margins.now c.fault-k.result c.fault-k.ensures c.if-k-ne0.false)))) c.requires.arrived c.requires.sent, (length-take-le c.from-n.result c.args.margins.now (omega (arith, (fits c.args.code.now c.from-n.result c.from-n.ensures c.args.frame.now c.args.symbols.now c.args.costs.now c.args.store.now c.args.margins.now c.fault-k.result c.fault-k.ensures c.if-k-ne0.false)))) ∙ c.from-n.ensures)
+    (copied_room c.args.code.now c.from-n.result c.from-n.ensures c.args.frame.now c.args.symbols.now c.args.costs.now c.args.store.now c.args.margins.now 0 c.in_ok-validate_decode.ensures refl c.copy.new.costs (copied_is c.args.frame.now (take (length c.args.frame.now) c.args.costs.now) c.copy.new.costs (sym (length-take-le (length c.args.frame.now) c.args.costs.now (omega (arith, (fits c.args.code.now c.from-n.result c.from-n.ensures c.args.frame.now c.args.symbols.now c.args.costs.now c.args.store.now c.args.margins.now 0 c.in_ok-validate_decode.ensures refl))))) c.copy.ensures) (λ x. omega (arith, c.type_inv.frame x)) (take c.from-n.result c.args.symbols.now) c.args.arrived.now c.args.sent.now (length-take-le c.from-n.result c.args.symbols.now (omega (arith, (fits c.args.code.now c.from-n.result c.from-n.ensures c.args.frame.now c.args.symbols.now c.args.costs.now c.args.store.now c.args.margins.now 0 c.in_ok-validate_decode.ensures refl)))) c.requires.arrived c.requires.sent, (length-take-le c.from-n.result c.args.margins.now (omega (arith, (fits c.args.code.now c.from-n.result c.from-n.ensures c.args.frame.now c.args.symbols.now c.args.costs.now c.args.store.now c.args.margins.now 0 c.in_ok-validate_decode.ensures refl)))) ∙ c.from-n.ensures)
 
 pub returns : goal.returns
 returns c =
-    copied_leaves c.args.code.now c.from-n.result c.from-n.ensures c.args.frame.now c.args.symbols.now c.args.costs.now c.args.store.now c.args.margins.now c.fault-k.result c.fault-k.ensures c.if-k-ne0.false c.copy.new.costs (copied_is c.args.frame.now (take (length c.args.frame.now) c.args.costs.now) c.copy.new.costs (sym (length-take-le (length c.args.frame.now) c.args.costs.now (omega (arith, (fits c.args.code.now c.from-n.result c.from-n.ensures c.args.frame.now c.args.symbols.now c.args.costs.now c.args.store.now c.args.margins.now c.fault-k.result c.fault-k.ensures c.if-k-ne0.false))))) c.copy.ensures) c.args.early c.run_to_margins-o.result _ _ _ _ c.run_to_margins-o.ensures.ends c.run_to_margins-o.ensures.symbols_then c.run_to_margins-o.ensures.margins_then
+    copied_leaves c.args.code.now c.from-n.result c.from-n.ensures c.args.frame.now c.args.symbols.now c.args.costs.now c.args.store.now c.args.margins.now 0 c.in_ok-validate_decode.ensures refl c.copy.new.costs (copied_is c.args.frame.now (take (length c.args.frame.now) c.args.costs.now) c.copy.new.costs (sym (length-take-le (length c.args.frame.now) c.args.costs.now (omega (arith, (fits c.args.code.now c.from-n.result c.from-n.ensures c.args.frame.now c.args.symbols.now c.args.costs.now c.args.store.now c.args.margins.now 0 c.in_ok-validate_decode.ensures refl))))) c.copy.ensures) c.args.early c.run_to_margins-o.result _ _ _ _ c.run_to_margins-o.ensures.ends c.run_to_margins-o.ensures.symbols_then c.run_to_margins-o.ensures.margins_then
