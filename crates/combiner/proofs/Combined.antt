@@ -21,9 +21,36 @@ use Rattle.machine.proofs.Faults.{combine_by}
 use Rattle.machine.proofs.Lists.{map-after}
 use Rattle.machine.proofs.Ranges.{frame-fits}
 use Rattle.machine.proofs.Combining.{length-combined, fault_none}
-use Rattle.codeline.specs.declared.answers.Header.{Header}
 use Rattle.codeline.specs.declared.answers.Numbers.{Numbers}
-use Rattle.codeline.specs.declared.answers.Header.TheVariants.{Read as HeaderRead, Refused as HeaderRefused}
+use Rattle.refusal.specs.declared.Refusal.{Refusal}
+use Rattle.refusal.specs.declared.Refusal.TheVariants.{
+  OutputTooShort,
+  CostsTooShort,
+  StoreTooShort,
+  CodeLength,
+  FirstByte,
+  Counts,
+  ScaleOrLimit,
+  Degree,
+  Column,
+  Weight,
+  CostCount,
+  NoZeroCost,
+  Digit,
+  LineTooLong,
+  RecordForm,
+  NotEncodable,
+  Message,
+  MarginsTooShort,
+  ChannelCount,
+  Allowance,
+  SecondFrame,
+}
+use Rattle.refusal.specs.Numbers.{number_of}
+use Rattle.refusal.specs.Replies.{fault_of}
+use Rattle.std.specs.Result.{is_err}
+use mathlib.Core.Bool.{true, false, true≢false}
+use Rattle.std.specs.Prelude.{Result, Ok, Err}
 use Rattle.codeline.specs.Answers.{header_numbers}
 use Rattle.codeline.proofs.Answered.{Accepted, header_refused, header_read}
 use Rattle.frame.specs.Answers.{frame_fault_of}
@@ -63,6 +90,38 @@ column_next f g out x q c k some room fits i t =
     let y : x ≡ at c = (rw b at i) ∙ ap (λ n. combined_column n (column_of q f c) (column_of q g c)) l in
     block_next at c q k out x fits (ap length y ∙ length-combined q some (column_of q f c) (column_of q g c)) y t
 
+-- no refusal's number is 0
+pub number-some : (r : Refusal) → number_of r ≡ 0 → ⊥
+number-some OutputTooShort e = omega arith
+number-some CostsTooShort e = omega arith
+number-some StoreTooShort e = omega arith
+number-some CodeLength e = omega arith
+number-some FirstByte e = omega arith
+number-some Counts e = omega arith
+number-some ScaleOrLimit e = omega arith
+number-some Degree e = omega arith
+number-some Column e = omega arith
+number-some Weight e = omega arith
+number-some CostCount e = omega arith
+number-some NoZeroCost e = omega arith
+number-some Digit e = omega arith
+number-some LineTooLong e = omega arith
+number-some RecordForm e = omega arith
+number-some NotEncodable e = omega arith
+number-some Message e = omega arith
+number-some MarginsTooShort e = omega arith
+number-some ChannelCount e = omega arith
+number-some Allowance e = omega arith
+number-some SecondFrame e = omega arith
+
+pub fault-some : (r : Result Unit Refusal) → is_err r ≡ true → fault_of r ≡ 0 → ⊥
+fault-some (Ok u) e = absurd (true≢false (sym e))
+fault-some (Err k) e = number-some k
+
+pub fault_nothing : (r : Result Unit Refusal) → is_err r ≡ false → fault_of r ≡ 0
+fault_nothing (Ok u) e = refl
+fault_nothing (Err k) e = absurd (true≢false e)
+
 -- the tests, in their order
 frame_fault_is : (byte n : ℕ) (f : List ℕ) → frame_fault_of byte n f ≡ frame_fault (headed byte n) f
 unfolding frame_fault_of frame_fault
@@ -94,34 +153,30 @@ module _ (byte n : ℕ) (f g : List ℕ) (room k : ℕ) (e : k ≡ frame_fault_o
     pub no_fault : j ≡ 0 → length f ≤ room → 0 ≡ combine_fault C f g room
     no_fault y l = rw (combine_by C f g room) (simp (eq-eqb (frame_fault C f) 0 fits, eq-eqb (frame_fault C g) 0 (sym second_is ∙ y), le-ltb room (n * size_of byte) (omega (arith, (frame-fits C f fits).0))))
 
--- a call under such a code
-module _ (byte n : ℕ) (f g out : List ℕ) (k : ℕ) (e : k ≡ combine_fault (headed byte n) f g (length out)) where
-  pub under-refused : (k ≡ 0 → ⊥) → (refusal k ≡ (combining_under (good (headed byte n)) f g out).reply) × (out ≡ (combining_under (good (headed byte n)) f g out).out)
-  under-refused h = rw (← e, ne_eqb k 0 h) (refl, refl)
+-- a call under such a code that is not refused
+module _ (byte n : ℕ) (f g out : List ℕ) (e : 0 ≡ combine_fault (headed byte n) f g (length out)) where
+  -- the lengths
+  pub under-room : (length f ≡ n * size_of byte) × ((length g ≡ n * size_of byte) × (n * size_of byte ≤ length out))
+  under-room =
+      let N = fault_none (headed byte n) f g (length out) (sym e) in
+      ((frame-fits (headed byte n) f N.first).0, ((frame-fits (headed byte n) g N.second).0, N.enough))
 
-  module _ (z : k ≡ 0) where
-    -- no refusal: the lengths
-    pub under-room : (length f ≡ n * size_of byte) × ((length g ≡ n * size_of byte) × (n * size_of byte ≤ length out))
-    under-room =
-        let N = fault_none (headed byte n) f g (length out) (sym e ∙ z) in
-        ((frame-fits (headed byte n) f N.first).0, ((frame-fits (headed byte n) g N.second).0, N.enough))
+  pub size-some : (q : ℕ) → q ≡ size_of byte → 0 < q
+  size-some q j = rw j (pow_pos _)
 
-    pub size-some : (q : ℕ) → q ≡ size_of byte → 0 < q
-    size-some q j = rw j (pow_pos _)
-
-    pub under_written : (q : ℕ) (x : List ℕ) → q ≡ size_of byte → x ≡ combined_to q f g n
-        → (accepted (length f) ≡ (combining_under (good (headed byte n)) f g out).reply) × (x ++ drop (length f) out ≡ (combining_under (good (headed byte n)) f g out).out)
-    under_written q x j o =
-        let v : length f ≡ n * size_of byte = under-room.0 in
-        rw (← e, eq-eqb k 0 z) (ap accepted v, ap₂ (λ x w. x ++ drop w out) (o ∙ ap (λ q. combined_to q f g n) j) v)
+  pub under_written : (q : ℕ) (x : List ℕ) → q ≡ size_of byte → x ≡ combined_to q f g n
+      → (accepted (length f) ≡ (combining_under (good (headed byte n)) f g out).reply) × (x ++ drop (length f) out ≡ (combining_under (good (headed byte n)) f g out).out)
+  under_written q x j o =
+      let v : length f ≡ n * size_of byte = under-room.0 in
+      rw (eq-eqb (combine_fault (headed byte n) f g (length out)) 0 (sym e)) (ap accepted v, ap₂ (λ x w. x ++ drop w out) (o ∙ ap (λ q. combined_to q f g n) j) v)
 
 -- what the reader's answer says of the line
-module _ (s : List ℕ) (h : Header) (e : header_numbers h ≡ numbers_of (parse s)) (f g out : List ℕ) where
-  pub line_refused : (k : ℕ) → h ≡ HeaderRefused k → (refusal k ≡ (combining s f g out).reply) × (out ≡ (combining s f g out).out)
+module _ (s : List ℕ) (h : Result Numbers Refusal) (e : header_numbers h ≡ numbers_of (parse s)) (f g out : List ℕ) where
+  pub line_refused : (r : Refusal) → h ≡ Err r → (refusal (number_of r) ≡ (combining s f g out).reply) × (out ≡ (combining s f g out).out)
   unfolding combining
-  line_refused k i = rw (header_refused s h e k i) (refl, refl)
+  line_refused r i = rw (header_refused s h e r i) (refl, refl)
 
-  module _ (k : Numbers) (i : h ≡ HeaderRead k) where
+  module _ (k : Numbers) (i : h ≡ Ok k) where
     read : Accepted s k
     read = header_read s h e k i
 

@@ -10,7 +10,7 @@ use Rattle.machine.specs.CodeLine.{Code}
 use Rattle.machine.specs.Decoding.{Accepts}
 use Rattle.machine.specs.Combining.{combining}
 use Rattle.machine.proofs.Combining.{either_order}
-use Rattle.field.specs.Answers.{written_reply}
+use Rattle.refusal.specs.Replies.{reply_of}
 use Rattle.combiner.specs.contracts.combine as combine
 use Rattle.combiner.proofs.combine.Kinds as kinds
 use Rattle.combiner.proofs.combine.Reads as reads
@@ -23,8 +23,8 @@ module _ (κs κs' : Lfts 4) (a : ArgsD combine.signature κs) (b : ArgsD combin
   pub two_combinations : b.0.now ≡ a.0.now → b.1.0.now ≡ a.1.1.0.now → b.1.1.0.now ≡ a.1.0.now → b.1.1.1.0.now ≡ a.1.1.1.0.now
       → (C : Code) → Accepts a.0.now a.1.0.now C → Accepts a.0.now a.1.1.0.now C
       → reads.Post κs a r s → reads.Post κs' b r' s'
-      → (written_reply r ≡ written_reply r') × (s.1.1.1.0.now ≡ s'.1.1.1.0.now)
+      → (reply_of r ≡ reply_of r') × (s.1.1.1.0.now ≡ s'.1.1.1.0.now)
   two_combinations h i j k C A B p q =
-      (either_order a.0.now a.1.0.now a.1.1.0.now C A B).calls a.1.1.1.0.now (written_reply r) (written_reply r') s.1.1.1.0.now s'.1.1.1.0.now
+      (either_order a.0.now a.1.0.now a.1.1.0.now C A B).calls a.1.1.1.0.now (reply_of r) (reply_of r') s.1.1.1.0.now s'.1.1.1.0.now
       (record { replies = p.0; out-then = p.1 })
       (record { replies = q.0 ∙ given (λ c f g o. (combining c f g o).reply) h i j k; out-then = q.1 ∙ given (λ c f g o. (combining c f g o).out) h i j k })
