@@ -22,11 +22,11 @@ fn read_edge(line: &mut Reader<'_>, n: usize, q: usize, low: usize) -> Result<Ed
 {
     let column = line.word();
     let c = usize::from(column);
-    if n <= c || c < low {
+    if !(low..n).contains(&c) {
         return Err(Refusal::Column);
     }
     let weight = line.byte();
-    if weight == 0 || q <= usize::from(weight) {
+    if !(1..q).contains(&usize::from(weight)) {
         return Err(Refusal::Weight);
     }
     Ok(Edge { column, weight })
@@ -73,7 +73,7 @@ fn check(line: &mut Reader<'_>, n: usize, q: usize, tables: &mut Tables) -> Resu
     }
     let degree = line.byte();
     let d = usize::from(degree);
-    if d < 2 || sizes::MOST_DEGREE < d || sizes::MOST_EDGES - d < tables.edges {
+    if !(2..=sizes::MOST_DEGREE).contains(&d) || tables.edges + d > sizes::MOST_EDGES {
         return Err(Refusal::Degree);
     }
     if line.left() < 3 * d {

@@ -4,7 +4,7 @@ ghost use Rattle.codeline.specs.inner.Coding.{Coded};
 use crate::answers::Numbers;
 
 // The numbers of an accepted line and the tables of its checks; what the tables hold behind these is anything.
-#[derive(Clone, Copy)]
+#[derive(Clone, Copy, Debug, PartialEq, Eq)]
 pub struct Code<'a> {
     pub numbers: Numbers,
     pub degrees: &'a [u8],

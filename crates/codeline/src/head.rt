@@ -27,19 +27,19 @@ pub fn head(line: &mut Reader<'_>) -> Result<Numbers, Refusal>
         return Err(Refusal::FirstByte);
     }
     let columns = line.word();
-    if columns < 1 || usize::from(columns) > sizes::MOST_SYMBOLS {
+    if columns == 0 || usize::from(columns) > sizes::MOST_SYMBOLS {
         return Err(Refusal::Counts);
     }
     let checks = line.byte();
-    if checks < 1 || usize::from(checks) > sizes::MOST_CHECKS {
+    if checks == 0 || usize::from(checks) > sizes::MOST_CHECKS {
         return Err(Refusal::Counts);
     }
     let scale = line.byte();
-    if scale < 1 || scale > 16 {
+    if scale == 0 || scale > 16 {
         return Err(Refusal::ScaleOrLimit);
     }
     let limit = line.byte();
-    if limit < 1 {
+    if limit == 0 {
         return Err(Refusal::ScaleOrLimit);
     }
     Ok(Numbers {

@@ -13,7 +13,7 @@ pub struct Edge {
 }
 
 // Room for the largest code, and how many edges were put so far. Behind these the tables hold anything.
-#[derive(Clone, Copy)]
+#[derive(Clone, Copy, Debug, PartialEq, Eq)]
 pub struct Tables {
     pub degrees: [u8; sizes::MOST_CHECKS],
     pub columns: [u16; sizes::MOST_EDGES],
