@@ -7,6 +7,7 @@ ghost use Rattle.window.specs.Meaning.{bytes_of, state_number};
 
 use crate::registers::Registers;
 use layered::answers::Stage;
+use refusal::Refusal;
 
 // "States: 0 idle, 1 running, 2 found, 3 not found, 4 refused." No load and no iteration enters 0.
 #[derive(Clone, Copy, Debug, PartialEq, Eq)]
@@ -44,14 +45,14 @@ fn entering(window: Registers, state: State, number: u8, t: u8) -> Registers
 }
 
 // The registers after a load or an iteration that ended in a stage at t; "Entering 4 .. sets byte 3 to 0."
-pub fn taking(window: Registers, stage: Stage, t: u8) -> Registers
+pub fn taking(window: Registers, stage: Result<Stage, Refusal>, t: u8) -> Registers
     ensures { bytes_of result ≡ entering (stage_of stage).state (stage_of stage).number (pick (eqb (stage_of stage).state 4) 0 t)
         (bytes_of window) }
 {
     match stage {
-        Stage::Running => entering(window, State::Running, 0, t),
-        Stage::Found => entering(window, State::Found, 0, t),
-        Stage::NotFound => entering(window, State::NotFound, 0, t),
-        Stage::Refused(k) => entering(window, State::Refused, k, 0),
+        Ok(Stage::Running) => entering(window, State::Running, 0, t),
+        Ok(Stage::Found) => entering(window, State::Found, 0, t),
+        Ok(Stage::NotFound) => entering(window, State::NotFound, 0, t),
+        Err(refusal) => entering(window, State::Refused, u8::from(refusal), 0),
     }
 }
