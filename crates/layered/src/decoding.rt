@@ -1,5 +1,4 @@
-// Decoding over lent tables and lists to work in: the code is read, then its refusals, or the run. `early`: it may stop inside an
-// iteration.
+// Decoding over lent tables and lists to work in: the code is read, then its refusals, or the run of a schedule.
 ghost use Rattle.std.specs.Prelude.{◌≡◌, true, ◌≤◌, length};
 ghost use Rattle.trellis.specs.Sizes.{most_symbols};
 ghost use Rattle.machine.specs.CodeLine.{parse, numbers_of, columns_read};
@@ -12,36 +11,14 @@ ghost use Rattle.layered.specs.inner.Iterations.{ended_in, RunRoom};
 ghost use Rattle.layered.specs.inner.Calls.{run_lent, decoding_of, called, WorkRoom};
 
 use crate::answers::{Counted, Outcome};
-use crate::{early, iterate, parity};
+use crate::parity;
+use crate::schedule::Schedule;
 use codeline::code::Code;
 use refusal::Refusal;
 use scalar::sizes;
 
-// The machine on the costs in `costs`.
-fn run(
-    early: bool,
-    code: &Code<'_>,
-    symbols: &mut [u8],
-    costs: &mut [u16],
-    store: &mut [u8],
-    arrived: &mut [u8],
-    sent: &mut [u8],
-) -> Outcome
-    requires { RunRoom code.now true costs.old store.old symbols.old arrived.old sent.old }
-    ensures ends { ended_in result (lent costs.new store.new)
-        ≡ run_lent early code.now.numbers (code_in code.now)
-        (lent costs.old store.old) }
-    ensures symbols_then { symbols.new ≡ symbols_of (code_in code.now) costs.new }
-{
-    if early {
-        return early::run(code, symbols, costs, store, arrived, sent);
-    }
-    iterate::run(code, symbols, costs, store, arrived, sent)
-}
-
-// The same, with the margins of the last decisions.
-fn run_to_margins(
-    early: bool,
+// The run of a schedule, with the margins of its last decisions.
+fn run_to_margins<S: Schedule>(
     code: &Code<'_>,
     symbols: &mut [u8],
     costs: &mut [u16],
@@ -53,19 +30,18 @@ fn run_to_margins(
     requires { RunRoom code.now true costs.old store.old symbols.old arrived.old sent.old
         × (length margins.old ≡ code.now.numbers.columns) }
     ensures ends { ended_in result (lent costs.new store.new)
-        ≡ run_lent early code.now.numbers (code_in code.now)
+        ≡ run_lent S.early code.now.numbers (code_in code.now)
         (lent costs.old store.old) }
     ensures symbols_then { symbols.new ≡ symbols_of (code_in code.now) costs.new }
     ensures margins_then { margins.new ≡ margins_of (code_in code.now) costs.new }
 {
-    let o = run(early, code, symbols, costs, store, arrived, sent);
+    let o = S::run(code, symbols, costs, store, arrived, sent);
     parity::margins(costs, rules::size(code.numbers.first), margins);
     o
 }
 
 // "Decode: code, 12, 13, 2, 3, 4.", 19. Nothing is written before the last refusal has been tested.
-fn under_code(
-    early: bool,
+fn under_code<S: Schedule>(
     code: &Code<'_>,
     frame: &[u8],
     symbols: &mut [u8],
@@ -77,7 +53,7 @@ fn under_code(
 ) -> Result<Outcome, Refusal>
     requires { WorkRoom arrived.old sent.old }
     ensures { Leaves
-        (decoding_of early (code_in code.now)
+        (decoding_of S.early (code_in code.now)
         frame.now (lending symbols.old costs.old store.old margins.old))
         (answer_reply result)
         (lending symbols.new costs.new store.new margins.new) }
@@ -94,8 +70,7 @@ fn under_code(
     )?;
     let w = frame.len();
     frame::copy(frame, &mut costs[..w]);
-    let o = run_to_margins(
-        early,
+    let o = run_to_margins::<S>(
         code,
         &mut symbols[..n],
         &mut costs[..w],
@@ -108,8 +83,7 @@ fn under_code(
 }
 
 // Over the tables and lists of decode_counted and decode_early.
-pub fn decode_in(
-    early: bool,
+pub fn decode_in<S: Schedule>(
     code: &[u8],
     frame: &[u8],
     symbols: &mut [u8],
@@ -123,7 +97,7 @@ pub fn decode_in(
     sent: &mut [u8; sizes::MOST_EXPANSION],
 ) -> Counted
     ensures leaves { Leaves
-        (called early code.now frame.now
+        (called S.early code.now frame.now
         (lending symbols.old costs.old store.old margins.old)) (answer_reply result.answer)
         (lending symbols.new costs.new store.new margins.new) }
     ensures columns { (result.columns ≡ columns_read (numbers_of (parse code.now))) × (result.columns ≤ most_symbols) }
@@ -140,8 +114,8 @@ pub fn decode_in(
                 columns,
                 weights,
             };
-            let answer = under_code(
-                early, &accepted, frame, symbols, costs, store, margins, arrived, sent,
+            let answer = under_code::<S>(
+                &accepted, frame, symbols, costs, store, margins, arrived, sent,
             );
             Counted {
                 answer,

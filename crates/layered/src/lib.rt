@@ -8,6 +8,7 @@ mod early;
 mod iterate;
 mod parity;
 mod place;
+mod schedule;
 pub mod stages;
 mod update;
 
@@ -20,6 +21,7 @@ ghost use Rattle.machine.specs.Moments.{Moves, loading, iterating};
 ghost use Rattle.layered.specs.Answers.{answer_reply, stage_of};
 
 use crate::answers::{Counted, Outcome, Stage};
+use crate::schedule::{EachUpdate, WholeIterations};
 use refusal::Refusal;
 use scalar::sizes;
 
@@ -60,8 +62,7 @@ pub fn decode_counted(
     let mut weights = [0u8; sizes::MOST_EDGES];
     let mut arrived = [0u8; sizes::MOST_EXPANSION];
     let mut sent = [0u8; sizes::MOST_EXPANSION];
-    decoding::decode_in(
-        false,
+    decoding::decode_in::<WholeIterations>(
         code,
         frame,
         symbols,
@@ -96,8 +97,7 @@ pub fn decode_early(
     let mut weights = [0u8; sizes::MOST_EDGES];
     let mut arrived = [0u8; sizes::MOST_EXPANSION];
     let mut sent = [0u8; sizes::MOST_EXPANSION];
-    decoding::decode_in(
-        true,
+    decoding::decode_in::<EachUpdate>(
         code,
         frame,
         symbols,

@@ -10,11 +10,11 @@ use Rattle.layered.proofs.Satisfied.{margins_are}
 use Rattle.layered.proofs.decoding.run_to_margins.Goals as goal
 
 pub margins-requires : goal.margins-requires
-margins-requires c =
+margins-requires g c =
     let e : c.size.result ≡ size_of c.args.code.now.numbers.first = c.size.ensures.0 in omega (arith, c.requires.0.iterate.running.passable.ranged.full, ap₂ (λ a b. a * b) c.requires.1 e, c.run-o.auto)
 
 pub returns : goal.returns
-returns c =
+returns g c =
     record {
       ends = c.run-o.ensures.ends;
       symbols_then = c.run-o.ensures.symbols_then;
