@@ -1,34 +1,39 @@
 -- Turns and ends of the loops that unpack a record into lists and read a column from them.
-use mathlib.Core.Path.{◌≡◌, refl, ap, ◌∙◌}
-use mathlib.Core.Logic.{⊎_elim}
-use mathlib.Core.List.{List, [], ◌∷◌, ◌++◌}
+use mathlib.Core.Path.{◌≡◌, refl, ap, ◌∙◌, sym}
+use mathlib.Core.List.{List, [], ◌∷◌}
 use Prim.Native.Nat.{ℕ, zero, suc, ◌+◌, ◌-◌, ◌*◌, ◌≤◌, ◌<◌}
-use native.Mathlib.Nat.{zero-mul, suc-mul, mul-suc, mul-le-mul, mul-le-mul_left, mul-le-mul_right, add-sub_cancel_left, eq-or-lt_of_le}
+use native.Mathlib.Nat.{add-zero, zero-mul, suc-mul, mul-suc, mul-le-mul, mul-le-mul_left, mul-le-mul_right}
 use native.Mathlib.Omega.{arith}
 use lib.Bits.{bit_xor, xor_lt}
-use lib.ListN.{length, get_or, take, drop, set}
-use lib.Seq.{get_or-take, get_or-drop, take_at, drop_at, append_snoc}
-use Rattle.trellis.specs.Lists.{tab, part, blocks}
-use Rattle.trellis.specs.Field.{xor}
-use Rattle.trellis.proofs.Loops.{tab-more, tab_seam, tab_ext, length-tab, get_d_tab, length-even}
+use borrow.Rule.Slice.PartMut.{put_mid}
+use native.Mathlib.Numerals.{add-one}
+use Rattle.std.proofs.lemmas.Simd.{take_more_put_chunk}
+use Rattle.std.proofs.lemmas.Slice.{drop-put_mid}
+use Rattle.field.proofs.Filling.{tab-add}
+use lib.ListN.{length, get_or, take, drop, set, length-drop}
+use lib.Seq.{get_or-take, get_or-drop, drop-drop, length-take-le}
+use lib.Dec.{eqb}
+use lib.Lanes.{sel_l, put_chunk}
+use Rattle.std.specs.Prelude.{replicate}
+use Rattle.std.specs.Simd.Lanes.{zip2}
+use Rattle.std.proofs.lemmas.Grind.{same_number_lists}
+use Rattle.std.proofs.lemmas.List.{take-take}
+use Rattle.trellis.specs.Lists.{tab, part}
+use Rattle.trellis.proofs.Loops.{tab-front, tab_ext, length-tab, get_d_tab}
 use Rattle.field.proofs.Blocks.{part_room}
 use Rattle.expansion.specs.inner.Transposed.{every_at, byte_in, beside_in, beside_from, value_in, by_symbol, turned, UnpackRoom, ListsRoom, ShiftRoom, TurnRoom}
 
 -- one list
 module _ (r : List ℕ) (at g f : ℕ) where
-  pub every_start : (l : List ℕ) → 1 ≤ length l → set l 0 f ≡ tab (every_at r at g f) 1 ++ drop 1 (set l 0 f)
+  pub every_start : (l : List ℕ) → 1 ≤ length l → take 1 (set l 0 f) ≡ tab (every_at r at g f) 1
   unfolding every_at
   every_start [] h = absurd (omega arith)
   every_start (x ∷ l) h = refl
 
-  every-next : (a : ℕ) → 1 ≤ a → get_or r (at + g * (a - 1)) 0 ≡ every_at r at g f a
+  pub every-next : (a : ℕ) → 1 ≤ a → get_or r (at + g * (a - 1)) 0 ≡ every_at r at g f a
   unfolding every_at
   every-next zero h = absurd (omega arith)
   every-next (suc b) h = let e : suc b - 1 ≡ b = omega arith in rw e
-
-  pub every_turn : (l out : List ℕ) (a : ℕ) → 1 ≤ a → a < length l → out ≡ tab (every_at r at g f) a ++ drop a l
-      → set out a (get_or r (at + g * (a - 1)) 0) ≡ tab (every_at r at g f) (a + 1) ++ drop (a + 1) l
-  every_turn l out a o h e = rw (e, every-next a o) (tab-more (every_at r at g f) l a h)
 
 -- all lists
 module _ {k d q : ℕ} {r out : List ℕ} (U : UnpackRoom k d q r out) (i : ℕ) (h : i < 1 + 2 * k) where
@@ -51,8 +56,20 @@ module _ (k q : ℕ) (t : List ℕ) (h : q ≤ 64) (room : (1 + 2 * k) * 64 ≤ 
   listed p l e = record { pairs = p; most = h; long = omega (arith, mul-le-mul_left (2 * k) h) }
 
 -- a list's rows from place c on
-from_place : (t : List ℕ) (c m a : ℕ) → c + m ≤ length t → a < m → get_or (part t c (length t - c)) a 0 ≡ get_or t (c + a) 0
-from_place t c m a h l = get_or-take (length t - c) (drop c t) a 0 (omega arith) ∙ get_or-drop c t a 0
+from_place : (t : List ℕ) (c m a : ℕ) → a < m → get_or (part t c m) a 0 ≡ get_or t (c + a) 0
+from_place t c m a l = get_or-take m (drop c t) a 0 l ∙ get_or-drop c t a 0
+
+-- sixteen rows that have seen a pair
+pub beside_lanes : (n m : ℕ) (c s v : List ℕ) → length c ≡ m → length s ≡ m → length v ≡ m → sel_l (zip2 eqb c (replicate m n)) s v ≡ tab (beside_in c s n v) m
+beside_lanes n zero [] [] [] i j k = refl
+beside_lanes n zero [] [] (z ∷ v) i j k = absurd (omega arith)
+beside_lanes n zero [] (y ∷ s) v i j k = absurd (omega arith)
+beside_lanes n zero (x ∷ c) s v i j k = absurd (omega arith)
+beside_lanes n (suc m) [] s v i j k = absurd (omega arith)
+beside_lanes n (suc m) (x ∷ c) [] v i j k = absurd (omega arith)
+beside_lanes n (suc m) (x ∷ c) (y ∷ s) [] i j k = absurd (omega arith)
+beside_lanes n (suc m) (x ∷ c) (y ∷ s) (z ∷ v) i j k =
+    sym (tab-front (beside_in (x ∷ c) (y ∷ s) n (z ∷ v)) m ∙ rw (beside_lanes n m c s v (omega arith) (omega arith) (omega arith)) refl)
 
 -- the rows from row at on
 module _ (t : List ℕ) (q k n at m : ℕ) where
@@ -60,17 +77,21 @@ module _ (t : List ℕ) (q k n at m : ℕ) where
   abbrev pub said_from : ℕ → ℕ → ℕ
   said_from j a = beside_from (byte_in t q (at + a)) n j (k - j)
 
-  pub rows_start : {v : List ℕ} → at + m ≤ length t → v ≡ tab (λ a. get_or (part t at (length t - at)) a 0) m → v ≡ tab (said_from k) m
+  pub rows_start : at + m ≤ length t → part t at m ≡ tab (said_from k) m
   unfolding beside_from
-  rows_start h e =
-      e
-      ∙ tab_ext _ _ m (λ a l.
+  rows_start h =
+      same_number_lists (part t at m) (tab (said_from k) m) (length-part ∙ sym (length-tab _ m))
+      (λ a l.
+      let i : a < m = omega (arith, length-part) in
       let z : k - k ≡ 0 = omega arith in
       let o : 0 * q + (at + a) ≡ at + a = omega (arith, zero-mul q) in
-      rw (z, o) (from_place t at m a h l))
+      get_or-take m (drop at t) a 0 i ∙ get_or-drop at t a 0 ∙ sym (get_d_tab (said_from k) m a i ∙ rw (z, o) refl))
+    where
+      length-part : length (part t at m) ≡ m
+      length-part = length-take-le m (drop at t) (rw (length-drop at t) (omega arith))
 
   pub rows_turn : (j : ℕ) (v : List ℕ) {c s : ℕ} {o : List ℕ} → 1 ≤ j → j ≤ k → v ≡ tab (said_from j) m → c ≡ (1 + 2 * (j - 1)) * q + at → s ≡ c + q → s + m ≤ length t
-      → o ≡ tab (beside_in (part t c (length t - c)) (part t s (length t - s)) n v) m → o ≡ tab (said_from (j - 1)) m
+      → o ≡ tab (beside_in (part t c m) (part t s m) n v) m → o ≡ tab (said_from (j - 1)) m
   unfolding beside_from
   rows_turn zero v h l e u w b x = absurd (omega arith)
   rows_turn (suc j) v {c} {s} h l e u w b x =
@@ -83,7 +104,7 @@ module _ (t : List ℕ) (q k n at m : ℕ) where
       let p : (1 + 2 * j) * q + (at + a) ≡ c + a = omega (arith, cu) in
       let r : (2 + 2 * j) * q + (at + a) ≡ s + a = rw two (omega (arith, cu, w, suc-mul (1 + 2 * j) q)) in
       let g : get_or v a 0 ≡ said_from (suc j) a = rw e (get_d_tab (said_from (suc j)) m a i) in
-      rw (z, y, p, r, g, from_place t c m a (omega arith) i, from_place t s m a b i))
+      rw (z, y, p, r, g, from_place t c m a i, from_place t s m a i))
 
   pub rows_end : (j : ℕ) {v : List ℕ} → j ≡ 0 → v ≡ tab (said_from j) m → v ≡ tab (λ a. value_in k t q n (at + a)) m
   rows_end j u e = e ∙ tab_ext _ _ m (λ a l. let z : k - j ≡ k = omega arith in rw (z, u))
@@ -95,42 +116,42 @@ pair_room j k q at m t h l =
     omega (arith, e, suc-mul (1 + 2 * j) q)
 
 -- of a filled list the first q
-take-tab : (f : ℕ → ℕ) (q a : ℕ) (l : List ℕ) → q ≤ a → take q (tab f a ++ l) ≡ tab f q
-take-tab f q zero l h = let z : q ≡ 0 = omega arith in rw z
-take-tab f q (suc a) l h =
-    ⊎_elim (λ e. rw e (take_at (tab f (suc a)) l (suc a) (length-tab f (suc a))))
-    (λ k. ap (take q) (append_snoc (tab f a) (f a) l) ∙ take-tab f q a (f a ∷ l) (omega arith))
-    (eq-or-lt_of_le {n = q} {m = suc a} h)
+pub take-tab : (f : ℕ → ℕ) (q a : ℕ) → q ≤ a → take q (tab f a) ≡ tab f q
+take-tab f q a h =
+    same_number_lists (take q (tab f a)) (tab f q) (length-take-le q (tab f a) (omega (arith, length-tab f a)) ∙ sym (length-tab f q))
+    (λ i k.
+    let l : i < q = omega (arith, length-take-le q (tab f a) (omega (arith, length-tab f a))) in
+    get_or-take q (tab f a) i 0 l ∙ get_d_tab f a i (omega arith) ∙ sym (get_d_tab f q i l))
 
-pub values_end : (f : ℕ → ℕ) (q a : ℕ) (l : List ℕ) {v : List ℕ} → q ≤ a → v ≡ tab f a ++ drop a l → take q v ≡ tab f q
-values_end f q a l h e = rw e (take-tab f q a (drop a l) h)
+pub values_end : (f : ℕ → ℕ) (q a : ℕ) (v : List ℕ) → q ≤ a → take a v ≡ tab f a → take q v ≡ tab f q
+values_end f q a v h e = sym (take-take q a v h) ∙ ap (take q) e ∙ take-tab f q a h
+
+-- a turn of a loop that fills v by vectors of m rows
+pub values_next : (f : ℕ → ℕ) (b m : ℕ) (v new : List ℕ) → (b + 1) * m ≤ length v → new ≡ tab (λ a. f (b * m + a)) m → take (b * m) v ≡ tab f (b * m)
+    → take ((b + 1) * m) (put_chunk (b * m) v new) ≡ tab f ((b + 1) * m)
+values_next f b m v new h w t =
+    let l : (b + 1) * m ≡ b * m + m = rw (add-one b) (suc-mul b m) in
+    let e : length new ≡ m = ap length w ∙ length-tab (λ a. f (b * m + a)) m in
+    take_more_put_chunk (b * m) v new ((b + 1) * m) (l ∙ ap (λ n. b * m + n) (sym e)) h ∙ rw (t, w, l) (tab-add f (b * m) m)
+
+-- what has not been written stands as it did
+pub kept_at : (l row : List ℕ) (i : ℕ) → drop i l ≡ drop i row → get_or l i 0 ≡ get_or row i 0
+kept_at l row i e =
+    let o : (l : List ℕ) → get_or (drop i l) 0 0 ≡ get_or l i 0 = λ l. get_or-drop i l 0 0 ∙ ap (λ n. get_or l n 0) (add-zero i) in
+    sym (o l) ∙ ap (λ l. get_or l 0 0) e ∙ o row
+
+pub kept_more : (l row : List ℕ) (i m : ℕ) → drop i l ≡ drop i row → drop (i + m) l ≡ drop (i + m) row
+kept_more l row i m e = sym (drop-drop m i l) ∙ ap (drop m) e ∙ drop-drop m i row
+
+pub kept_beyond : (row : List ℕ) (n q k : ℕ) (l new : List ℕ) → n * q ≤ length l → length new ≡ q → k ≡ q → drop (n * q) l ≡ drop (n * q) row
+    → drop ((n + 1) * q) (put_mid (n * q) k l new) ≡ drop ((n + 1) * q) row
+kept_beyond row n q k l new h e u d =
+    let o : (n + 1) * q ≡ n * q + q = rw (add-one n) (suc-mul n q) in
+    drop-put_mid (n * q) k l new ((n + 1) * q) (omega (arith, o, u)) h (e ∙ sym u) ∙ rw o (kept_more l row (n * q) q d)
 
 -- one column by symbols, in place
-pub symbol-room : (v out : List ℕ) (s x : ℕ) {row : List ℕ} → ShiftRoom row s → length v ≡ length row → x < length row → out ≡ tab (by_symbol v row s) x ++ drop x row
-    → {a : ℕ} → a ≡ bit_xor (get_or out x 0) s → a < length v
-symbol-room v out s x {row} S l h o e =
-    let g : get_or out x 0 ≡ get_or row x 0 = rw o (tab_seam (by_symbol v row s) row x h) in
-    omega (arith, e ∙ ap (λ y. bit_xor y s) g, l, S.size, xor_lt S.p (get_or row x 0) s (S.below x h) S.s_below)
-
-pub symbol_turn : (v row out : List ℕ) (s x : ℕ) → x < length row → out ≡ tab (by_symbol v row s) x ++ drop x row → {a : ℕ} → a ≡ bit_xor (get_or out x 0) s
-    → set out x (get_or v a 0) ≡ tab (by_symbol v row s) (x + 1) ++ drop (x + 1) row
-unfolding xor
-symbol_turn v row out s x h o {a} e =
-    let g : get_or out x 0 ≡ get_or row x 0 = rw o (tab_seam (by_symbol v row s) row x h) in
-    let b : a ≡ bit_xor (get_or row x 0) s = e ∙ ap (λ y. bit_xor y s) g in
-    rw (o, b) (tab-more (by_symbol v row s) row x h)
-
--- the columns in place
-module _ (k q : ℕ) (t r out₀ : List ℕ) (n : ℕ) (out : List ℕ) (e : out ≡ blocks (turned k t q r out₀) n ++ drop (n * q) out₀) where
-  pub turned-full : (j : ℕ) → length (turned k t q r out₀ j) ≡ q
-  turned-full j = length-tab _ q
-
-  -- the one that is next has not been touched
-  pub column-left : take (n * q + q - n * q) (drop (n * q) out) ≡ part out₀ (n * q) q
-  column-left =
-      let s : length (blocks (turned k t q r out₀) n) ≡ n * q = length-even (turned k t q r out₀) q turned-full n in
-      let d : drop (n * q) out ≡ drop (n * q) out₀ = ap (drop (n * q)) e ∙ drop_at (blocks (turned k t q r out₀) n) (drop (n * q) out₀) (n * q) s in
-      rw (add-sub_cancel_left (n * q) q, d) refl
+pub symbol-room : (v : List ℕ) (s x : ℕ) {row : List ℕ} → ShiftRoom row s → length v ≡ length row → x < length row → bit_xor (get_or row x 0) s < length v
+symbol-room v s x {row} S l h = omega (arith, l, S.size, xor_lt S.p (get_or row x 0) s (S.below x h) S.s_below)
 
 pub turned-column : (k q : ℕ) (t r out₀ : List ℕ) (n : ℕ) {l : List ℕ} → l ≡ part out₀ (n * q) q
     → tab (by_symbol (tab (value_in k t q n) q) l (get_or r n 0)) q ≡ turned k t q r out₀ n

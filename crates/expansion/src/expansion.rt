@@ -10,11 +10,13 @@ ghost use Rattle.expansion.specs.inner.Transposed.{zero_row, every_at, unpacked,
 ghost use Rattle.expansion.specs.inner.Transposed.{UnpackRoom, ListsRoom, ShiftRoom, TurnRoom};
 
 use scalar::sizes;
+use std::simd::prelude::*;
 
 // Lists over the rows of the largest field: E, and column and S of each pair.
 const MOST_LISTS: usize = (1 + 2 * sizes::MOST_DEVIATIONS) * sizes::MOST_SIZE;
 
 // What list i has in row 0: "the byte is 0 if a is 0", and no column is FF.
+#[tactic(auto, unfolding(crate::specs::inner::Transposed::zero_row))]
 fn zero_row(i: usize) -> u8
     ensures { result ≡ zero_row i }
 {
@@ -28,71 +30,43 @@ fn every(r: &[u8], at: usize, g: usize, first: u8, out: &mut [u8])
     ensures { out.new ≡ tab (every_at r.now at g first) (length out.old) }
 {
     out[0] = first;
-    let mut a = 1;
-    while a < out.len() {
+    for a in 1..out.len() {
         out[a] = r[at + g * (a - 1)];
-        a += 1;
     }
 }
 
 // The lists of q rows, end to end, from groups of k pairs.
+#[tactic(auto, unfolding(crate::specs::inner::Transposed::unpacked))]
 fn unpack(r: &[u8], d: usize, q: usize, k: usize, out: &mut [u8])
     requires { UnpackRoom k d q r.now out.old }
     ensures { out.new ≡ unpacked k d q r.now }
 {
     let g = 1 + 2 * k;
-    let mut i = 0;
-    while i < g {
-        let a = i * q;
-        let e = a + q;
-        every(r, d + i, g, zero_row(i), &mut out[a..e]);
-        i += 1;
+    for i in 0..g {
+        let at = i * q;
+        every(r, d + i, g, zero_row(i), &mut out[at..at + q]);
     }
 }
 
-fn copy(e: &[u8], v: &mut [u8])
-    requires { length v.old ≤ length e.now }
-    ensures { v.new ≡ tab (λ a. get_or e.now a 0) (length v.old) }
+// One pair of sixteen rows: its S where its column is n, else what stood there.
+fn pair(c: u8x16, s: u8x16, n: u8, v: u8x16) -> u8x16
+    ensures { result ≡ tab (beside_in c s n v) 16 }
 {
-    let mut a = 0;
-    while a < v.len() {
-        v[a] = e[a];
-        a += 1;
-    }
+    c.simd_eq(u8x16::splat(n)).select(s, v)
 }
 
-// S of a pair whose column is n, else what stood there.
-fn chosen(c: u8, n: u8, s: u8, v: u8) -> u8
-    ensures { result ≡ cond (eqb c n) s v }
+// "the S beside n if a's pairs list n, else E(a)", for sixteen rows from row at on. The first pair that lists n has the last word.
+fn rows_from(t: &[u8], q: usize, k: usize, n: u8, at: usize) -> u8x16
+    requires { (k ≤ 3) × ((q ≤ most_size) × (2 * k * q + (at + 16) ≤ length t.now)) }
+    ensures { result ≡ tab (λ a. value_in k t.now q n (at + a)) 16 }
 {
-    if c == n { s } else { v }
-}
-
-// One pair of all rows in v.
-fn pair(c: &[u8], s: &[u8], n: u8, v: &mut [u8])
-    requires { (length v.old ≤ length c.now) × (length v.old ≤ length s.now) }
-    ensures { v.new ≡ tab (beside_in c.now s.now n v.old) (length v.old) }
-{
-    let mut a = 0;
-    while a < v.len() {
-        v[a] = chosen(c[a], n, s[a], v[a]);
-        a += 1;
-    }
-}
-
-// "the S beside n if a's pairs list n, else E(a)", for the rows from row at on. The first pair that lists n has the last word.
-fn rows_from(t: &[u8], q: usize, k: usize, n: u8, at: usize, v: &mut [u8])
-    requires { (k ≤ 3) × ((q ≤ most_size) × (2 * k * q + (at + length v.old) ≤ length t.now)) }
-    ensures { v.new ≡ tab (λ a. value_in k t.now q n (at + a)) (length v.old) }
-{
-    copy(&t[at..], v);
-    let mut j = k;
-    while 0 < j {
-        j -= 1;
+    let mut v = u8x16::from_slice(&t[at..]);
+    for j in (0..k).rev() {
         let c = (1 + 2 * j) * q + at;
         let s = c + q;
-        pair(&t[c..], &t[s..], n, v);
+        v = pair(u8x16::from_slice(&t[c..]), u8x16::from_slice(&t[s..]), n, v);
     }
+    v
 }
 
 // The values of one column, row by row, sixteen rows at a time: with fewer than sixteen the rest is read and not used.
@@ -101,11 +75,9 @@ fn values(t: &[u8], q: usize, k: usize, n: u8, v: &mut [u8])
     requires v_len { length v.old ≡ most_size }
     ensures { take q v.new ≡ tab (value_in k t.now q n) q }
 {
-    let mut a = 0;
-    while a < q {
-        let e = a + 16;
-        rows_from(t, q, k, n, a, &mut v[a..e]);
-        a = e;
+    for b in 0..q.div_ceil(16) {
+        let at = b * 16;
+        rows_from(t, q, k, n, at).copy_to_slice(&mut v[at..]);
     }
 }
 
@@ -115,10 +87,8 @@ fn by_symbol(v: &[u8], s: u8, out: &mut [u8])
     requires v_len { length v.now ≡ length out.old }
     ensures { out.new ≡ tab (by_symbol v.now out.old s) (length out.old) }
 {
-    let mut x = 0;
-    while x < out.len() {
-        out[x] = v[scalar::u8_to_usize(out[x] ^ s)];
-        x += 1;
+    for x in out.iter_mut() {
+        *x = v[usize::from(*x ^ s)];
     }
 }
 
@@ -150,12 +120,9 @@ fn columns(d: usize, q: usize, k: usize, r: &[u8], t: &[u8], out: &mut [u8])
     requires turn_room { TurnRoom d q r.now out.old }
     ensures { out.new ≡ blocks (turned k t.now q r.now out.old) d }
 {
-    let mut n = 0;
-    while n < d {
-        let a = n * q;
-        let e = a + q;
-        column(t, q, k, n as u8, r[n], &mut out[a..e]);
-        n += 1;
+    for (n, &s) in r[..d].iter().enumerate() {
+        let at = n * q;
+        column(t, q, k, n as u8, s, &mut out[at..at + q]);
     }
 }
 
@@ -180,8 +147,7 @@ pub fn expand_in(first: u8, q: usize, weights: &[u8], r: &[u8], out: &mut [u8])
     ensures { out.new ≡ expansion (rule_for first) weights.now r.now }
 {
     let rule = rules::rule_of(first);
-    let k = scalar::u8_to_usize(rule.k);
     let mut t = [0u8; MOST_LISTS];
     field::rows(rule.p, weights, out);
-    in_room(weights.len(), q, k, r, &mut t, out);
+    in_room(weights.len(), q, usize::from(rule.k), r, &mut t, out);
 }

@@ -84,7 +84,7 @@ module _ (p h : ℕ) {b c : ℕ} (eb : b ≡ doubled p h) (ec : c ≡ doubled p 
         rw (first, p0, p1, p2, p3)
 
 -- more values after the first a
-tab-add : (f : ℕ → ℕ) (a m : ℕ) → tab f a ++ tab (λ i. f (a + i)) m ≡ tab f (a + m)
+pub tab-add : (f : ℕ → ℕ) (a m : ℕ) → tab f a ++ tab (λ i. f (a + i)) m ≡ tab f (a + m)
 tab-add f a zero = append-nil (tab f a) ∙ ap (tab f) (sym (add-zero a))
 tab-add f a (suc m) = sym (append_assoc (tab f a) (tab (λ i. f (a + i)) m) (f (a + m) ∷ [])) ∙ ap (λ l. l ++ (f (a + m) ∷ [])) (tab-add f a m) ∙ rw (add-suc a m)
 

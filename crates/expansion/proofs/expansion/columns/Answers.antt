@@ -1,49 +1,25 @@
-use mathlib.Core.Path.{◌≡◌, refl, ◌∙◌}
+use mathlib.Core.Path.{◌≡◌, refl, ap, ◌∙◌}
+use Prim.Native.Nat.{◌*◌, ◌≤◌, ◌<◌}
+use native.Mathlib.Nat.{add-sub_cancel_left}
 use native.Mathlib.Omega.{arith}
 use borrow.Author.Rules.{rules}
-use lib.ListN.{length-take, length-drop}
-use native.Mathlib.Nat.{zero-mul}
-use Rattle.trellis.proofs.Loops.{block_more, block-end}
+use lib.ListN.{length}
+use lib.Seq.{get_or-take, length-take-le}
+use Rattle.trellis.proofs.Loops.{length-tab, block_next}
 use Rattle.expansion.specs.inner.Transposed.{turned}
-use Rattle.expansion.proofs.Transposing.{turned-full, column-left, columns-room, turned-column}
+use Rattle.expansion.proofs.Transposing.{kept_beyond, columns-room}
 use Rattle.expansion.proofs.expansion.columns.Goals as goal
-
-pub loop-n-init : goal.loop-n-init
-loop-n-init c =
-    (omega arith, (refl, rw (zero-mul c.args.q) refl))
-
-pub overflow_mul-a : goal.overflow_mul-a
-overflow_mul-a c =
-    omega (arith, (columns-room c.requires.turn_room c.loop-n.n (omega arith)).0)
-
-pub overflow_add-e : goal.overflow_add-e
-overflow_add-e c =
-    omega (arith, (columns-room c.requires.turn_room c.loop-n.n (omega arith)).0)
-
-pub overflow_cast-n : goal.overflow_cast-n
-overflow_cast-n c =
-    omega (arith, c.requires.turn_room.few)
-
-pub bounds-r-n : goal.bounds-r-n
-bounds-r-n c =
-    omega (arith, c.requires.turn_room.shifts)
-
-pub slice_bounds-column-end : goal.slice_bounds-column-end
-slice_bounds-column-end c =
-    omega (arith, (columns-room c.requires.turn_room c.loop-n.n (omega arith)).1)
-
-pub column-requires : goal.column-requires
-column-requires c =
-    record {
-      lists_room = c.requires.lists_room;
-      shift_room = rw (column-left c.args.k c.args.q c.args.t.now c.args.r.now c.args.out.now c.loop-n.n c.loop-n.out c.loop-n.invariant.1.1) (c.requires.turn_room.shifted c.loop-n.n (omega arith));
-      out_len = simp (length-take, length-drop) (omega (arith, (columns-room c.requires.turn_room c.loop-n.n (omega arith)).1));
-    }
 
 pub loop-n-preserved : goal.loop-n-preserved
 loop-n-preserved c =
-    (omega arith, (search rules, block_more (turned c.args.k c.args.t.now c.args.q c.args.r.now c.args.out.now) c.args.q (turned-full c.args.k c.args.q c.args.t.now c.args.r.now c.args.out.now c.loop-n.n c.loop-n.out c.loop-n.invariant.1.1) c.args.out.now c.loop-n.out c.loop-n.n c.loop-n.invariant.1.1 (c.column.ensures ∙ turned-column c.args.k c.args.q c.args.t.now c.args.r.now c.args.out.now c.loop-n.n (column-left c.args.k c.args.q c.args.t.now c.args.r.now c.args.out.now c.loop-n.n c.loop-n.out c.loop-n.invariant.1.1))))
-
-pub returns : goal.returns
-returns c =
-    let e : c.loop-n.n ≡ c.args.d = omega arith in rw e at (block-end (turned c.args.k c.args.t.now c.args.q c.args.r.now c.args.out.now) c.args.q (turned-full c.args.k c.args.q c.args.t.now c.args.r.now c.args.out.now c.loop-n.n c.loop-n.out c.loop-n.invariant.1.1) c.args.out.now c.loop-n.out c.loop-n.n c.loop-n.invariant.1.1 (rw e c.requires.turn_room.room))
+    let a = c.args in
+    let n = c.loop-n.n in
+    let o = c.loop-n.out in
+    let i = c.loop-n.invariant in
+    let m : n < a.d = omega (arith, length-take-le a.d a.r.now c.requires.turn_room.shifts) in
+    let u = add-sub_cancel_left (n * a.q) a.q in
+    let s = get_or-take a.d a.r.now n 0 m in
+    let v : c.column.new.out ≡ turned a.k a.t.now a.q a.r.now a.out.now n = c.column.ensures ∙ rw (u, s, i.1.1) refl in
+    let l = ap length v ∙ length-tab _ a.q in
+    let h : n * a.q ≤ length o = omega (arith, (columns-room c.requires.turn_room n m).1, i.0) in
+    (search rules, (block_next (turned a.k a.t.now a.q a.r.now a.out.now) n a.q _ o c.column.new.out h l v i.1.0, kept_beyond a.out.now n a.q _ o c.column.new.out h l u i.1.1))

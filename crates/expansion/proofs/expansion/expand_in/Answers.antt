@@ -14,7 +14,7 @@ use Rattle.expansion.proofs.expansion.expand_in.Goals as goal
 
 pub in_room-requires : goal.in_room-requires
 in_room-requires c =
-    let f = c.args.first in let k : c.u8_to_usize-k.result ≡ most_of f = (c.u8_to_usize-k.ensures.0 ∙ ap (λ (r : Rule). r.k) c.rule_of-rule.ensures) in
+    let f = c.args.first in let k : c.from.result ≡ most_of f = (c.from.ensures ∙ ap (λ (r : Rule). r.k) c.rule_of-rule.ensures) in
     record {
       k_bound = rw k ((most-few f, ((rw c.requires.q_le_most_size.1.0 (pow_pos (power_of f)), c.requires.q_le_most_size.0), rw c.requires.q_le_most_size.1.0 c.requires.expand_room.long)));
       most_size_in_bounds = rw k (omega (arith, most-few f));
@@ -23,4 +23,4 @@ in_room-requires c =
 
 pub returns : goal.returns
 returns c =
-    let f = c.args.first in let k : c.u8_to_usize-k.result ≡ most_of f = (c.u8_to_usize-k.ensures.0 ∙ ap (λ (r : Rule). r.k) c.rule_of-rule.ensures) in let e₀ = rw k at c.in_room.ensures.lists in let e₁ = rw k at c.in_room.ensures.out_then in e₁ ∙ turned_is c.requires.expand_room c.args.q c.requires.q_le_most_size.1.0 _ (c.rows.ensures ∙ ap (λ p. rows_leave p c.args.weights.now c.args.out.now) (ap (λ (r : Rule). r.p) c.rule_of-rule.ensures) ∙ rows_filled (power_of c.args.first) c.args.weights.now c.args.out.now (factors c.requires.expand_room) c.requires.q_le_most_size.1.1) _ e₀ ∙ expansion-join _ _ ◌+◌ _ _ _
+    let f = c.args.first in let k : c.from.result ≡ most_of f = (c.from.ensures ∙ ap (λ (r : Rule). r.k) c.rule_of-rule.ensures) in let e₀ = rw k at c.in_room.ensures.lists in let e₁ = rw k at c.in_room.ensures.out_then in e₁ ∙ turned_is c.requires.expand_room c.args.q c.requires.q_le_most_size.1.0 _ (c.rows.ensures ∙ ap (λ p. rows_leave p c.args.weights.now c.args.out.now) (ap (λ (r : Rule). r.p) c.rule_of-rule.ensures) ∙ rows_filled (power_of c.args.first) c.args.weights.now c.args.out.now (factors c.requires.expand_room) c.requires.q_le_most_size.1.1) _ e₀ ∙ expansion-join _ _ ◌+◌ _ _ _
