@@ -1,7 +1,7 @@
 // The checks of a code line, read front to back, each field once, into tables.
 ghost use Rattle.std.specs.Prelude.{◌≡◌, [], ◌+◌, ◌*◌, ◌≤◌, length, get_or, OnOk, IfOk};
 ghost use Rattle.trellis.specs.Rules.{size_of};
-ghost use Rattle.trellis.specs.Sizes.{most_degree, most_edges, most_checks};
+ghost use Rattle.trellis.specs.Sizes.{most_edges, most_checks};
 ghost use Rattle.machine.specs.CodeLine.{read_edge as the_edge};
 ghost use Rattle.machine.specs.inner.Tables.{edges_into, check_into, checks_into};
 ghost use Rattle.codeline.specs.inner.Reading.{columns_of, weights_of, edge_read, edges_read, check_read, checks_read};

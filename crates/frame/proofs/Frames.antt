@@ -1,17 +1,21 @@
 -- The laws behind a frame's tests: a turn of the loops over columns and costs, and the tests in their order.
-use mathlib.Core.Path.{◌≡◌, refl, sym, ap, ◌∙◌}
-use mathlib.Core.Bool.{Bool, true, false}
+use mathlib.Core.Path.{◌≡◌, refl, sym, ap, ap₂, ◌∙◌}
+use mathlib.Core.Bool.{Bool, true, false, ◌&&◌}
 use mathlib.Core.Logic.{◌≢◌}
-use mathlib.Core.List.{List, [], ◌∷◌, map}
-use Prim.Native.Nat.{ℕ, ◌+◌, ◌-◌, ◌*◌, ◌<◌, min}
+use mathlib.Core.List.{List, map}
+use Prim.Native.Nat.{ℕ, zero, suc, ◌≤◌, ◌+◌, ◌-◌, ◌*◌, ◌<◌, min}
 use native.Mathlib.Nat.{add-sub_cancel_left}
 use native.Mathlib.Numerals.{add-one}
 use native.Mathlib.Omega.{arith}
 use lib.Dec.{eqb, ltb}
 use borrow.Author.Rules.{rules}
 use borrow.Author.Tests.{eqb-true, eq-eqb, ne_eqb}
-use lib.ListN.{length, take, drop}
-use Rattle.std.proofs.lemmas.List.{take-map, drop-map}
+use lib.ListN.{length, take, drop, get_or}
+use Rattle.std.specs.List.{list_all, range_with_len}
+use Rattle.std.proofs.lemmas.List.{take-map, drop-map, map-id}
+use Rattle.std.proofs.lemmas.List.Folds.{list_all_more}
+use Rattle.std.proofs.lemmas.List.FromFn.{length-range_with_len, get_or-range_with_len}
+use lib.Seq.{take_all}
 use Rattle.refusal.specs.Numbers.{number_of}
 use Rattle.refusal.specs.declared.Refusal.{Refusal}
 use Rattle.trellis.specs.Lists.{part, all_to, pick}
@@ -23,7 +27,6 @@ use Rattle.machine.specs.CodeLine.{zero_in, frame_tests}
 use Rattle.machine.specs.Decoding.{room_tests, decode_tests}
 use Rattle.machine.specs.inner.Tables.{bytes_before}
 use Rattle.machine.proofs.Faults.{frame_numbered}
-use Rattle.machine.proofs.Lists.{all-not}
 use Rattle.codeline.specs.declared.answers.Numbers.{Numbers}
 use Rattle.frame.specs.Answers.{frame_fault_of, room_fault_of, fault_of}
 
@@ -33,20 +36,23 @@ zero_told v q c z l e =
     let w : map v (take q (drop (c * q) l)) ≡ part (map v l) (c * q) q = sym (take-map v q (drop (c * q) l)) ∙ ap (take q) (sym (drop-map v (c * q) l)) in
     rw (e, add-sub_cancel_left (c * q) q, w)
 
--- a loop that ends at the first test that fails
-pub all_more : (p : ℕ → Bool) (i : ℕ) → all_to p i ≡ true → p i ≡ true → all_to p (i + 1) ≡ true
-all_more p i h e = rw (add-one i, h, e)
-
-pub zeros_fail : (q n c : ℕ) (l : List ℕ) → c < n → zero_in q l c ≡ false → all_to (zero_in q l) n ≡ false
-zeros_fail q n c l h e = all-not (zero_in q l) c n h e
-
--- costs that are numbers as they are
-pub zeros_plain : (q n : ℕ) (l : List ℕ) → all_to (zero_in q (map (λ x. x) l)) n ≡ all_to (zero_in q l) n
-zeros_plain q n l = ap (λ k. all_to (zero_in q k) n) (plain l)
+-- a test of each member of a list, as one of each place
+pub all_members : (p g : ℕ → Bool) (w : List ℕ) → ((i : ℕ) → i < length w → p (get_or w i 0) ≡ g i) → list_all p w ≡ all_to g (length w)
+all_members p g w e = ap (list_all p) (sym (take_all (length w) w (omega arith))) ∙ go (length w) (omega arith)
   where
-    plain : (l : List ℕ) → map (λ x. x) l ≡ l
-    plain [] = refl
-    plain (x ∷ l) = ap {B = List ℕ} (λ k. x ∷ k) (plain l)
+    go : (n : ℕ) → n ≤ length w → list_all p (take n w) ≡ all_to g n
+    go zero h = refl
+    go (suc n) h =
+        ap (λ m. list_all p (take m w)) (sym (add-one n)) ∙ list_all_more p w n 0 (omega arith) ∙ ap₂ (λ a b. a && b) (go n (omega arith)) (e n (omega arith))
+
+all_ranged : (p : ℕ → Bool) (n : ℕ) → list_all p (range_with_len 0 n) ≡ all_to p n
+all_ranged p n =
+    let l : length (range_with_len 0 n) ≡ n = length-range_with_len 0 n in
+    all_members p p (range_with_len 0 n) (λ i h. let e : get_or (range_with_len 0 n) i 0 ≡ i = omega (arith, get_or-range_with_len 0 n i 0 (omega (arith, h, l))) in ap p e) ∙ ap (all_to p) l
+
+-- the test of each column, of costs that are numbers as they are
+pub zeros_are : (q n : ℕ) (l : List ℕ) → list_all (zero_in q (map (λ x. x) l)) (range_with_len 0 n) ≡ all_to (zero_in q l) n
+zeros_are q n l = all_ranged (zero_in q (map (λ x. x) l)) n ∙ ap (λ k. all_to (zero_in q k) n) (map-id l)
 
 pub frame-counted : (first n : ℕ) (f : List ℕ) → frame_fault_of first n f ≡ 0 → length f ≡ n * size_of first
 unfolding frame_fault_of

@@ -7,12 +7,14 @@ use Prim.Native.Nat.{ℕ, zero, suc, ◌+◌, ◌-◌, ◌*◌, ◌≤◌, ◌<�
 use native.Mathlib.Nat.{mul-le-mul, add-sub_cancel_left}
 use native.Mathlib.Numerals.{add-one}
 use native.Mathlib.Omega.{arith}
-use lib.Dec.{eqb}
+use lib.Dec.{eqb, leb}
 use lib.Pow.{pow_mono}
 use lib.ListN.{length, get_or, take, length-take, length-drop}
 use lib.Seq.{length-take-le}
+use Rattle.std.specs.List.{list_all}
 use Rattle.std.proofs.lemmas.List.{get_or-take}
-use borrow.Author.Tests.{lt-leb, ne_eqb}
+use Rattle.frame.proofs.Frames.{all_members}
+use borrow.Author.Tests.{ne_eqb}
 use Rattle.trellis.specs.Lists.{all_to, part}
 use Rattle.trellis.specs.Record.{group_length, record_length, record_tests, record_ok}
 use Rattle.trellis.specs.Rules.{power_of, size_of, rule_for}
@@ -40,18 +42,13 @@ pub bytes_none : (first : ℕ) (ds : List ℕ) → bytes_before first ds 0 ≡ 0
 unfolding bytes_before
 bytes_none first ds = refl
 
--- a cost that is too high
-pub low_fails : (l : List ℕ) (i : ℕ) → i < length l → 510 < get_or l i 0 → all_to (low_cost l) (length l) ≡ false
-low_fails l i k h = all-not (low_cost l) i (length l) k (lt-leb (get_or l i 0) 510 h)
+-- the test of each of the first costs of a list
+pub low_are : (c : List ℕ) (w : ℕ) → w ≤ length c → list_all (λ c. leb c 510) (take w c) ≡ all_to (low_cost c) w
+low_are c w h =
+    let l : length (take w c) ≡ w = length-take-le w c h in
+    all_members (λ c. leb c 510) (low_cost c) (take w c) (λ i k. ap (λ c. leb c 510) (get_or-take w c i 0 (omega (arith, k, l)))) ∙ ap (all_to (low_cost c)) l
 
--- the first costs of a list, and the first degrees, by themselves
-pub low_taken : (c : List ℕ) (w : ℕ) → w ≤ length c → all_to (low_cost (take w c)) (length (take w c)) ≡ all_to (low_cost c) w
-low_taken c w h = ap (all_to (low_cost (take w c))) (length-take-le w c h) ∙ go w (omega arith)
-  where
-    go : (n : ℕ) → n ≤ w → all_to (low_cost (take w c)) n ≡ all_to (low_cost c) n
-    go zero k = refl
-    go (suc n) k = let e : get_or (take w c) n 0 ≡ get_or c n 0 = get_or-take w c n 0 (omega arith) in rw (go n (omega arith), e)
-
+-- the first degrees, by themselves
 bytes_taken : (first : ℕ) (ds : List ℕ) (w n : ℕ) → n ≤ w → bytes_before first (take w ds) n ≡ bytes_before first ds n
 unfolding bytes_before
 bytes_taken first ds w zero h = refl

@@ -1,8 +1,7 @@
 // The tests of columns of costs: a cost of 0 in each, and no cost above 510.
-ghost use Rattle.std.specs.Prelude.{◌≡◌, ◌+◌, ◌*◌, ◌≤◌, map, length};
-ghost use Rattle.trellis.specs.Lists.{all_to};
+ghost use Rattle.std.specs.Prelude.{◌≡◌, ◌+◌, ◌*◌, ◌≤◌, map, leb, length};
+ghost use Rattle.std.specs.List.{list_all, range_with_len};
 ghost use Rattle.machine.specs.CodeLine.{zero_in};
-ghost use Rattle.frame.specs.Answers.{low_cost};
 
 use decision::Cost;
 
@@ -17,28 +16,16 @@ fn zero_at<C: Cost>(costs: &[C], q: usize, c: usize) -> bool
 }
 
 // Whether each of the n columns has.
-#[tactic(auto, using(crate::proofs::Frames::all_more, crate::proofs::Frames::zeros_fail))]
 pub fn zeros<C: Cost>(costs: &[C], q: usize, n: usize) -> bool
     requires { n * q ≤ length costs.now }
-    ensures { result ≡ all_to (zero_in q (map C.value costs.now)) n }
+    ensures { result ≡ list_all (zero_in q (map C.value costs.now)) (range_with_len 0 n) }
 {
-    for c in 0..n {
-        if !zero_at(costs, q, c) {
-            return false;
-        }
-    }
-    true
+    (0..n).all(|c| zero_at(costs, q, c))
 }
 
 // Whether no cost is above 510.
-#[tactic(auto, using(crate::proofs::Resuming::low_fails))]
 pub fn low_costs(costs: &[u16]) -> bool
-    ensures { result ≡ all_to (low_cost costs.now) (length costs.now) }
+    ensures { result ≡ list_all (λ cost. leb cost 510) costs.now }
 {
-    for &cost in costs {
-        if cost > 510 {
-            return false;
-        }
-    }
-    true
+    costs.iter().all(|&cost| cost <= 510)
 }

@@ -24,7 +24,7 @@ pub struct Lengths {
 }
 
 // "12, cost count wrong; 13, a column without a cost of 0".
-#[tactic(auto, unfolding(crate::specs::Answers::frame_fault_of))]
+#[tactic(auto, using(crate::proofs::Frames::zeros_are), unfolding(crate::specs::Answers::frame_fault_of))]
 pub fn validate_frame(numbers: Numbers, frame: &[u8]) -> Result<(), Refusal>
     ensures { refusal_of result ≡ frame_fault_of numbers.first numbers.columns frame.now }
 {
@@ -117,6 +117,7 @@ pub fn copy(frame: &[u8], costs: &mut [u16])
     if frame.len() != costs.len() {
         return;
     }
+    // By index: of a zip over a slice that is written only the length is known.
     for (c, &cost) in frame.iter().enumerate() {
         costs[c] = u16::from(cost);
     }

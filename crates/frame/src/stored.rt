@@ -7,7 +7,7 @@ use crate::columns;
 use expansion::form;
 
 // n columns of q costs, without "a cost above 510, or a column without a 0".
-#[tactic(auto, using(crate::proofs::Resuming::low_taken, crate::proofs::Frames::zeros_plain), unfolding(crate::specs::Answers::costs_in))]
+#[tactic(auto, using(crate::proofs::Resuming::low_are, crate::proofs::Frames::zeros_are), unfolding(crate::specs::Answers::costs_in))]
 pub fn costs_ok(costs: &[u16], q: usize, n: usize) -> bool
     requires { (n ≤ 65535) × (q ≤ 32768) }
     ensures { result ≡ costs_in q n costs.now }
