@@ -35,12 +35,6 @@ fn inverses() -> [u8; 128]
     INVERSES
 }
 
-fn index(x: u8) -> usize
-    ensures { (result ≡ x) × (result < 256) }
-{
-    x as usize
-}
-
 // q = 2^p
 fn size(p: u8) -> usize
     requires { p ≤ 6 }
@@ -50,19 +44,11 @@ fn size(p: u8) -> usize
 }
 
 // Whether p is one of the five fields' and h an element other than 0.
+#[tactic(auto, unfolding(crate::specs::Numbers::divisor_ok))]
 fn divisor_ok(p: u8, h: u8) -> bool
     ensures { result ≡ divisor_ok p h }
 {
-    if p < 2 {
-        return false;
-    }
-    if 6 < p {
-        return false;
-    }
-    if h == 0 {
-        return false;
-    }
-    index(h) < size(p)
+    (2..=6).contains(&p) && h != 0 && usize::from(h) < size(p)
 }
 
 // The element that times h is 1.
@@ -70,10 +56,8 @@ fn inverse(p: u8, h: u8) -> u8
     requires { DivisorRoom p h }
     ensures { (result < 2 ^ p) × (product p h result ≡ 1) }
 {
-    let q = size(p);
-    let x = index(h);
     let table = inverses();
-    table[q + x]
+    table[size(p) + usize::from(h)]
 }
 
 // A product; 0 where the public product refuses it.
@@ -90,6 +74,5 @@ pub fn divide(p: u8, h: u8, s: u8) -> u8
     if !divisor_ok(p, h) {
         return 0;
     }
-    let g = inverse(p, h);
-    times(p, g, s)
+    times(p, inverse(p, h), s)
 }

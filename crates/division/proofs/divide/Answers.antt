@@ -8,12 +8,12 @@ returns-then-not-divisor_ok c =
     let a = c.args in
     divide_none a.p a.h a.s c.divisor_ok.result c.divisor_ok.ensures c.if-not-divisor_ok.true
 
-pub inverse-g-requires : goal.inverse-g-requires
-inverse-g-requires c =
+pub inverse-requires : goal.inverse-requires
+inverse-requires c =
     let a = c.args in
     divisor-room a.p a.h (sym c.divisor_ok.ensures ∙ c.if-not-divisor_ok.false)
 
 pub returns : goal.returns
 returns c =
     let a = c.args in
-    divide_good a.p a.h a.s c.divisor_ok.result c.divisor_ok.ensures c.if-not-divisor_ok.false c.inverse-g.result c.inverse-g.ensures.0 c.inverse-g.ensures.1 c.times.result c.times.ensures
+    divide_good a.p a.h a.s c.divisor_ok.result c.divisor_ok.ensures c.if-not-divisor_ok.false c.inverse.result c.inverse.ensures.0 c.inverse.ensures.1 c.times.result c.times.ensures

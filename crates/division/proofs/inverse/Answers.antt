@@ -6,4 +6,4 @@ use Rattle.division.proofs.inverse.Goals as goal
 
 pub returns : goal.returns
 returns c =
-    inverse_at c.inverses-table.result c.inverses-table.ensures c.args.p c.args.h (c.size-q.result + c.index-x.result) c.requires (ap₂ ◌+◌ c.size-q.ensures.0 c.index-x.ensures.0)
+    inverse_at c.inverses-table.result c.inverses-table.ensures c.args.p c.args.h (c.size.result + c.from.result) c.requires (ap₂ ◌+◌ c.size.ensures.0 c.from.ensures)
