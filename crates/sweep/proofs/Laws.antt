@@ -1,46 +1,36 @@
 -- Turns of loops that fill a list or look for a least number, and parts of a list.
-use mathlib.Core.Path.{◌≡◌, refl, sym, ap, ap₂, ◌∙◌, subst}
+use mathlib.Core.Path.{◌≡◌, sym, ap, ap₂, ◌∙◌, subst}
 use mathlib.Core.Bool.{Bool, true, false}
 use mathlib.Core.Logic.{◌≢◌}
-use mathlib.Core.List.{List, ◌++◌}
-use Prim.Native.Nat.{ℕ, ◌+◌, ◌-◌, ◌*◌, ◌%◌, ◌≤◌, ◌<◌, min, max, ◌^◌}
+use mathlib.Core.List.{List}
+use Prim.Native.Nat.{ℕ, ◌+◌, ◌-◌, ◌*◌, ◌≤◌, ◌<◌, min, max, ◌^◌}
 use native.Mathlib.Numerals.{add-one}
 use native.Mathlib.Omega.{arith}
 use native.Mathlib.Nat.{add-sub_cancel_left, mul-le-mul_right}
 use borrow.Author.Tests.{eq-eqb, ne_eqb}
 use lib.Dec.{eqb}
-use lib.ListN.{length, drop, take, set, get_or, length-take, length-drop}
+use lib.ListN.{replicate, length-replicate, get_or-replicate, length, drop, take, get_or, length-take, length-drop}
 use lib.Seq.{ext_get_or}
+use Rattle.std.proofs.Math.Seq.{take-length}
 use Rattle.trellis.specs.Lists.{pick, tab, part}
 use Rattle.trellis.specs.Field.{xor, product}
 use Rattle.trellis.specs.Check.{first_zero}
 use Rattle.trellis.specs.Rules.{join_of, power_of, size_of, most_of, greatest_of}
 use Rattle.trellis.specs.Sweep.{least_to}
 use Rattle.trellis.proofs.Xor.{xor_lt}
-use Rattle.trellis.proofs.Loops.{tab-more, tab_whole, length-tab, get_d_tab}
+use Rattle.trellis.proofs.Loops.{length-tab, get_d_tab}
 use Rattle.trellis.proofs.Rules.{most-few}
 use Rattle.checknode.specs.inner.Asks.{Times}
 use Rattle.sweep.specs.Kept.{cell_count}
 use Rattle.sweep.specs.inner.Cells.{Sums, Steps, deviation_at, layer_at, count_cells, step_cells, move_cost, step_by}
 
-pub tab_turn : (f : ℕ → ℕ) (out out₀ : List ℕ) (i : ℕ) {v : ℕ} → i < length out₀ → out ≡ tab f i ++ drop i out₀ → v ≡ f i → set out i v ≡ tab f (i + 1) ++ drop (i + 1) out₀
-tab_turn f out out₀ i l e u = rw (e, u) (tab-more f out₀ i l)
-
-pub tab-end : (f : ℕ → ℕ) (out out₀ : List ℕ) (i : ℕ) {n : ℕ} → out ≡ tab f i ++ drop i out₀ → i ≡ length out₀ → length out₀ ≡ n → out ≡ tab f n
-tab-end f out out₀ i e u v = e ∙ rw u (tab_whole f out₀) ∙ ap (tab f) v
-
 pub least_turn : (f : ℕ → ℕ) (x : ℕ) {e r v : ℕ} → e ≡ least_to f x → v ≡ f x → r ≡ min e v → r ≡ least_to f (x + 1)
 least_turn f x a b o = o ∙ rw (a, b, add-one x)
 
--- one sum of a count: what is written is at most the mark, so 16 bits hold it
-pub layer_value : (g : Bool) (row moves low same : List ℕ) (s t : ℕ) {p a b m r : ℕ} → p ≡ xor t s → a ≡ get_or same p 0 → b ≡ deviation_at g row moves low t → b ≤ 1024 → m ≡ min a b → r ≡ m % 65536 → r ≡ layer_at g row moves low same s t
+-- one sum of a count
+pub layer_value : (g : Bool) (row moves low same : List ℕ) (s t : ℕ) {a b r : ℕ} → a ≡ get_or same (xor t s) 0 → b ≡ deviation_at g row moves low t → r ≡ min a b → r ≡ layer_at g row moves low same s t
 unfolding layer_at
-layer_value g row moves low same s t {p} {a} {b} {m} ep ea eb small em er =
-    let k : m % 65536 ≡ m = omega (arith, small, em) in er ∙ k ∙ em ∙ ap₂ min (ea ∙ ap (λ y. get_or same y 0) ep) eb
-
--- a number that a byte holds
-pub byte-value : {x y r : ℕ} → x ≡ y → y < 256 → r ≡ x % 256 → r ≡ y
-byte-value {x} {y} {r} e h o = omega (arith, e, h, o)
+layer_value g row moves low same s t ea eb em = em ∙ ap₂ min ea eb
 
 pub join_greatest : {g : Bool} (a b : ℕ) {r : ℕ} → g ≡ true → r ≡ max a b → r ≡ join_of g a b
 join_greatest a b e o = rw e o
@@ -48,10 +38,15 @@ join_greatest a b e o = rw e o
 pub join-sum : {g : Bool} (a b : ℕ) {r : ℕ} → g ≡ false → r ≡ a + b → r ≡ join_of g a b
 join-sum a b e o = rw e o
 
-pub tab_list : (l : List ℕ) → tab (λ i. get_or l i 0) (length l) ≡ l
-tab_list l =
-    let e : length (tab (λ i. get_or l i 0) (length l)) ≡ length l = length-tab _ (length l) in
-    ext_get_or 0 _ l e (λ i h. get_d_tab (λ i. get_or l i 0) (length l) i (omega arith))
+-- the front that is the whole
+pub front_whole : (out : List ℕ) (n : ℕ) {r : List ℕ} → take n out ≡ r → n ≡ length out → out ≡ r
+front_whole out n e h = sym (take-length out) ∙ ap (λ k. take k out) (sym h) ∙ e
+
+-- one value everywhere
+pub tab_replicate : (v n : ℕ) → replicate n v ≡ tab (λ i. v) n
+tab_replicate v n =
+    let e : length {A = ℕ} (replicate n v) ≡ n = length-replicate n v in
+    ext_get_or 0 (replicate n v) (tab (λ i. v) n) (e ∙ sym (length-tab _ n)) (λ i h. get_or-replicate n i v 0 (omega arith) ∙ sym (get_d_tab (λ i. v) n i (omega arith)))
 
 pub sums_of : (p : ℕ) → Sums (2 ^ p)
 sums_of p = record { sum = xor_lt p }
@@ -130,6 +125,3 @@ module _ (f h : ℕ) (costs : List ℕ) (T : Times (power_of f) h) {p s i q k : 
   pub step-done : (cells : List ℕ) {out : List ℕ} → out ≡ step_cells g q k row moves cells i → out ≡ step_by (power_of f) (greatest_of f) (most_of f) h costs cells
   unfolding step_by
   step-done cells n = n ∙ rw (eg, eq, ek, rows, costed, at-decision)
-
-pub drop-none : (w : ℕ) (l : List ℕ) → l ≡ drop (0 * w) l
-drop-none w l = let z : 0 * w ≡ 0 = omega arith in rw z refl

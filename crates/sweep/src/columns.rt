@@ -4,13 +4,13 @@ ghost use Rattle.trellis.specs.Lists.{tab};
 ghost use Rattle.trellis.specs.Field.{product};
 ghost use Rattle.trellis.specs.Check.{first_zero};
 ghost use Rattle.trellis.specs.Rules.{power_of, size_of};
-ghost use Rattle.trellis.specs.Ready.{Ready};
 ghost use Rattle.trellis.specs.Sizes.{most_size};
 ghost use Rattle.checknode.specs.inner.Asks.{Times};
 ghost use Rattle.sweep.specs.Kept.{cell_count};
-ghost use Rattle.sweep.specs.inner.Cells.{move_cost, Sized, step_for, step_column, order_of, table_of};
+ghost use Rattle.sweep.specs.inner.Cells.{move_cost, Sized, step_for, step_column, order_of, is_back, table_of};
 
 use crate::{cells, step};
+use checknode::accepted::Check;
 use scalar::sizes;
 
 // A product of two elements, which is not refused.
@@ -27,10 +27,8 @@ fn products(p: u8, h: u8, row: &mut [u8])
     requires row_len { (length row.old ≡ 2 ^ p) × (length row.old ≤ most_size) }
     ensures { row.new ≡ tab (product p h) (2 ^ p) }
 {
-    let mut x = 0;
-    while x < row.len() {
-        row[x] = times(p, h, x as u8);
-        x += 1;
+    for (x, product) in row.iter_mut().enumerate() {
+        *product = times(p, h, x as u8);
     }
 }
 
@@ -43,7 +41,7 @@ fn column(p: u8, h: u8, costs: &[u8], row: &mut [u8], moves: &mut [u16]) -> u8
     ensures moves_then { moves.new ≡ tab (move_cost costs.now (first_zero costs.now)) (2 ^ p) }
 {
     products(p, h, row);
-    let z = decision::decide_u8(costs).symbol;
+    let z = decision::decide(costs).symbol;
     step::move_costs(costs, z, moves);
     row[z]
 }
@@ -64,42 +62,33 @@ fn advance(
     ensures { out.new ≡ step_for first h costs.now cells.now }
 {
     let rule = rules::rule_of(first);
-    let s = scalar::u8_to_usize(column(rule.p, h, costs, row, moves));
+    let s = usize::from(column(rule.p, h, costs, row, moves));
     step::step(
         row,
         moves,
         cells,
         s,
         rules::size(first),
-        scalar::u8_to_usize(rule.k),
+        usize::from(rule.k),
         rule.greatest,
         out,
     );
 }
 
-// One column more, by its number, in room of the caller's for its products and the costs of its deviations.
-fn turn_in(
-    first: u8,
-    weights: &[u8],
-    costs: &[u8],
-    n: usize,
-    row: &mut [u8],
-    moves: &mut [u16],
-    cells: &[u16],
-    out: &mut [u16],
-)
-    requires ready { Ready first weights.now costs.now }
-    requires n_in_bounds { (n < length weights.now) × ((most_size ≤ length row.old) × (most_size ≤ length moves.old)) }
-    requires cells_len { (length cells.now ≡ cell_count first) × (length out.old ≡ cell_count first) }
-    ensures { out.new ≡ step_column first weights.now costs.now n cells.now }
+// One column more, by its number.
+fn turn(check: &Check<'_>, n: usize, cells: &[u16], out: &mut [u16])
+    requires n_in_bounds { n < length check.now.weights.now }
+    requires cells_len { (length cells.now ≡ cell_count check.now.first) × (length out.old ≡ cell_count check.now.first) }
+    ensures { out.new ≡ step_column check.now.first check.now.weights.now check.now.costs.now n cells.now }
 {
-    let q = rules::size(first);
-    let a = n * q;
-    let b = a + q;
+    let q = rules::size(check.first);
+    let at = n * q;
+    let mut row = [0u8; sizes::MOST_SIZE];
+    let mut moves = [0u16; sizes::MOST_SIZE];
     advance(
-        first,
-        weights[n],
-        &costs[a..b],
+        check.first,
+        check.weights[n],
+        &check.costs[at..at + q],
         &mut row[..q],
         &mut moves[..q],
         cells,
@@ -107,59 +96,41 @@ fn turn_in(
     );
 }
 
-fn turn(first: u8, weights: &[u8], costs: &[u8], n: usize, cells: &[u16], out: &mut [u16])
-    requires ready { Ready first weights.now costs.now }
-    requires n_in_bounds { n < length weights.now }
-    requires cells_len { (length cells.now ≡ cell_count first) × (length out.old ≡ cell_count first) }
-    ensures { out.new ≡ step_column first weights.now costs.now n cells.now }
-{
-    let mut row = [0u8; sizes::MOST_SIZE];
-    let mut moves = [0u16; sizes::MOST_SIZE];
-    turn_in(first, weights, costs, n, &mut row, &mut moves, cells, out);
+// From the first column on, or from the last.
+#[derive(Clone, Copy, Debug, PartialEq, Eq)]
+pub enum Direction {
+    Forward,
+    Backward,
 }
 
 // The column of turn i.
-fn order(back: bool, d: usize, i: usize) -> usize
+fn order(direction: Direction, d: usize, i: usize) -> usize
     requires { i < d }
-    ensures { (result ≡ order_of back d i) × (result < d) }
+    ensures { (result ≡ order_of (is_back direction) d i) × (result < d) }
 {
-    if back {
-        return d - 1 - i;
+    match direction {
+        Direction::Forward => i,
+        Direction::Backward => d - 1 - i,
     }
-    i
 }
 
 // A sweep: part 0 of the table is kept over no column, and each part after it over one column more. The last column of the order is left
 // out, for no column comes after it. A part is copied before the next is worked out: one slice cannot be read and written at once.
-pub fn fill(
-    first: u8,
-    weights: &[u8],
-    costs: &[u8],
-    back: bool,
-    cells: &mut [u16],
-    table: &mut [u16],
-)
-    requires ready { Ready first weights.now costs.now }
-    requires cells_len { (length cells.old ≡ cell_count first) × (length table.old ≡ length weights.now * cell_count first) }
-    ensures { table.new ≡ table_of first back weights.now costs.now }
+pub fn fill(check: &Check<'_>, direction: Direction, cells: &mut [u16], table: &mut [u16])
+    requires cells_len { (length cells.old ≡ cell_count check.now.first) × (length table.old ≡ length check.now.weights.now * cell_count check.now.first) }
+    ensures { table.new ≡ table_of check.now.first (is_back direction) check.now.weights.now check.now.costs.now }
 {
-    let d = weights.len();
-    let w = cells::cell_count(first);
+    let d = check.weights.len();
+    let w = cells::cell_count(check.first);
     step::begin(&mut table[..w]);
-    let mut i = 1;
-    while i < d {
+    for i in 1..d {
         let b = i * w;
-        let a = b - w;
-        let e = b + w;
-        step::copy(&table[a..b], cells);
+        cells.copy_from_slice(&table[b - w..b]);
         turn(
-            first,
-            weights,
-            costs,
-            order(back, d, i - 1),
+            check,
+            order(direction, d, i - 1),
             cells,
-            &mut table[b..e],
+            &mut table[b..b + w],
         );
-        i += 1;
     }
 }

@@ -8,11 +8,9 @@ fn lowest(sent: &[u8], q: usize, d: usize, a: usize) -> u8
     requires { (length sent.now ≡ d * q) × (a < q) }
     ensures { result ≡ lowest_to (sent_of sent.now q a) d }
 {
-    let mut e: u8 = 255;
-    let mut n = 0;
-    while n < d {
-        e = scalar::min_u8(e, sent[n * q + a]);
-        n += 1;
+    let mut e = 255u8;
+    for n in 0..d {
+        e = e.min(sent[n * q + a]);
     }
     e
 }
@@ -47,10 +45,8 @@ fn pairs(sent: &[u8], q: usize, d: usize, a: usize, e: u8, out: &mut [u8]) -> us
     ensures out_then { out.new ≡ pairs_over e (sent_of sent.now q a) d out.old }
 {
     let mut c = 0;
-    let mut n = 0;
-    while n < d {
+    for n in 0..d {
         c = put_above(out, c, n as u8, sent[n * q + a], e);
-        n += 1;
     }
     c
 }
@@ -60,12 +56,9 @@ fn pads(out: &mut [u8], m: usize)
     requires { (length out.old ≡ m * 2) × (m ≤ 255) }
     ensures { out.new ≡ blocks unused_pair m }
 {
-    let mut i = 0;
-    while i < m {
+    for i in 0..m {
         let a = i * 2;
-        let b = a + 2;
-        put_pair(&mut out[a..b], 0, 0xFF, 0x00);
-        i += 1;
+        put_pair(&mut out[a..a + 2], 0, 0xFF, 0x00);
     }
 }
 
@@ -91,11 +84,8 @@ pub fn groups(sent: &[u8], q: usize, d: usize, k: usize, out: &mut [u8])
     ensures { out.new ≡ blocks (λ i. group_by k d (sent_of sent.now q (i + 1))) (q - 1) }
 {
     let w = 1 + 2 * k;
-    let mut i = 0;
-    while i < q - 1 {
+    for i in 0..q - 1 {
         let a = i * w;
-        let b = a + w;
-        group(sent, q, d, k, i + 1, &mut out[a..b]);
-        i += 1;
+        group(sent, q, d, k, i + 1, &mut out[a..a + w]);
     }
 }

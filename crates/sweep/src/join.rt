@@ -13,11 +13,9 @@ fn across(f: &[u16], g: &[u16], t: usize, greatest: bool) -> u32
     requires g_len { (length g.now ≡ length f.now) × (t < length f.now) }
     ensures { (result ≡ across_at greatest f.now g.now t) × (result ≤ 1024) }
 {
-    let mut e: u32 = 1024;
-    let mut s = 0;
-    while s < f.len() {
-        e = scalar::min_u32(e, cells::join_of(greatest, f[s], g[cells::plus(s, t)]));
-        s += 1;
+    let mut e = 1024u32;
+    for (s, &cost) in f.iter().enumerate() {
+        e = e.min(cells::join_of(greatest, cost, g[s ^ t]));
     }
     e
 }
@@ -28,13 +26,10 @@ fn beside(f: &[u16], after: &[u16], q: usize, n: usize, t: usize, greatest: bool
     requires f_len { (length f.now ≡ q) × ((t < q) × (n * q ≤ length after.now)) }
     ensures { (result ≡ beside_at greatest q f.now after.now n t) × (result ≤ 1024) }
 {
-    let mut e: u32 = 1024;
-    let mut j = 0;
-    while j < n {
+    let mut e = 1024u32;
+    for j in 0..n {
         let a = j * q;
-        let b = a + q;
-        e = scalar::min_u32(e, across(f, &after[a..b], t, greatest));
-        j += 1;
+        e = e.min(across(f, &after[a..a + q], t, greatest));
     }
     e
 }
@@ -46,13 +41,10 @@ fn join_at(before: &[u16], after: &[u16], q: usize, k: usize, t: usize, greatest
     requires before_len { (length before.now ≡ (k + 1) * q) × (length after.now ≡ (k + 1) * q) }
     ensures { (result ≡ join_at greatest q k before.now after.now t) × (result ≤ 1024) }
 {
-    let mut e: u32 = 1024;
-    let mut i = 0;
-    while i <= k {
+    let mut e = 1024u32;
+    for i in 0..k + 1 {
         let a = i * q;
-        let b = a + q;
-        e = scalar::min_u32(e, beside(&before[a..b], after, q, k - i + 1, t, greatest));
-        i += 1;
+        e = e.min(beside(&before[a..a + q], after, q, k - i + 1, t, greatest));
     }
     e
 }
@@ -73,10 +65,8 @@ fn sent_row(
     requires byte_costs_room { ByteCostsRoom greatest q k before.now after.now s }
     ensures { out.new ≡ tab (λ a. join_at greatest q k before.now after.now (xor a s)) q }
 {
-    let mut a = 0;
-    while a < out.len() {
-        out[a] = scalar::u32_to_u8(join_at(before, after, q, k, cells::plus(a, s), greatest));
-        a += 1;
+    for (a, cost) in out.iter_mut().enumerate() {
+        *cost = join_at(before, after, q, k, a ^ s, greatest) as u8;
     }
 }
 
@@ -95,24 +85,18 @@ pub fn sent_all(
 {
     let w = (k + 1) * q;
     let d = shifts.len();
-    let mut n = 0;
-    while n < d {
+    for (n, &s) in shifts.iter().enumerate() {
         let a = n * w;
-        let b = a + w;
-        let m = d - 1 - n;
-        let c = m * w;
-        let e = c + w;
+        let b = (d - 1 - n) * w;
         let x = n * q;
-        let y = x + q;
         sent_row(
-            &before[a..b],
-            &after[c..e],
+            &before[a..a + w],
+            &after[b..b + w],
             q,
             k,
-            scalar::u8_to_usize(shifts[n]),
+            usize::from(s),
             greatest,
-            &mut out[x..y],
+            &mut out[x..x + q],
         );
-        n += 1;
     }
 }

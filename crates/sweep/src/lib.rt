@@ -12,6 +12,7 @@ ghost use Rattle.std.specs.Prelude.{◌≡◌};
 ghost use Rattle.refusal.specs.Replies.{reply_of};
 ghost use Rattle.checknode.specs.Answers.{check_reply, check_leaves};
 
+use checknode::accepted::Check;
 use refusal::Refusal;
 
 // The record of a check, as `check` writes it, by two sweeps; refused as `check` is.
@@ -21,6 +22,11 @@ pub fn sweep(first: u8, weights: &[u8], costs: &[u8], out: &mut [u8]) -> Result<
 {
     checknode::validate_check(first, weights, costs, out.len())?;
     let n = weights.len() + rules::groups(first);
-    record::record_in(first, weights, costs, &mut out[..n]);
+    let check = Check {
+        first,
+        weights,
+        costs,
+    };
+    record::record_in(&check, &mut out[..n]);
     Ok(n)
 }

@@ -13,18 +13,9 @@ fn deviation_at(row: &[u8], moves: &[u16], low: &[u16], t: usize, greatest: bool
     requires low_len { (length low.now ≡ length row.now) × (t < length row.now) }
     ensures { (result ≡ deviation_at greatest row.now moves.now low.now t) × (result ≤ 1024) }
 {
-    let mut e: u32 = 1024;
-    let mut x = 0;
-    while x < row.len() {
-        e = scalar::min_u32(
-            e,
-            cells::join_of(
-                greatest,
-                moves[x],
-                low[cells::plus(t, scalar::u8_to_usize(row[x]))],
-            ),
-        );
-        x += 1;
+    let mut e = 1024u32;
+    for (x, &s) in row.iter().enumerate() {
+        e = e.min(cells::join_of(greatest, moves[x], low[t ^ usize::from(s)]));
     }
     e
 }
@@ -44,27 +35,21 @@ fn layer(
     requires out_len { (length out.old ≡ length row.now) × (s < length row.now) }
     ensures { out.new ≡ layers greatest row.now moves.now low.now same.now s }
 {
-    let mut t = 0;
-    while t < out.len() {
-        let kept = scalar::u16_to_u32(same[cells::plus(t, s)]);
-        out[t] = scalar::u32_to_u16(scalar::min_u32(
-            kept,
-            deviation_at(row, moves, low, t, greatest),
-        ));
-        t += 1;
+    for (t, cost) in out.iter_mut().enumerate() {
+        let kept = u32::from(same[t ^ s]);
+        *cost = kept.min(deviation_at(row, moves, low, t, greatest)) as u16;
     }
 }
 
 // No deviation: the column keeps its decision.
+#[tactic(auto, unfolding(trellis::specs::Field::xor))]
 fn kept(same: &[u16], s: usize, out: &mut [u16])
     requires sums { Sums (length same.now) }
     requires out_len { (length out.old ≡ length same.now) × (s < length same.now) }
     ensures { out.new ≡ tab (λ t. get_or same.now (xor t s) 0) (length same.now) }
 {
-    let mut t = 0;
-    while t < out.len() {
-        out[t] = same[cells::plus(t, s)];
-        t += 1;
+    for (t, cost) in out.iter_mut().enumerate() {
+        *cost = same[t ^ s];
     }
 }
 
@@ -72,10 +57,7 @@ fn kept(same: &[u16], s: usize, out: &mut [u16])
 fn move_cost(x: usize, z: usize, cost: u8) -> u16
     ensures { result ≡ cond (eqb x z) 1024 cost }
 {
-    if x == z {
-        return 1024;
-    }
-    scalar::u8_to_u16(cost)
+    if x == z { 1024 } else { u16::from(cost) }
 }
 
 // The costs of the column's deviations.
@@ -83,10 +65,8 @@ pub fn move_costs(costs: &[u8], z: usize, out: &mut [u16])
     requires { length costs.now ≡ length out.old }
     ensures { out.new ≡ tab (move_cost costs.now z) (length out.old) }
 {
-    let mut x = 0;
-    while x < out.len() {
-        out[x] = move_cost(x, z, costs[x]);
-        x += 1;
+    for (x, cost) in out.iter_mut().enumerate() {
+        *cost = move_cost(x, z, costs[x]);
     }
 }
 
@@ -111,9 +91,15 @@ fn count(
         return;
     }
     let b = j * q;
-    let a = b - q;
-    let e = b + q;
-    layer(row, moves, &cells[a..b], &cells[b..e], s, greatest, out);
+    layer(
+        row,
+        moves,
+        &cells[b - q..b],
+        &cells[b..b + q],
+        s,
+        greatest,
+        out,
+    );
 }
 
 // The costs of each count up to k.
@@ -132,23 +118,9 @@ pub fn step(
     requires cells_len { (length cells.now ≡ (k + 1) * q) × (length out.old ≡ (k + 1) * q) }
     ensures { out.new ≡ step_cells greatest q k row.now moves.now cells.now s }
 {
-    let mut j = 0;
-    while j <= k {
+    for j in 0..k + 1 {
         let b = j * q;
-        let e = b + q;
-        count(row, moves, cells, s, q, j, greatest, &mut out[b..e]);
-        j += 1;
-    }
-}
-
-// The mark everywhere.
-fn mark_all(out: &mut [u16])
-    ensures { out.new ≡ tab (λ i. mark) (length out.old) }
-{
-    let mut i = 0;
-    while i < out.len() {
-        out[i] = 1024;
-        i += 1;
+        count(row, moves, cells, s, q, j, greatest, &mut out[b..b + q]);
     }
 }
 
@@ -157,17 +129,6 @@ pub fn begin(out: &mut [u16])
     requires { 0 < length out.old }
     ensures { out.new ≡ set (tab (λ i. mark) (length out.old)) 0 0 }
 {
-    mark_all(out);
+    out.fill(1024);
     out[0] = 0;
-}
-
-pub fn copy(from: &[u16], to: &mut [u16])
-    requires { length from.now ≡ length to.old }
-    ensures { to.new ≡ from.now }
-{
-    let mut i = 0;
-    while i < to.len() {
-        to[i] = from[i];
-        i += 1;
-    }
 }

@@ -36,16 +36,15 @@ pub slice_bounds-record_in-end-2 : goal.slice_bounds-record_in-end-2
 slice_bounds-record_in-end-2 c =
     simp length-take (omega (arith, c.groups.ensures, (passed c.args.first c.args.weights.now c.args.costs.now (length c.args.out.now) c.in_ok-validate_check.ensures refl).fits))
 
+pub invariant_of-check : goal.invariant_of-check
+invariant_of-check c =
+    let a = c.args in
+    record { ready = (passed a.first a.weights.now a.costs.now (length a.out.now) c.in_ok-validate_check.ensures refl).ready; bytes = λ i. omega (arith, c.type_inv.costs i) }
+
 pub record_in-requires : goal.record_in-requires
 record_in-requires c =
-    let weights = c.args.weights.now in
-    let costs = c.args.costs.now in
-    let out = c.args.out.now in
-    let first = c.args.first in
-    record {
-      ready = (passed first weights costs (length out) c.in_ok-validate_check.ensures refl).ready;
-      out_len = simp length-take (omega (arith, c.groups.ensures, (passed first weights costs (length out) c.in_ok-validate_check.ensures refl).fits));
-    }
+    let a = c.args in
+    simp length-take (omega (arith, c.groups.ensures, (passed a.first a.weights.now a.costs.now (length a.out.now) c.in_ok-validate_check.ensures refl).fits))
 
 pub returns : goal.returns
 returns c =

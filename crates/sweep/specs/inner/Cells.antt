@@ -8,6 +8,8 @@ use Rattle.trellis.specs.Rules.{join_of, rule_for, power_of, size_of, most_of, g
 use Rattle.trellis.specs.Sweep.{mark, swept, least_to}
 use Rattle.trellis.specs.Sizes.{most_size}
 use Rattle.engine.specs.inner.Terms.{term_of}
+use Rattle.sweep.specs.declared.columns.Direction.{Direction}
+use Rattle.sweep.specs.declared.columns.Direction.TheVariants.{Forward, Backward}
 
 -- all cells of a function of count and sum
 abbrev pub cells_of : ℕ → ℕ → (ℕ → ℕ → ℕ) → List ℕ
@@ -73,6 +75,11 @@ step_for f h costs cells = step_by (power_of f) (greatest_of f) (most_of f) h co
 
 abbrev pub step_column : ℕ → List ℕ → List ℕ → ℕ → List ℕ → List ℕ
 step_column f ws cs n cells = step_for f (get_or ws n 0) (costs_at (size_of f) cs n) cells
+
+-- whether a sweep goes from the last column on
+abbrev pub is_back : Direction → Bool
+is_back Forward = false
+is_back Backward = true
 
 -- which column a sweep takes as its turn i: from the first on, or from the last on
 abbrev pub order_of : Bool → ℕ → ℕ → ℕ

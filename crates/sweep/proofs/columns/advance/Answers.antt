@@ -17,11 +17,11 @@ column-requires c =
 pub step-requires : goal.step-requires
 step-requires c =
     record {
-      steps = (step_asks c.args.first c.args.h c.args.costs.now c.requires.times (ap (λ (r : Rule). r.p) c.rule_of-rule.ensures) c.column.ensures.term c.column.ensures.row_then c.column.ensures.moves_then c.u8_to_usize-s.ensures.0 c.size.ensures.0 (c.u8_to_usize.ensures.0 ∙ ap (λ (r : Rule). r.k) c.rule_of-rule.ensures) (ap (λ (r : Rule). r.greatest) c.rule_of-rule.ensures) c.args.cells.now c.args.out.now c.requires.sized.has_zero c.requires.cells_len.0 c.requires.cells_len.1).0;
-      row_len = (step_asks c.args.first c.args.h c.args.costs.now c.requires.times (ap (λ (r : Rule). r.p) c.rule_of-rule.ensures) c.column.ensures.term c.column.ensures.row_then c.column.ensures.moves_then c.u8_to_usize-s.ensures.0 c.size.ensures.0 (c.u8_to_usize.ensures.0 ∙ ap (λ (r : Rule). r.k) c.rule_of-rule.ensures) (ap (λ (r : Rule). r.greatest) c.rule_of-rule.ensures) c.args.cells.now c.args.out.now c.requires.sized.has_zero c.requires.cells_len.0 c.requires.cells_len.1).1.0;
-      cells_len = (step_asks c.args.first c.args.h c.args.costs.now c.requires.times (ap (λ (r : Rule). r.p) c.rule_of-rule.ensures) c.column.ensures.term c.column.ensures.row_then c.column.ensures.moves_then c.u8_to_usize-s.ensures.0 c.size.ensures.0 (c.u8_to_usize.ensures.0 ∙ ap (λ (r : Rule). r.k) c.rule_of-rule.ensures) (ap (λ (r : Rule). r.greatest) c.rule_of-rule.ensures) c.args.cells.now c.args.out.now c.requires.sized.has_zero c.requires.cells_len.0 c.requires.cells_len.1).1.1;
+      steps = (step_asks c.args.first c.args.h c.args.costs.now c.requires.times (ap (λ (r : Rule). r.p) c.rule_of-rule.ensures) c.column.ensures.term c.column.ensures.row_then c.column.ensures.moves_then c.from-s.ensures c.size.ensures.0 (c.from.ensures ∙ ap (λ (r : Rule). r.k) c.rule_of-rule.ensures) (ap (λ (r : Rule). r.greatest) c.rule_of-rule.ensures) c.args.cells.now c.args.out.now c.requires.sized.has_zero c.requires.cells_len.0 c.requires.cells_len.1).0;
+      row_len = (step_asks c.args.first c.args.h c.args.costs.now c.requires.times (ap (λ (r : Rule). r.p) c.rule_of-rule.ensures) c.column.ensures.term c.column.ensures.row_then c.column.ensures.moves_then c.from-s.ensures c.size.ensures.0 (c.from.ensures ∙ ap (λ (r : Rule). r.k) c.rule_of-rule.ensures) (ap (λ (r : Rule). r.greatest) c.rule_of-rule.ensures) c.args.cells.now c.args.out.now c.requires.sized.has_zero c.requires.cells_len.0 c.requires.cells_len.1).1.0;
+      cells_len = (step_asks c.args.first c.args.h c.args.costs.now c.requires.times (ap (λ (r : Rule). r.p) c.rule_of-rule.ensures) c.column.ensures.term c.column.ensures.row_then c.column.ensures.moves_then c.from-s.ensures c.size.ensures.0 (c.from.ensures ∙ ap (λ (r : Rule). r.k) c.rule_of-rule.ensures) (ap (λ (r : Rule). r.greatest) c.rule_of-rule.ensures) c.args.cells.now c.args.out.now c.requires.sized.has_zero c.requires.cells_len.0 c.requires.cells_len.1).1.1;
     }
 
 pub returns : goal.returns
 returns c =
-    step-done c.args.first c.args.h c.args.costs.now c.requires.times (ap (λ (r : Rule). r.p) c.rule_of-rule.ensures) c.column.ensures.term c.column.ensures.row_then c.column.ensures.moves_then c.u8_to_usize-s.ensures.0 c.size.ensures.0 (c.u8_to_usize.ensures.0 ∙ ap (λ (r : Rule). r.k) c.rule_of-rule.ensures) (ap (λ (r : Rule). r.greatest) c.rule_of-rule.ensures) c.args.cells.now c.step.ensures
+    step-done c.args.first c.args.h c.args.costs.now c.requires.times (ap (λ (r : Rule). r.p) c.rule_of-rule.ensures) c.column.ensures.term c.column.ensures.row_then c.column.ensures.moves_then c.from-s.ensures c.size.ensures.0 (c.from.ensures ∙ ap (λ (r : Rule). r.k) c.rule_of-rule.ensures) (ap (λ (r : Rule). r.greatest) c.rule_of-rule.ensures) c.args.cells.now c.step.ensures

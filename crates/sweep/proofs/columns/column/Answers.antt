@@ -1,5 +1,7 @@
 -- The decision's product stands in the row at its symbol.
-use mathlib.Core.Path.{ap₂, ◌∙◌}
+use mathlib.Core.Path.{ap, ap₂, ◌∙◌}
+use Rattle.std.proofs.lemmas.List.{map-id}
+use Rattle.trellis.specs.Check.{first_zero}
 use native.Mathlib.Omega.{arith}
 use Rattle.trellis.specs.Lists.{tab}
 use Rattle.sweep.specs.inner.Cells.{move_cost}
@@ -19,13 +21,13 @@ move_costs-requires c =
 
 pub bounds-row-z : goal.bounds-row-z
 bounds-row-z c =
-    omega (arith, c.decide_u8-z.ensures.0.0, c.requires.sized.has_zero, c.requires.sized.of_row, c.products.auto)
+    omega (arith, (c.decide-z.ensures.0.0 ∙ ap first_zero (map-id c.args.costs.now)), c.requires.sized.has_zero, c.requires.sized.of_row, c.products.auto)
 
 pub returns : goal.returns
 returns c =
     let costs = c.args.costs.now in
     record {
-      term = column-term c.args.p c.args.h costs c.products.ensures c.decide_u8-z.ensures.0.0 c.requires.sized.has_zero;
+      term = column-term c.args.p c.args.h costs c.products.ensures (c.decide-z.ensures.0.0 ∙ ap first_zero (map-id c.args.costs.now)) c.requires.sized.has_zero;
       row_then = c.products.ensures;
-      moves_then = c.move_costs.ensures ∙ ap₂ (λ z n. tab (move_cost costs z) n) c.decide_u8-z.ensures.0.0 c.requires.sized.of_moves;
+      moves_then = c.move_costs.ensures ∙ ap₂ (λ z n. tab (move_cost costs z) n) (c.decide-z.ensures.0.0 ∙ ap first_zero (map-id c.args.costs.now)) c.requires.sized.of_moves;
     }

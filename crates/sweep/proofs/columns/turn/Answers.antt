@@ -1,11 +1,48 @@
--- The arrays have room for 64 symbols.
+-- The column's costs are a part of all costs, and the room's parts are as long as the field.
+use mathlib.Core.Path.{ap, ◌∙◌}
 use native.Mathlib.Omega.{arith}
+use lib.ListN.{get_or, length-take}
+use Rattle.trellis.specs.Rules.{power_of, most_of, greatest_of}
+use Rattle.sweep.specs.inner.Cells.{step_by}
+use Rattle.checknode.proofs.Turns.{part_is as costs-part, ready-times}
+use Rattle.sweep.proofs.Swept.{sized_of, size-limit}
 use Rattle.sweep.proofs.columns.turn.Goals as goal
 
-pub turn_in-requires : goal.turn_in-requires
-turn_in-requires c =
+pub advance-requires : goal.advance-requires
+advance-requires c =
+    let weights = c.args.check.now.weights.now in
+    let costs = c.args.check.now.costs.now in
+    let first = c.args.check.now.first in
+    let n = c.args.n in
     record {
-      ready = c.requires.ready;
-      n_in_bounds = (c.requires.n_in_bounds, (omega arith, omega arith));
+      times = ready-times first weights costs c.args.check.now.ready n c.requires.n_in_bounds;
+      sized = sized_of first weights costs c.args.check.now.ready n c.requires.n_in_bounds c.size-q.result c.size-q.ensures.0 (simp length-take (omega (arith, size-limit first weights costs c.args.check.now.ready, c.size-q.ensures.0, c.requires.n_in_bounds))) (simp length-take (omega (arith, size-limit first weights costs c.args.check.now.ready, c.size-q.ensures.0, c.requires.n_in_bounds)));
       cells_len = c.requires.cells_len;
     }
+
+pub returns : goal.returns
+returns c =
+    let weights = c.args.check.now.weights.now in
+    let first = c.args.check.now.first in
+    let n = c.args.n in
+    c.advance.ensures ∙ ap (λ l. step_by (power_of first) (greatest_of first) (most_of first) (get_or weights n 0) l c.args.cells.now) (costs-part first weights c.args.check.now.costs.now c.args.check.now.ready n c.requires.n_in_bounds c.size-q.result c.size-q.ensures.0)
+
+pub slice_bounds-row-end : goal.slice_bounds-row-end
+slice_bounds-row-end c =
+    let k = c.args.check.now in
+    omega (arith, size-limit k.first k.weights.now k.costs.now k.ready, c.size-q.ensures.0)
+
+pub slice_bounds-advance-end-2 : goal.slice_bounds-advance-end-2
+slice_bounds-advance-end-2 c =
+    let k = c.args.check.now in
+    simp length-take (omega (arith, size-limit k.first k.weights.now k.costs.now k.ready, c.size-q.ensures.0))
+
+pub slice_bounds-moves-end : goal.slice_bounds-moves-end
+slice_bounds-moves-end c =
+    let k = c.args.check.now in
+    omega (arith, size-limit k.first k.weights.now k.costs.now k.ready, c.size-q.ensures.0)
+
+pub slice_bounds-advance-end-3 : goal.slice_bounds-advance-end-3
+slice_bounds-advance-end-3 c =
+    let k = c.args.check.now in
+    simp length-take (omega (arith, size-limit k.first k.weights.now k.costs.now k.ready, c.size-q.ensures.0))

@@ -5,25 +5,8 @@ use native.Mathlib.Omega.{arith}
 use lib.ListN.{length, drop}
 use Rattle.trellis.specs.Lists.{blocks}
 use Rattle.sweep.specs.inner.Groups.{sent_of, pair_above, pair_count}
-use Rattle.field.proofs.Blocks.{part_room}
 use Rattle.sweep.proofs.Grouping.{pair_length, pair_room, count_small, count_turn, pair_turn}
 use Rattle.sweep.proofs.group.pairs.Goals as goal
-
-pub overflow_cast-n : goal.overflow_cast-n
-overflow_cast-n c =
-    omega (arith, c.requires.sent_len, c.loop-n-test.true)
-
-pub overflow_mul-n : goal.overflow_mul-n
-overflow_mul-n c =
-    omega (arith, part_room c.loop-n.n c.args.d c.args.q c.loop-n-test.true, c.requires.sent_len)
-
-pub overflow_add-n : goal.overflow_add-n
-overflow_add-n c =
-    omega (arith, part_room c.loop-n.n c.args.d c.args.q c.loop-n-test.true, c.requires.sent_len)
-
-pub bounds-sent-n : goal.bounds-sent-n
-bounds-sent-n c =
-    omega (arith, part_room c.loop-n.n c.args.d c.args.q c.loop-n-test.true, c.requires.sent_len)
 
 pub put_above-c-requires : goal.put_above-c-requires
 put_above-c-requires c =
@@ -32,7 +15,7 @@ put_above-c-requires c =
     let q = c.args.q in
     let a = c.args.a in
     let e = c.args.e in
-    (omega (arith, c.loop-n.invariant.1.1.0, count_small e (sent_of sent q a) c.loop-n.n, c.requires.sent_len, c.loop-n-test.true), (let h : pair_count e (sent_of sent q a) d * 2 ≤ length c.args.out.now = (omega (arith, c.requires.d_in_bounds, pair_length e (sent_of sent q a) d)) in rw c.loop-n.invariant.1.1.0 (omega (arith, pair_room e (sent_of sent q a) d c.loop-n.n c.loop-n-test.true, h, c.loop-n.invariant.1.0))))
+    (omega (arith, c.loop-n.invariant.1.0, count_small e (sent_of sent q a) c.loop-n.n, c.requires.sent_len, c.loop-n-test.true), (let h : pair_count e (sent_of sent q a) d * 2 ≤ length c.args.out.now = (omega (arith, c.requires.d_in_bounds, pair_length e (sent_of sent q a) d)) in rw c.loop-n.invariant.1.0 (omega (arith, pair_room e (sent_of sent q a) d c.loop-n.n c.loop-n-test.true, h, c.loop-n.invariant.0))))
 
 pub loop-n-preserved : goal.loop-n-preserved
 loop-n-preserved c =
@@ -41,7 +24,7 @@ loop-n-preserved c =
     let q = c.args.q in
     let a = c.args.a in
     let e = c.args.e in
-    (omega arith, (omega (arith, c.put_above-c.auto, c.loop-n.invariant.1.0), (count_turn e (sent_of sent q a) c.loop-n.n c.loop-n.c c.loop-n.invariant.1.1.0 refl c.put_above-c.ensures.count, pair_turn e (sent_of sent q a) d c.loop-n.n c.loop-n.c c.args.out.now c.loop-n.out c.loop-n-test.true (omega (arith, c.requires.d_in_bounds, pair_length e (sent_of sent q a) d)) c.loop-n.invariant.1.1.0 (cc) refl c.loop-n.invariant.1.1.1 c.put_above-c.ensures.out_then)))
+    (omega (arith, c.put_above-c.auto, c.loop-n.invariant.0), (count_turn e (sent_of sent q a) c.loop-n.n c.loop-n.c c.loop-n.invariant.1.0 refl c.put_above-c.ensures.count, pair_turn e (sent_of sent q a) d c.loop-n.n c.loop-n.c c.args.out.now c.loop-n.out c.loop-n-test.true (omega (arith, c.requires.d_in_bounds, pair_length e (sent_of sent q a) d)) c.loop-n.invariant.1.0 (cc) refl c.loop-n.invariant.1.1 c.put_above-c.ensures.out_then))
 
 pub returns : goal.returns
 returns c =
@@ -51,6 +34,6 @@ returns c =
     let e = c.args.e in
     let n : c.loop-n.n ≡ c.args.d = omega arith in
     record {
-      count = c.loop-n.invariant.1.1.0 ∙ ap (pair_count e (sent_of sent q a)) n;
-      out_then = c.loop-n.invariant.1.1.1 ∙ ap (λ n. blocks (pair_above e (sent_of sent q a)) n ++ drop (pair_count e (sent_of sent q a) n * 2) c.args.out.now) n;
+      count = c.loop-n.invariant.1.0 ∙ ap (pair_count e (sent_of sent q a)) n;
+      out_then = c.loop-n.invariant.1.1 ∙ ap (λ n. blocks (pair_above e (sent_of sent q a)) n ++ drop (pair_count e (sent_of sent q a) n * 2) c.args.out.now) n;
     }

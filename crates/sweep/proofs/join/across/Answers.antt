@@ -9,17 +9,10 @@ use Rattle.trellis.proofs.Sweep.{least_to-mark}
 use Rattle.sweep.proofs.Laws.{least_turn}
 use Rattle.sweep.proofs.join.across.Goals as goal
 
-pub offset_bounds-g-plus : goal.offset_bounds-g-plus
-offset_bounds-g-plus c =
-    omega (arith, c.requires.sums.sum c.loop-s.s c.args.t c.loop-s-test.true c.requires.g_len.1, c.requires.g_len.0)
-
-pub bounds-g-plus : goal.bounds-g-plus
-bounds-g-plus c =
-    omega (arith, c.requires.sums.sum c.loop-s.s c.args.t c.loop-s-test.true c.requires.g_len.1, c.requires.g_len.0)
-
 pub loop-s-preserved : goal.loop-s-preserved
+unfolding xor
 loop-s-preserved c =
-    (omega arith, least_turn (λ s. join_of c.args.greatest (get_or c.args.f.now s 0) (get_or c.args.g.now (xor s c.args.t) 0)) c.loop-s.s c.loop-s.invariant.1 (cc) c.min_u32-e.ensures)
+    least_turn (λ s. join_of c.args.greatest (get_or c.args.f.now s 0) (get_or c.args.g.now (xor s c.args.t) 0)) c.loop-s.s c.loop-s.invariant (cc) c.min-e.ensures
 
 pub returns : goal.returns
 unfolding across_at
@@ -28,4 +21,9 @@ returns c =
     let f = c.args.f.now in
     let g = c.args.g.now in
     let t = c.args.t in
-    let e : c.loop-s.s ≡ length f = omega arith in (c.loop-s.invariant.1 ∙ ap (least_to (λ s. join_of greatest (get_or f s 0) (get_or g (xor s t) 0))) e, omega (arith, c.loop-s.invariant.1, least_to-mark (λ s. join_of greatest (get_or f s 0) (get_or g (xor s t) 0)) c.loop-s.s))
+    let e : c.loop-s.s ≡ length f = omega arith in (c.loop-s.invariant ∙ ap (least_to (λ s. join_of greatest (get_or f s 0) (get_or g (xor s t) 0))) e, omega (arith, c.loop-s.invariant, least_to-mark (λ s. join_of greatest (get_or f s 0) (get_or g (xor s t) 0)) c.loop-s.s))
+
+pub bounds-g-s : goal.bounds-g-s
+unfolding xor
+bounds-g-s c =
+    omega (arith, c.requires.sums.sum c.loop-s.s c.args.t c.loop-s-test.true c.requires.g_len.1, c.requires.g_len.0)

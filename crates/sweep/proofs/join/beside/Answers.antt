@@ -9,22 +9,6 @@ use Rattle.field.proofs.Blocks.{part_room}
 use Rattle.sweep.proofs.Laws.{least_turn, cut_is, part_length}
 use Rattle.sweep.proofs.join.beside.Goals as goal
 
-pub overflow_mul-a : goal.overflow_mul-a
-overflow_mul-a c =
-    omega (arith, c.requires.f_len.1.1, part_room c.loop-j.j c.args.n c.args.q c.loop-j-test.true)
-
-pub overflow_add-b : goal.overflow_add-b
-overflow_add-b c =
-    omega (arith, c.requires.f_len.1.1, part_room c.loop-j.j c.args.n c.args.q c.loop-j-test.true)
-
-pub offset_bounds-after-a : goal.offset_bounds-after-a
-offset_bounds-after-a c =
-    omega (arith, c.requires.f_len.1.1, part_room c.loop-j.j c.args.n c.args.q c.loop-j-test.true)
-
-pub slice_bounds-across-end : goal.slice_bounds-across-end
-slice_bounds-across-end c =
-    omega (arith, c.requires.f_len.1.1, part_room c.loop-j.j c.args.n c.args.q c.loop-j-test.true)
-
 pub across-requires : goal.across-requires
 across-requires c =
     let q = c.args.q in
@@ -40,7 +24,7 @@ loop-j-preserved c =
     let f = c.args.f.now in
     let t = c.args.t in
     let q = c.args.q in
-    (omega arith, least_turn (λ j. across_at greatest f (part after (j * q) q) t) c.loop-j.j c.loop-j.invariant.1 (c.across.ensures.0 ∙ ap (λ l. across_at greatest f l t) (cut_is after (c.loop-j.j * q) q)) c.min_u32-e.ensures)
+    least_turn (λ j. across_at greatest f (part after (j * q) q) t) c.loop-j.j c.loop-j.invariant (c.across.ensures.0 ∙ ap (λ l. across_at greatest f l t) (cut_is after (c.loop-j.j * q) q)) c.min-e.ensures
 
 pub returns : goal.returns
 unfolding beside_at
@@ -50,4 +34,4 @@ returns c =
     let f = c.args.f.now in
     let t = c.args.t in
     let q = c.args.q in
-    let e : c.loop-j.j ≡ c.args.n = omega arith in (c.loop-j.invariant.1 ∙ ap (least_to (λ j. across_at greatest f (part after (j * q) q) t)) e, omega (arith, c.loop-j.invariant.1, least_to-mark (λ j. across_at greatest f (part after (j * q) q) t) c.loop-j.j))
+    let e : c.loop-j.j ≡ c.args.n = omega arith in (c.loop-j.invariant ∙ ap (least_to (λ j. across_at greatest f (part after (j * q) q) t)) e, omega (arith, c.loop-j.invariant, least_to-mark (λ j. across_at greatest f (part after (j * q) q) t) c.loop-j.j))

@@ -10,26 +10,6 @@ use Rattle.field.proofs.Blocks.{part_room}
 use Rattle.sweep.proofs.Laws.{least_turn, sums_same, cut_is, part_length}
 use Rattle.sweep.proofs.join.join_at.Goals as goal
 
-pub overflow_mul-a : goal.overflow_mul-a
-overflow_mul-a c =
-    omega (arith, c.requires.before_len.0, part_room c.loop-i.i (c.args.k + 1) c.args.q (omega arith))
-
-pub overflow_add-b : goal.overflow_add-b
-overflow_add-b c =
-    omega (arith, c.requires.before_len.0, part_room c.loop-i.i (c.args.k + 1) c.args.q (omega arith))
-
-pub offset_bounds-before-a : goal.offset_bounds-before-a
-offset_bounds-before-a c =
-    omega (arith, c.requires.before_len.0, part_room c.loop-i.i (c.args.k + 1) c.args.q (omega arith))
-
-pub slice_bounds-beside-end : goal.slice_bounds-beside-end
-slice_bounds-beside-end c =
-    omega (arith, c.requires.before_len.0, part_room c.loop-i.i (c.args.k + 1) c.args.q (omega arith))
-
-pub overflow_add-k : goal.overflow_add-k
-overflow_add-k c =
-    omega (arith, c.requires.t_lt_q.1)
-
 pub beside-requires : goal.beside-requires
 beside-requires c =
     let q = c.args.q in
@@ -40,10 +20,6 @@ beside-requires c =
       f_len = (e, (c.requires.t_lt_q.0, (let l : k - c.loop-i.i + 1 ≤ k + 1 = omega arith in omega (arith, mul-le-mul_right q l, c.requires.before_len.1))));
     }
 
-pub overflow_add-i : goal.overflow_add-i
-overflow_add-i c =
-    omega (arith, c.requires.t_lt_q.1)
-
 pub loop-i-preserved : goal.loop-i-preserved
 loop-i-preserved c =
     let before = c.args.before.now in
@@ -52,7 +28,7 @@ loop-i-preserved c =
     let t = c.args.t in
     let k = c.args.k in
     let q = c.args.q in
-    (omega arith, least_turn (λ i. beside_at greatest q (part before (i * q) q) after (k - i + 1) t) c.loop-i.i c.loop-i.invariant.1 (c.beside.ensures.0 ∙ ap (λ l. beside_at greatest q l after (k - c.loop-i.i + 1) t) (cut_is before (c.loop-i.i * q) q)) c.min_u32-e.ensures)
+    least_turn (λ i. beside_at greatest q (part before (i * q) q) after (k - i + 1) t) c.loop-i.i c.loop-i.invariant (c.beside.ensures.0 ∙ ap (λ l. beside_at greatest q l after (k - c.loop-i.i + 1) t) (cut_is before (c.loop-i.i * q) q)) c.min-e.ensures
 
 pub returns : goal.returns
 unfolding join_at
@@ -63,4 +39,4 @@ returns c =
     let t = c.args.t in
     let k = c.args.k in
     let q = c.args.q in
-    let e : c.loop-i.i ≡ k + 1 = omega arith in (c.loop-i.invariant.1 ∙ ap (least_to (λ i. beside_at greatest q (part before (i * q) q) after (k - i + 1) t)) e, omega (arith, c.loop-i.invariant.1, least_to-mark (λ i. beside_at greatest q (part before (i * q) q) after (k - i + 1) t) c.loop-i.i))
+    let e : c.loop-i.i ≡ k + 1 = omega arith in (c.loop-i.invariant ∙ ap (least_to (λ i. beside_at greatest q (part before (i * q) q) after (k - i + 1) t)) e, omega (arith, c.loop-i.invariant, least_to-mark (λ i. beside_at greatest q (part before (i * q) q) after (k - i + 1) t) c.loop-i.i))

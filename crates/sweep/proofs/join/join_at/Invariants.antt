@@ -1,13 +1,10 @@
--- After i turns the least over the first i counts before; the counts after are those that are left of k.
+-- The least over the counts before i; the counts after are those that are left of k.
 use mathlib.Core.Path.{◌≡◌}
-use Prim.Native.Nat.{◌+◌, ◌-◌, ◌*◌, ◌≤◌}
+use Prim.Native.Nat.{◌+◌, ◌-◌, ◌*◌}
 use Rattle.trellis.specs.Lists.{part}
 use Rattle.trellis.specs.Sweep.{least_to}
 use Rattle.sweep.specs.inner.Joins.{beside_at}
 use Rattle.sweep.proofs.join.join_at.Given as goal
 
 abbrev pub invariant-loop-i : goal.invariant-loop-i
-invariant-loop-i l = (l.i ≤ l.k + 1) × (l.e ≡ least_to (λ i. beside_at l.greatest l.q (part l.before (i * l.q) l.q) l.after (l.k - i + 1) l.t) l.i)
-
-abbrev pub decreases-loop-i : goal.decreases-loop-i
-decreases-loop-i l = l.k + 1 - l.i
+invariant-loop-i l = l.e ≡ least_to (λ i. beside_at l.greatest l.q (part l.before (i * l.q) l.q) l.after (l.k - i + 1) l.t) l.i

@@ -4,7 +4,6 @@ use Rattle.sweep.proofs.record.record_with.Goals as goal
 pub sweeps-requires : goal.sweeps-requires
 sweeps-requires c =
     record {
-      ready = c.requires.ready;
       cells_len = c.requires.cells_len;
       before_len = c.requires.before_len;
       after_len = c.requires.after_len;
@@ -13,7 +12,6 @@ sweeps-requires c =
 pub record_from-requires : goal.record_from-requires
 record_from-requires c =
     record {
-      ready = c.requires.ready;
       swept = c.sweeps.ensures.swept;
       sent_len = c.requires.sent_len;
       out_len = c.requires.out_len;

@@ -1,19 +1,17 @@
-use mathlib.Core.Path.{refl}
-use native.Mathlib.Omega.{arith}
-use lib.ListN.{get_or, length-set}
 use Rattle.trellis.specs.Field.{xor}
-use Rattle.trellis.proofs.Loops.{tab_seam}
-use Rattle.sweep.proofs.Laws.{tab_turn, tab-end}
+use Rattle.trellis.proofs.Loops.{tab-more, tab_seam, tab_whole}
+use mathlib.Core.Path.{◌≡◌}
+use native.Mathlib.Omega.{arith}
+use lib.Bits.{bit_xor}
+use Rattle.std.proofs.lemmas.Nat.{xor_comm}
+use lib.ListN.{length, get_or, length-set}
 use Rattle.sweep.proofs.record.shift_all.Goals as goal
 
-pub loop-i-preserved : goal.loop-i-preserved
+pub loop-x-preserved : goal.loop-x-preserved
 unfolding xor
-loop-i-preserved c =
-    let the_out = c.args.out.now in
-    let sum = c.args.sum in
-    (omega arith, (simp length-set (omega arith), tab_turn (λ j. xor sum (get_or the_out j 0)) c.loop-i.out the_out c.loop-i.i (omega arith) c.loop-i.invariant.1.1 (cc (tab_seam (λ j. xor sum (get_or the_out j 0)) the_out c.loop-i.i (omega arith)))))
+loop-x-preserved c =
+    (simp length-set (omega arith), cc (tab-more (λ j. bit_xor c.args.sum (get_or c.args.out.now j 0)) c.args.out.now c.loop-x.x-index (omega arith), tab_seam (λ j. bit_xor c.args.sum (get_or c.args.out.now j 0)) c.args.out.now c.loop-x.x-index (omega arith), xor_comm (get_or c.loop-x.out c.loop-x.x-index 0) c.args.sum))
 
 pub returns : goal.returns
 returns c =
-    let the_out = c.args.out.now in
-    tab-end (λ j. xor c.args.sum (get_or the_out j 0)) c.loop-i.out the_out c.loop-i.i c.loop-i.invariant.1.1 (omega arith) refl
+    let e : c.loop-x.x-index ≡ length c.args.out.now = omega arith in cc (tab_whole (λ j. xor c.args.sum (get_or c.args.out.now j 0)) c.args.out.now)

@@ -1,14 +1,10 @@
--- After i turns the first i shifts stand; what is not reached is as it was.
-use mathlib.Core.Path.{◌≡◌}
-use mathlib.Core.List.{◌++◌}
-use Prim.Native.Nat.{◌-◌, ◌≤◌}
-use lib.ListN.{length, drop, get_or}
+-- The first shifts stand, and the terms behind them as they were.
 use Rattle.trellis.specs.Lists.{tab}
 use Rattle.trellis.specs.Field.{xor}
+use mathlib.Core.Path.{◌≡◌}
+use mathlib.Core.List.{◌++◌}
+use lib.ListN.{length, drop, get_or}
 use Rattle.sweep.proofs.record.shift_all.Given as goal
 
-abbrev pub invariant-loop-i : goal.invariant-loop-i
-invariant-loop-i l = (l.i ≤ length l.initial.out) × ((length l.out ≡ length l.initial.out) × (l.out ≡ tab (λ j. xor l.sum (get_or l.initial.out j 0)) l.i ++ drop l.i l.initial.out))
-
-abbrev pub decreases-loop-i : goal.decreases-loop-i
-decreases-loop-i l = length l.initial.out - l.i
+abbrev pub invariant-loop-x : goal.invariant-loop-x
+invariant-loop-x l = (length l.out ≡ length l.fn.out) × (l.out ≡ tab (λ j. xor l.sum (get_or l.fn.out j 0)) l.x-index ++ drop l.x-index l.fn.out)

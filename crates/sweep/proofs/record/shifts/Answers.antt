@@ -5,10 +5,9 @@ use Rattle.sweep.proofs.record.shifts.Goals as goal
 pub terms-sum-requires : goal.terms-sum-requires
 terms-sum-requires c =
     record {
-      ready = c.requires.ready;
       out_len = c.requires.out_len;
     }
 
 pub returns : goal.returns
 returns c =
-    shifts_law c.args.first c.args.weights.now c.args.costs.now c.requires.ready c.terms-sum.ensures.sum c.terms-sum.ensures.out_then c.shift_all.ensures
+    shifts_law c.args.check.now.first c.args.check.now.weights.now c.args.check.now.costs.now c.args.check.now.ready c.terms-sum.ensures.sum c.terms-sum.ensures.out_then c.shift_all.ensures

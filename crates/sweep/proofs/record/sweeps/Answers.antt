@@ -6,14 +6,12 @@ use Rattle.sweep.proofs.record.sweeps.Goals as goal
 pub fill-requires : goal.fill-requires
 fill-requires c =
     record {
-      ready = c.requires.ready;
       cells_len = (c.requires.cells_len, c.requires.before_len);
     }
 
 pub fill-requires-2 : goal.fill-requires-2
 fill-requires-2 c =
     record {
-      ready = c.requires.ready;
       cells_len = (omega (arith, c.fill.auto, c.requires.cells_len), c.requires.after_len);
     }
 
@@ -21,5 +19,5 @@ pub returns : goal.returns
 returns c =
     record {
       swept = record { of_before = c.fill.ensures; of_after = c.fill-2.ensures };
-      kept = kept_tables c.args.first c.args.weights.now c.args.costs.now c.requires.ready (λ i. omega (arith, c.type_inv.costs i)) record { of_before = c.fill.ensures; of_after = c.fill-2.ensures };
+      kept = kept_tables c.args.check.now.first c.args.check.now.weights.now c.args.check.now.costs.now c.args.check.now.ready (c.args.check.now.bytes) record { of_before = c.fill.ensures; of_after = c.fill-2.ensures };
     }

@@ -1,15 +1,10 @@
--- After n turns the first n terms stand, and their sum.
+-- The terms before n stand, and sum is theirs.
 use mathlib.Core.Path.{◌≡◌}
-use mathlib.Core.List.{◌++◌}
-use Prim.Native.Nat.{◌-◌, ◌≤◌}
-use lib.ListN.{length, drop}
+use lib.ListN.{length, take}
 use Rattle.trellis.specs.Lists.{tab}
 use Rattle.trellis.specs.Rules.{power_of}
 use Rattle.engine.specs.inner.Terms.{term_of, sum_to}
 use Rattle.sweep.proofs.record.terms.Given as goal
 
 abbrev pub invariant-loop-n : goal.invariant-loop-n
-invariant-loop-n l = (l.n ≤ length l.weights) × ((length l.out ≡ length l.initial.out) × ((l.out ≡ tab (term_of (power_of l.first) l.weights l.costs) l.n ++ drop l.n l.initial.out) × (l.sum ≡ sum_to (term_of (power_of l.first) l.weights l.costs) l.n)))
-
-abbrev pub decreases-loop-n : goal.decreases-loop-n
-decreases-loop-n l = length l.weights - l.n
+invariant-loop-n l = (length l.out ≡ length l.fn.out) × ((take l.n l.out ≡ tab (term_of (power_of l.check.first) l.check.weights.now l.check.costs.now) l.n) × (l.sum ≡ sum_to (term_of (power_of l.check.first) l.check.weights.now l.check.costs.now) l.n))

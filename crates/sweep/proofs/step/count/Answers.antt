@@ -6,10 +6,6 @@ use lib.ListN.{length, take, length-take}
 use Rattle.sweep.proofs.Laws.{sums_same, past_first, part_length, below_length, count-first, count-later}
 use Rattle.sweep.proofs.step.count.Goals as goal
 
-pub slice_bounds-kept-end : goal.slice_bounds-kept-end
-slice_bounds-kept-end c =
-    simp length-take (omega (arith, c.requires.q_in_bounds.0))
-
 pub kept-requires : goal.kept-requires
 kept-requires c =
     let cells = c.args.cells.now in
@@ -24,34 +20,6 @@ returns-then-j-eq0 c =
     let cells = c.args.cells.now in
     let q = c.args.q in
     count-first c.args.greatest q c.args.row.now c.args.moves.now cells c.args.s c.args.j _ c.if-j-eq0.true (let e : length (take q cells) ≡ q = simp length-take (omega (arith, c.requires.q_in_bounds.0)) in e) c.kept.ensures
-
-pub overflow_mul-b : goal.overflow_mul-b
-overflow_mul-b c =
-    omega (arith, c.requires.q_in_bounds.0)
-
-pub overflow_sub-a : goal.overflow_sub-a
-overflow_sub-a c =
-    omega (arith, past_first c.args.j c.args.q c.if-j-eq0.false)
-
-pub overflow_add-e : goal.overflow_add-e
-overflow_add-e c =
-    omega (arith, c.requires.q_in_bounds.0)
-
-pub offset_bounds-cells-a : goal.offset_bounds-cells-a
-offset_bounds-cells-a c =
-    omega (arith, c.requires.q_in_bounds.0, past_first c.args.j c.args.q c.if-j-eq0.false)
-
-pub slice_bounds-layer-end : goal.slice_bounds-layer-end
-slice_bounds-layer-end c =
-    omega (arith, c.requires.q_in_bounds.0)
-
-pub offset_bounds-cells-b : goal.offset_bounds-cells-b
-offset_bounds-cells-b c =
-    omega (arith, c.requires.q_in_bounds.0)
-
-pub slice_bounds-layer-end-2 : goal.slice_bounds-layer-end-2
-slice_bounds-layer-end-2 c =
-    omega (arith, c.requires.q_in_bounds.0)
 
 pub layer-requires : goal.layer-requires
 layer-requires c =

@@ -1,14 +1,10 @@
--- After x turns the least over the first x symbols; no sum leaves the field.
+-- The least over the symbols before x; no sum leaves the field.
 use mathlib.Core.Path.{◌≡◌}
-use Prim.Native.Nat.{◌-◌, ◌≤◌}
-use lib.ListN.{length, get_or}
+use lib.ListN.{get_or}
 use Rattle.trellis.specs.Field.{xor}
 use Rattle.trellis.specs.Rules.{join_of}
 use Rattle.trellis.specs.Sweep.{least_to}
 use Rattle.sweep.proofs.step.deviation_at.Given as goal
 
 abbrev pub invariant-loop-x : goal.invariant-loop-x
-invariant-loop-x l = (l.x ≤ length l.row) × (l.e ≡ least_to (λ x. join_of l.greatest (get_or l.moves x 0) (get_or l.low (xor l.t (get_or l.row x 0)) 0)) l.x)
-
-abbrev pub decreases-loop-x : goal.decreases-loop-x
-decreases-loop-x l = length l.row - l.x
+invariant-loop-x l = l.e ≡ least_to (λ x. join_of l.greatest (get_or l.moves x 0) (get_or l.low (xor l.t (get_or l.row x 0)) 0)) l.x
