@@ -12,35 +12,38 @@ use borrow.Author.Tests.{le-leb, lt-leb, leb-true}
 use Rattle.trellis.specs.Lists.{pick, all_to}
 use Rattle.machine.specs.Line.{is_digit, digit}
 use Rattle.text.specs.inner.Digits.{digit_answer, all_digits, digits_fault}
-use Rattle.text.specs.declared.hex.Digit.TheVariants.{Is, Refused}
+use Rattle.refusal.specs.declared.Refusal.{Refusal}
+use Rattle.refusal.specs.declared.Refusal.TheVariants.{Digit}
+use Rattle.refusal.specs.Numbers.{number_of}
+use Rattle.std.specs.Prelude.{Ok, Err}
 
-pub at-digit : (b : ℕ) → 48 ≤ b → b ≤ 57 → Is (b - 48) ≡ digit_answer b
+pub at-digit : (b : ℕ) → 48 ≤ b → b ≤ 57 → Ok (b - 48) ≡ digit_answer b
 at-digit b p q = simp (le-leb 48 b p, le-leb b 57 q)
 
-pub at_letter : (b : ℕ) → 65 ≤ b → b ≤ 70 → Is (b - 65 + 10) ≡ digit_answer b
+pub at_letter : (b : ℕ) → 65 ≤ b → b ≤ 70 → Ok (b - 65 + 10) ≡ digit_answer b
 at_letter b p q = simp (le-leb 48 b (omega arith), lt-leb b 57 (omega arith), le-leb 65 b p, le-leb b 70 q)
 
-pub at-below : (b : ℕ) → b < 48 → Refused 14 ≡ digit_answer b
+pub at-below : (b : ℕ) → b < 48 → Err Digit ≡ digit_answer b
 at-below b p = simp (lt-leb 48 b p, lt-leb 65 b (omega arith))
 
-pub at-between : (b : ℕ) → 57 < b → b < 65 → Refused 14 ≡ digit_answer b
+pub at-between : (b : ℕ) → 57 < b → b < 65 → Err Digit ≡ digit_answer b
 at-between b p q = simp (le-leb 48 b (omega arith), lt-leb b 57 p, lt-leb 65 b q)
 
-pub at_above : (b : ℕ) → 70 < b → Refused 14 ≡ digit_answer b
+pub at_above : (b : ℕ) → 70 < b → Err Digit ≡ digit_answer b
 at_above b p = simp (le-leb 48 b (omega arith), lt-leb b 57 (omega arith), le-leb 65 b (omega arith), lt-leb b 70 p)
 
 -- what the two answers say of the byte
-pub told_digit : (b v : ℕ) → digit_answer b ≡ Is v → (is_digit b ≡ true) × (v ≡ digit b)
+pub told_digit : (b v : ℕ) → digit_answer b ≡ Ok v → (is_digit b ≡ true) × (v ≡ digit b)
 told_digit b v e = go (is_digit b) e
   where
-    go : (t : Bool) → pick t (Is (digit b)) (Refused 14) ≡ Is v → (t ≡ true) × (v ≡ digit b)
+    go : (t : Bool) → pick t (Ok (digit b)) (Err Digit) ≡ Ok v → (t ≡ true) × (v ≡ digit b)
     go true k = (refl, cc)
     go false k = let z : ◌≡◌ {A = ℕ} 0 1 = cc in absurd (omega arith)
 
-pub told_other : (b k : ℕ) → digit_answer b ≡ Refused k → is_digit b ≡ false
+pub told_other : (b : ℕ) (k : Refusal) → digit_answer b ≡ Err k → is_digit b ≡ false
 told_other b k e = go (is_digit b) e
   where
-    go : (t : Bool) → pick t (Is (digit b)) (Refused 14) ≡ Refused k → t ≡ false
+    go : (t : Bool) → pick t (Ok (digit b)) (Err Digit) ≡ Err k → t ≡ false
     go true j = let z : ◌≡◌ {A = ℕ} 0 1 = cc in absurd (omega arith)
     go false j = refl
 
@@ -69,30 +72,13 @@ all-at f i n h e = go (f i) refl
     go true k = refl
     go false k = sym (all-not f i n h k) ∙ e
 
--- the number of the first byte that is no digit, and none
-pub told_fault : (t : List ℕ) (i k : ℕ) → i < length t → digit_answer (get_or t i 0) ≡ Refused k → k ≡ digits_fault t (length t)
+-- the refusal of a byte that is no digit
+pub told_fault : (t : List ℕ) (i : ℕ) (k : Refusal) → i < length t → Err k ≡ digit_answer (get_or t i 0) → number_of k ≡ digits_fault t (length t)
 told_fault t i k h e =
-    let n : k ≡ 14 = go (is_digit (get_or t i 0)) e in
-    let f : all_digits t (length t) ≡ false = all-not (λ j. is_digit (get_or t j 0)) i (length t) h (told_other (get_or t i 0) k e) in
+    let n : number_of k ≡ 14 = go (is_digit (get_or t i 0)) (sym e) in
+    let f : all_digits t (length t) ≡ false = all-not (λ j. is_digit (get_or t j 0)) i (length t) h (told_other (get_or t i 0) k (sym e)) in
     rw f n
   where
-    go : (b : Bool) → pick b (Is (digit (get_or t i 0))) (Refused 14) ≡ Refused k → k ≡ 14
+    go : (b : Bool) → pick b (Ok (digit (get_or t i 0))) (Err Digit) ≡ Err k → number_of k ≡ 14
     go true j = let z : ◌≡◌ {A = ℕ} 0 1 = cc in absurd (omega arith)
-    go false j = cc
-
-pub no_fault : (t : List ℕ) → all_digits t (length t) ≡ true → 0 ≡ digits_fault t (length t)
-no_fault t e = rw e refl
-
-pub fault_none : (t : List ℕ) → digits_fault t (length t) ≡ 0 → all_digits t (length t) ≡ true
-fault_none t e = go (all_digits t (length t)) e
-  where
-    go : (b : Bool) → ◌≡◌ {A = ℕ} (pick b 0 14) 0 → b ≡ true
-    go true k = refl
-    go false k = absurd (omega arith)
-
-pub fault_some : (t : List ℕ) (k : ℕ) → k ≡ digits_fault t (length t) → (k ≡ 0 → ⊥) → (all_digits t (length t) ≡ false) × (k ≡ 14)
-fault_some t k e h = go (all_digits t (length t)) e
-  where
-    go : (b : Bool) → k ≡ pick b 0 14 → (b ≡ false) × (k ≡ 14)
-    go true j = absurd (h j)
-    go false j = (refl, j)
+    go false j = let e : Digit ≡ k = cc in rw (← e) refl

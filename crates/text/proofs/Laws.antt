@@ -8,14 +8,19 @@ use native.Mathlib.Numerals.{add-one}
 use native.Mathlib.Decide.{dec_le}
 use native.Mathlib.Omega.{arith}
 use lib.Dec.{eqb, ltb}
-use lib.ListN.{length, take, drop, set, length-append, length-take, length-drop, length-set, take-append-drop}
+use lib.ListN.{length, take, drop, set, length-append, length-take, length-set, take-append-drop}
 use lib.Seq.{take_all, take_at, drop_at, drop-drop, take-suc-set}
 use borrow.Author.Tests.{eqb-true, ltb-false, ltb-true, eq-eqb, ne_eqb}
 use Rattle.trellis.specs.Lists.{pick}
 use Rattle.trellis.specs.Reply.{accepted, refusal}
 use Rattle.trellis.proofs.Loops.{length-tab}
-use Rattle.slices.specs.Copies.{copied_to}
-use Rattle.slices.proofs.Copies.{copied_is}
+use Rattle.std.specs.Prelude.{Result, Ok, Err}
+use Rattle.std.specs.Result.{result_unwrap_or, is_ok}
+use Rattle.codeline.specs.declared.answers.Numbers.{Numbers as LineNumbers}
+use Rattle.codeline.specs.Answers.{numbers_in, header_numbers}
+use Rattle.refusal.specs.declared.Refusal.{Refusal}
+use Rattle.refusal.specs.Numbers.{number_of}
+use Rattle.refusal.specs.Replies.{reply_of}
 use Rattle.machine.specs.Line.{byte_at, line_bytes, line_ok, line_reply, line_leaves}
 use Rattle.machine.specs.CodeLine.{Read, good, bad, Code, parse, Numbers, numbers_of}
 use Rattle.machine.specs.Printing.{frame_said, frame_line}
@@ -168,7 +173,13 @@ module _ (t out : List ℕ) (room : length out ≡ 16384) where
           (i ∙ sym (length-tab (byte_at t) (length t / 2)), omega (arith, ltb-false 16384 (length t / 2) l), ap (λ m. line_bytes t ++ drop m out) (sym (length-tab (byte_at t) (length t / 2))))
       go false false c l h = absurd (true≢false (sym (ap (λ r. r.refused) h)))
 
-pub header_good : (s : List ℕ) (h : Numbers) → good h ≡ numbers_of (parse s) → true ≡ accepts s
+  -- the same of the number that stands for a refused line
+  pub bytes_or_none : (r : Result ℕ Refusal) → reply_of r ≡ line_reply t out → (x : List ℕ) → x ≡ line_leaves t out
+      → ((result_unwrap_or r 0 ≡ length (code_bytes t)) × (result_unwrap_or r 0 ≤ 16384)) × (x ≡ code_bytes t ++ drop (length (code_bytes t)) out)
+  bytes_or_none (Ok n) e x j = let b = bytes_read n e in ((b.0, b.1), j ∙ b.2)
+  bytes_or_none (Err k) e x j = let b = bytes-refused (number_of k) e in rw b.0 ((refl, omega arith), j ∙ b.1)
+
+header_good : (s : List ℕ) (h : Numbers) → good h ≡ numbers_of (parse s) → true ≡ accepts s
 unfolding accepts
 header_good s h e = go (parse s) e
   where
@@ -176,13 +187,17 @@ header_good s h e = go (parse s) e
     go (good C) k = refl
     go (bad n) k = let z : ◌≡◌ {A = ℕ} 0 1 = cc in absurd (omega arith)
 
-pub header_bad : (s : List ℕ) (n : ℕ) → bad n ≡ numbers_of (parse s) → false ≡ accepts s
+header_bad : (s : List ℕ) (n : ℕ) → bad n ≡ numbers_of (parse s) → false ≡ accepts s
 unfolding accepts
 header_bad s n e = go (parse s) e
   where
     go : (r : Read Code) → bad n ≡ numbers_of r → false ≡ is_good r
     go (good C) k = let z : ◌≡◌ {A = ℕ} 0 1 = cc in absurd (omega arith)
     go (bad m) k = refl
+
+pub header_says : (s : List ℕ) (h : Result LineNumbers Refusal) → header_numbers h ≡ numbers_of (parse s) → is_ok h ≡ accepts s
+header_says s (Ok k) e = header_good s (numbers_in k) e
+header_says s (Err r) e = header_bad s (number_of r) e
 
 -- a list at the place behind what is there
 pub put-none : (out : List ℕ) (n : ℕ) → put_at out n [] ≡ out
@@ -192,12 +207,6 @@ pub put_mid : (out row x : List ℕ) (f n : ℕ) → n ≤ length row → x ≡ 
 put_mid out row x f n h e =
     let a : f + n - f ≡ length (take n row) = simp length-take (omega arith) in
     rw (e, a) refl
-
--- a copy into a part of the output
-pub put_copied : (out row x : List ℕ) (f n : ℕ) → n ≤ length row → f + n ≤ length out → x ≡ copied_to (take n row) (take (f + n - f) (drop f out)) → x ≡ take n row
-put_copied out row x f n h k e =
-    let i : length (take n row) ≡ length (take (f + n - f) (drop f out)) = simp (length-take, length-drop) (omega arith) in
-    copied_is (take n row) (take (f + n - f) (drop f out)) x i e
 
 -- what frame_line leaves in a row
 pub row-long : (l o row : List ℕ) (n : ℕ) → n ≡ length l → row ≡ l ++ drop (length l) o → n ≤ length row
@@ -262,8 +271,8 @@ module _ (n k : ℕ) (en : Bool) (l c : List ℕ) (m : ℕ) (least : m ≡ min n
       let f : take j c ≡ take k c = least-front k j 16384 c i r in
       rw (runs, e, line-front, f) refl
 
-  pub later-held : (k ≡ 0 → ⊥) → ◌≡◌ {A = Held} (record { len = 0; code = k; over = false; line = l; bytes = c }) (finished_held here)
-  later-held h = let e : eqb k 0 ≡ false = ne_eqb k 0 h in rw e refl
+  pub later-held : (k ≡ 0 → ⊥) → ◌≡◌ {A = Held} (record { len = 0; code = k; over = en; line = l; bytes = c }) (finished_held here)
+  later-held h = let e : eqb k 0 ≡ false = ne_eqb k 0 h in rw (runs, e) refl
 
 pub add_none : (f : ℕ) (x : List ℕ) → x ≡ [] → f ≡ f + length x
 add_none f x e = rw e (omega arith)
@@ -297,18 +306,6 @@ pub part_same : (h : Held) (o a b : List ℕ) (x : Held) (f : ℕ) (u : List ℕ
 part_same h o a b x f u e i j k = rw (← e) (i, (j, k))
 
 -- the end of the input
-pub quiet-over : (c n : ℕ) (o : Bool) → o ≡ true → true ≡ quiet o c n
-unfolding quiet
-quiet-over c n o e = rw e refl
-
-pub quiet-first : (c n : ℕ) (o : Bool) → o ≡ false → c ≡ 0 → false ≡ quiet o c n
-unfolding quiet
-quiet-first c n o e h = let a : eqb c 0 ≡ true = eq-eqb c 0 h in rw (e, a) refl
-
-pub quiet-later : (c n : ℕ) (o : Bool) → o ≡ false → (c ≡ 0 → ⊥) → eqb n 0 ≡ quiet o c n
-unfolding quiet
-quiet-later c n o e h = let a : eqb c 0 ≡ false = ne_eqb c 0 h in rw (e, a) refl
-
 module _ (n k : ℕ) (en : Bool) (l c : List ℕ) (long : length l ≡ 32769) where
   abbrev last : Held
   last = record { len = n; code = k; over = en; line = l; bytes = c }

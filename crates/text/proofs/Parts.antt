@@ -1,33 +1,23 @@
 -- A part of a line without a 0A is kept at once: as byte by byte, and nothing is printed for it.
 use mathlib.Core.Path.{◌≡◌, refl, sym, ap, ap₂, ◌∙◌}
 use mathlib.Core.Bool.{Bool, true, false, true≢false}
-use mathlib.Core.List.{List, [], ◌∷◌, ◌++◌, append-nil, append_assoc}
+use mathlib.Core.List.{List, [], ◌∷◌, ◌++◌, append-nil}
 use Prim.Native.Nat.{ℕ, suc, ◌+◌, ◌-◌, ◌*◌, ◌≤◌, ◌<◌, min}
 use native.Mathlib.Numerals.{add-one}
 use native.Mathlib.Decide.{dec_le}
 use native.Mathlib.Omega.{arith}
 use lib.Dec.{eqb, ltb}
 use lib.ListN.{length, take, drop, set, get_or, length-append, length-take, length-drop, length-set, take-append-drop}
-use lib.Seq.{drop-cons, drop-length, drop-drop, drop-set-lt, take-add, take-suc, take-suc-set, append_snoc, take_all, take-length, get_or-drop}
-use borrow.Author.Tests.{eqb-true, eq-eqb, ne_eqb, lt-ltb, le-ltb}
+use lib.Seq.{drop-drop, drop-set-lt, take-add, take-suc, take-suc-set, append_snoc, take_all, take-length}
+use borrow.Author.Tests.{eqb-true, lt-ltb, le-ltb, ltb-true, ltb-false}
+use Rattle.std.specs.Prelude.{Option, Some, None, cond, position}
+use Rattle.std.specs.List.{position_or_len}
+use Rattle.std.proofs.lemmas.List.Recursion.{is_position_or_len}
 use Rattle.trellis.specs.Lists.{pick}
 use Rattle.machine.specs.inner.Blocks.{Session, fed_byte, line_finished, line_finished_out, fed, fed_out}
 use Rattle.machine.proofs.Program.{fed-more, fed-few, ended_silent}
 use Rattle.text.specs.inner.Held.{Held, kept_of, put_at, byte_held, step_held, fed_held, finished_held, to_newline, room_for, part_held}
 use Rattle.text.proofs.Laws.{put-none, put_mid, put-more, fed_held-more, fed-stands, add_none, put-nothing, part_same}
-
--- the search for a 0A
-pub line_here : (s : List ℕ) (i : ℕ) → i < length s → get_or s i 0 ≡ 0x0A → to_newline (drop i s) ≡ 0
-unfolding to_newline
-line_here s i h e = rw (drop-cons s i 0 h, eq-eqb (get_or s i 0) 0x0A e) refl
-
-pub line-later : (s : List ℕ) (i : ℕ) → i < length s → (get_or s i 0 ≡ 0x0A → ⊥) → to_newline (drop i s) ≡ suc (to_newline (drop (suc i) s))
-unfolding to_newline
-line-later s i h e = rw (drop-cons s i 0 h, ne_eqb (get_or s i 0) 0x0A e) refl
-
-pub line-none : (s : List ℕ) → to_newline (drop (length s) s) ≡ 0
-unfolding to_newline
-line-none s = rw (drop-length s) refl
 
 -- what stands before the first 0A has none
 pub before_plain : (s : List ℕ) → to_newline (take (to_newline s) s) ≡ length (take (to_newline s) s)
@@ -50,6 +40,38 @@ at_newline (b ∷ s) h = go (eqb b 0x0A) refl h (λ i. at_newline s i)
         → get_or (b ∷ s) (pick t 0 (suc (to_newline s))) 0 ≡ 0x0A
     go true e k f = eqb-true b 0x0A e
     go false e k f = f (omega arith)
+
+-- what the search for it says
+newline_is : (s : List ℕ) → to_newline s ≡ position_or_len (λ b. eqb b 0x0A) s
+unfolding to_newline
+newline_is = is_position_or_len to_newline (λ b. eqb b 0x0A) refl (λ x xs. go (eqb x 0x0A) (to_newline xs))
+  where
+    go : (t : Bool) (m : ℕ) → pick t 0 (suc m) ≡ cond t 0 (1 + m)
+    go true m = refl
+    go false m = omega arith
+
+newline_most : (s : List ℕ) → to_newline s ≤ length s
+unfolding to_newline
+newline_most [] = omega arith
+newline_most (b ∷ s) = go (eqb b 0x0A) (newline_most s)
+  where
+    go : (t : Bool) → to_newline s ≤ length s → pick t 0 (suc (to_newline s)) ≤ suc (length s)
+    go true h = omega arith
+    go false h = omega arith
+
+pub newline_found : (s : List ℕ) (n : ℕ) → Some n ≡ position (λ b. eqb b 0x0A) s → (n ≡ to_newline s) × (n < length s)
+newline_found s n e = go (ltb (to_newline s) (length s)) refl (e ∙ ap (λ m. cond (ltb m (length s)) (Some m) None) (sym (newline_is s)))
+  where
+    go : (t : Bool) → ltb (to_newline s) (length s) ≡ t → Some n ≡ cond t (Some (to_newline s)) None → (n ≡ to_newline s) × (n < length s)
+    go true i e = let k : n ≡ to_newline s = cc in (k, omega (arith, k, ltb-true (to_newline s) (length s) i))
+    go false i e = let z : ◌≡◌ {A = ℕ} 0 1 = cc in absurd (omega arith)
+
+pub newline_none : (s : List ℕ) → None ≡ position (λ b. eqb b 0x0A) s → to_newline s ≡ length s
+newline_none s e = go (ltb (to_newline s) (length s)) refl (e ∙ ap (λ m. cond (ltb m (length s)) (Some m) None) (sym (newline_is s)))
+  where
+    go : (t : Bool) → ltb (to_newline s) (length s) ≡ t → ◌≡◌ {A = Option ℕ} None (cond t (Some (to_newline s)) None) → to_newline s ≡ length s
+    go true i e = let z : ◌≡◌ {A = ℕ} 0 1 = cc in absurd (omega arith)
+    go false i e = omega (arith, ltb-false (to_newline s) (length s) i, newline_most s)
 
 -- nothing is printed for a part
 pub plain_out : (s : List ℕ) (k : Session) → to_newline s ≡ length s → fed_out k s ≡ []
@@ -192,26 +214,20 @@ module _ (h : Held) (o s : List ℕ) (i j : ℕ) (long : length h.line ≡ 32769
       (a, b ∙ ap length (sym piece-out), d ∙ put-more o x y ∙ ap (put_at o 0) (sym piece-out))
 
 -- the pieces of the loop: a whole line, the rest without a 0A
-pub line_piece : (s : List ℕ) (i e : ℕ) → i ≤ length s → e ≡ i + to_newline (drop i s) → e < length s → take (e + 1) s ≡ take i s ++ (take (e - i) (drop i s) ++ (0x0A ∷ []))
-line_piece s i e h k m =
-    let n : ℕ = to_newline (drop i s) in
-    let a : e - i ≡ n = omega arith in
-    let l : n < length (drop i s) = simp length-drop (omega arith) in
-    let b : get_or s e 0 ≡ 0x0A = rw k (sym (get_or-drop i s n 0) ∙ at_newline (drop i s) l) in
-    let d : take (e + 1) s ≡ take e s ++ (0x0A ∷ []) = rw (add-one e) (take-suc s e 0 m ∙ ap (λ x. take e s ++ (x ∷ [])) b) in
-    let f : take e s ≡ take i s ++ take n (drop i s) = rw k (take-add i n s) in
-    d ∙ ap (λ x. x ++ (0x0A ∷ [])) f ∙ append_assoc (take i s) (take n (drop i s)) (0x0A ∷ []) ∙ ap (λ x. take i s ++ (take x (drop i s) ++ (0x0A ∷ []))) (sym a)
+pub line_piece : (s : List ℕ) (i n : ℕ) → n ≡ to_newline (drop i s) → n < length (drop i s) → take (i + (n + 1)) s ≡ take i s ++ (take n (drop i s) ++ (0x0A ∷ []))
+line_piece s i n k m =
+    let l : List ℕ = drop i s in
+    let b : get_or l n 0 ≡ 0x0A = rw k (at_newline l (omega (arith, m, k))) in
+    take-add i (n + 1) s ∙ ap (λ x. take i s ++ x) (rw (add-one n) (take-suc l n 0 m ∙ ap (λ x. take n l ++ (x ∷ [])) b))
 
-pub line_plain : (s : List ℕ) (i e : ℕ) → e ≡ i + to_newline (drop i s) → to_newline (take (e - i) (drop i s)) ≡ length (take (e - i) (drop i s))
-line_plain s i e k =
-    let a : e - i ≡ to_newline (drop i s) = omega arith in
-    rw a (before_plain (drop i s))
+pub line_plain : (s : List ℕ) (n : ℕ) → n ≡ to_newline s → to_newline (take n s) ≡ length (take n s)
+line_plain s n k = rw k (before_plain s)
+
+pub rest-front : (s : List ℕ) (i : ℕ) → take (length s - i) (drop i s) ≡ drop i s
+rest-front s i = take_all (length s - i) (drop i s) (simp length-drop (omega arith))
 
 pub rest_piece : (s : List ℕ) (i : ℕ) → take (length s) s ≡ take i s ++ drop i s
 rest_piece s i = take-length s ∙ sym (take-append-drop i s)
-
-pub rest-same : (s : List ℕ) (i e : ℕ) → e ≡ length s → take (e - i) (drop i s) ≡ drop i s
-rest-same s i e h = take_all (e - i) (drop i s) (simp length-drop (omega arith))
 
 -- the loop's ends: the program has ended, or the rest has no 0A
 module _ (h : Held) (o s : List ℕ) (i : ℕ) (long : length h.line ≡ 32769) where
@@ -224,15 +240,13 @@ module _ (h : Held) (o s : List ℕ) (i : ℕ) (long : length h.line ≡ 32769) 
       part_same h o (take (length s) s) s now f o' (take-length s) m.0 m.1 m.2
 
   pub rest-done : (n k : ℕ) (b : Bool) (l c : List ℕ) → ◌≡◌ {A = Held} (record { len = n; code = k; over = b; line = l; bytes = c }) (fed_held h (take i s)) → b ≡ false → length l ≡ 32769
-      → (e : ℕ) → e ≡ i + to_newline (drop i s) → e ≡ length s
-      → (K : Held) → K ≡ part_held (record { len = n; code = k; over = b; line = l; bytes = c }) (take (e - i) (drop i s))
+      → to_newline (drop i s) ≡ length (drop i s)
+      → (K : Held) → K ≡ part_held (record { len = n; code = k; over = b; line = l; bytes = c }) (drop i s)
       → (f f' : ℕ) (o' : List ℕ) → f ≡ length (fed_out (kept_of h) (take i s)) → o' ≡ put_at o 0 (fed_out (kept_of h) (take i s)) → f' ≡ f
       → (K ≡ fed_held h s) × ((f' ≡ length (fed_out (kept_of h) s)) × (o' ≡ put_at o 0 (fed_out (kept_of h) s)))
-  rest-done n k b l c here on room e at end K kept_at f f' o' ef eo same =
+  rest-done n k b l c here on room p K kept_at f f' o' ef eo same =
       let now : Held = record { len = n; code = k; over = b; line = l; bytes = c } in
-      let t : List ℕ = take (e - i) (drop i s) in
-      let p : to_newline t ≡ length t = line_plain s i e at in
+      let t : List ℕ = drop i s in
       let x : fed_out (kept_of now) t ≡ [] = plain_out t (kept_of now) p in
-      let y : take (length s) s ≡ take i s ++ t = rest_piece s i ∙ ap (λ z. take i s ++ z) (sym (rest-same s i e end)) in
-      let m = piece_more h o s i (length s) long now here t y f f' o' o' K ef eo (kept_at ∙ sym (part_held_lem t n k b l c on room p)) (same ∙ add_none f _ x) (put-nothing o' f _ x) in
+      let m = piece_more h o s i (length s) long now here t (rest_piece s i) f f' o' o' K ef eo (kept_at ∙ sym (part_held_lem t n k b l c on room p)) (same ∙ add_none f _ x) (put-nothing o' f _ x) in
       part_same h o (take (length s) s) s K f' o' (take-length s) m.0 m.1 m.2

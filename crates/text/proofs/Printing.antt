@@ -9,6 +9,8 @@ use lib.Dec.{eqb, ltb}
 use lib.ListN.{length, take, drop, get_or, set, length-append, length-map}
 use lib.Seq.{drop-cons, set_at, append_snoc, take_at, take-length, drop-length}
 use borrow.Author.Tests.{eqb-true, ltb-false}
+use Rattle.std.specs.Prelude.{replicate}
+use Rattle.std.proofs.lemmas.List.{length-replicate}
 use Rattle.trellis.specs.Lists.{pick, each, blocks, patch}
 use Rattle.trellis.specs.Reply.{Reply, accepted, refusal}
 use Rattle.trellis.proofs.Loops.{blocks-front, length-even, length-tab}
@@ -22,8 +24,6 @@ use Rattle.machine.proofs.Lines.{parse-good}
 use Rattle.machine.proofs.Rooms.{roomy}
 use Rattle.machine.proofs.Faults.{admitted-by}
 use Rattle.machine.proofs.Buffers.{accepted_call}
-use Rattle.layered.specs.Answers.{answer_reply}
-use Rattle.layered.specs.declared.answers.Answer.{Answer}
 use Rattle.text.specs.inner.Lines.{as_line, over, DecodeRoom}
 
 pub two-set : (l : List ℕ) (a b : ℕ) → length l ≡ 2 → set (set l 0 a) 1 b ≡ a ∷ b ∷ []
@@ -114,6 +114,13 @@ module _ (t out : List ℕ) (room : length out ≡ 16384) where
           (omega (arith, ltb-false 16384 (length t / 2) l), rw i (take_at (line_bytes t) (drop (length t / 2) out) (length t / 2) (length-tab (byte_at t) (length t / 2))), λ code. refl)
       go false false c l h = absurd (true≢false (sym (ap (λ r. r.refused) h)))
 
+-- the buffer that the line is read into
+abbrev pub new_line : List ℕ
+new_line = replicate 16384 0
+
+pub new_room : length new_line ≡ 16384
+new_room = let z : ℕ = 0 in length-replicate 16384 z
+
 -- status and t in front of the symbols and the end
 abbrev after_two : List ℕ → List ℕ → List ℕ → List ℕ
 after_two o p q = patch (p ++ drop 2 o) 2 2 q
@@ -133,19 +140,6 @@ line-head o l p q r a b h i j k = rw (k, i, j) (go o h)
     go (w ∷ x ∷ y ∷ z ∷ s) h =
         let n : suc (suc (suc (suc (length s)))) - 4 ≡ length s = omega arith in
         rw (n, take-length s, drop-length s, append-nil (as_line l ++ drop (length (as_line l)) s))
-
--- the reply of an answer: its value, and what is printed
-pub value_of : (a : Answer) (r : Reply) → answer_reply a ≡ r → (answer_reply a).value ≤ 255 → r.value ≤ 255
-value_of a r e h = rw (← e) h
-
-pub line_of : (a : Answer) (r : Reply) (y out o : List ℕ) → answer_reply a ≡ r → out ≡ over (as_line (r.number ∷ r.value ∷ pick r.refused [] y)) o → out ≡ over (printed (said (answer_reply a) y)) o
-unfolding as_line printed
-line_of a r y out o e h = h ∙ ap (λ x. over (printed (said x y)) o) (sym e)
-
--- and how many bytes that are
-pub length_of : (a : Answer) (r : Reply) (y : List ℕ) (n : ℕ) → answer_reply a ≡ r → n ≡ length (as_line (r.number ∷ r.value ∷ pick r.refused [] y)) → n ≡ length (printed (said (answer_reply a) y))
-unfolding as_line printed
-length_of a r y n e h = h ∙ ap (λ x. length (printed (said x y))) (sym e)
 
 pub length-line : (a b : ℕ) (l : List ℕ) → length l * 2 + 5 ≡ length (as_line (a ∷ b ∷ l))
 unfolding as_line

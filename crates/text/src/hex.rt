@@ -1,43 +1,31 @@
 // A line of text: hexadecimal digits, two a byte.
-ghost use Rattle.std.specs.Prelude.{◌≡◌, true, ◌++◌, ◌/◌, ◌<◌, ◌≤◌, length, drop};
-ghost use Rattle.field.specs.Answers.{written_reply};
+ghost use Rattle.std.specs.Prelude.{◌≡◌, true, ◌/◌, ◌<◌, length};
+ghost use Rattle.refusal.specs.Replies.{reply_of, fault_of};
 ghost use Rattle.machine.specs.Line.{is_digit, digit, line_bytes, line_reply, line_leaves};
 ghost use Rattle.text.specs.inner.Digits.{digit_answer, digits_fault, all_digits};
 
-use field::Written;
+use refusal::Refusal;
 use scalar::sizes;
 
-// A digit's value, or the number of the refusal.
-#[derive(Clone, Copy)]
-enum Digit {
-    Is(u8),
-    Refused(u8),
-}
-
 // "hexadecimal digits 0-9 and A-F"; "14, .. another byte".
-fn value(b: u8) -> Digit
+fn value(b: u8) -> Result<u8, Refusal>
     ensures { result ≡ digit_answer b }
 {
     match b {
-        b'0'..=b'9' => Digit::Is(b - b'0'),
-        b'A'..=b'F' => Digit::Is(b - b'A' + 10),
-        _ => Digit::Refused(14),
+        b'0'..=b'9' => Ok(b - b'0'),
+        b'A'..=b'F' => Ok(b - b'A' + 10),
+        _ => Err(Refusal::Digit),
     }
 }
 
-// The number that refuses the first byte that is no digit; 0 if all are.
-pub fn fault(text: &[u8]) -> u8
-    ensures { result ≡ digits_fault text.now (length text.now) }
+// Whether each byte is a digit.
+fn validate(text: &[u8]) -> Result<(), Refusal>
+    ensures { fault_of result ≡ digits_fault text.now (length text.now) }
 {
-    let mut i = 0;
-    while i < text.len() {
-        match value(text[i]) {
-            Digit::Refused(k) => return k,
-            Digit::Is(_) => {}
-        }
-        i += 1;
+    for &b in text {
+        value(b)?;
     }
-    0
+    Ok(())
 }
 
 // The value of a byte that is known to be a digit.
@@ -45,46 +33,36 @@ fn nibble(b: u8) -> u8
     requires { is_digit b ≡ true }
     ensures { (result ≡ digit b) × (result < 16) }
 {
-    match value(b) {
-        Digit::Is(v) => v,
-        Digit::Refused(_) => 0,
-    }
+    value(b).unwrap()
 }
 
 // "two a byte".
-pub fn fill(text: &[u8], out: &mut [u8])
-    requires { (all_digits text.now (length text.now) ≡ true) × (length text.now / 2 ≤ length out.old) }
-    ensures { out.new ≡ line_bytes text.now ++ drop (length text.now / 2) out.old }
+fn fill(text: &[u8], out: &mut [u8])
+    requires { (all_digits text.now (length text.now) ≡ true) × (length out.old ≡ length text.now / 2) }
+    ensures { out.new ≡ line_bytes text.now }
 {
-    let n = text.len() / 2;
-    let mut i = 0;
-    while i < n {
-        let high = nibble(text[2 * i]);
-        let low = nibble(text[2 * i + 1]);
-        out[i] = high * 16 + low;
-        i += 1;
+    for (i, x) in out.iter_mut().enumerate() {
+        *x = nibble(text[2 * i]) * 16 + nibble(text[2 * i + 1]);
     }
 }
 
 // "Line: 15, 14, 2."; nothing is written before the last of these is tested.
-pub fn line(text: &[u8], out: &mut [u8]) -> Written
-    ensures reply { written_reply result ≡ line_reply text.now out.old }
+#[tactic(auto, unfolding(machine::specs::Line::line_reply, machine::specs::Line::line_leaves, machine::specs::Line::line_ok))]
+pub fn line(text: &[u8], out: &mut [u8]) -> Result<usize, Refusal>
+    ensures reply { reply_of result ≡ line_reply text.now out.old }
     ensures out_then { out.new ≡ line_leaves text.now out.old }
 {
     if sizes::MOST_LINE < text.len() {
-        return Written::Refused(15);
+        return Err(Refusal::LineTooLong);
     }
     if text.len() % 2 != 0 {
-        return Written::Refused(14);
+        return Err(Refusal::Digit);
     }
-    let k = fault(text);
-    if k != 0 {
-        return Written::Refused(k);
-    }
+    validate(text)?;
     let n = text.len() / 2;
     if out.len() < n {
-        return Written::Refused(2);
+        return Err(Refusal::OutputTooShort);
     }
-    fill(text, out);
-    Written::Bytes(n)
+    fill(text, &mut out[..n]);
+    Ok(n)
 }

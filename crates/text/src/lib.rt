@@ -9,19 +9,19 @@ mod print;
 pub mod state;
 
 ghost use Rattle.std.specs.Prelude.{◌≡◌, ◌++◌, length, take, drop};
-ghost use Rattle.field.specs.Answers.{written_reply};
+ghost use Rattle.refusal.specs.Replies.{reply_of};
 ghost use Rattle.machine.specs.Line.{line_reply, line_leaves};
 ghost use Rattle.machine.specs.Printing.{frame_line};
 ghost use Rattle.machine.specs.inner.Blocks.{fed_out, close_out};
 ghost use Rattle.text.specs.inner.Held.{held_in, kept_of, put_at, fed_held, close_held};
 
 use crate::state::State;
-use field::Written;
+use refusal::Refusal;
 use scalar::sizes;
 
 // The bytes of a line of text. "Line: 15, 14, 2."; nothing is written before the last of these is tested.
-pub fn line(text: &[u8], out: &mut [u8]) -> Written
-    ensures reply { written_reply result ≡ line_reply text.now out.old }
+pub fn line(text: &[u8], out: &mut [u8]) -> Result<usize, Refusal>
+    ensures reply { reply_of result ≡ line_reply text.now out.old }
     ensures out_then { out.new ≡ line_leaves text.now out.old }
 {
     hex::line(text, out)
@@ -55,8 +55,13 @@ pub fn feed(
     ensures out_then { out.new
         ≡ put_at out.old 0 (fed_out (kept_of (held_in st line.old code.old)) (take n block.now)) }
 {
-    let k = scalar::min_usize(n, sizes::MOST_BLOCK);
-    cut::feed_in(st, block, k, line, code, out)
+    cut::feed_over(
+        State { full: 0, ..st },
+        &block[..n.min(sizes::MOST_BLOCK)],
+        line,
+        code,
+        out,
+    )
 }
 
 // The end of the input: "a last line without it counts if not empty"; "Empty input prints the line `0500`", as an empty code line does.

@@ -9,44 +9,28 @@ ghost use Rattle.text.specs.inner.Held.{held_in, kept_of, put_at, code_bytes, ac
 
 use crate::state::State;
 use crate::{hex, print};
-use codeline::answers::Header;
-use field::Written;
 use scalar::sizes;
 
-// Puts the first n bytes of a row into the output.
-fn put(row: &[u8], n: usize, out: &mut [u8], full: usize) -> usize
-    requires { (n ≤ length row.now) × (full + n ≤ length out.old) }
-    ensures written { result ≡ full + n }
-    ensures out_then { out.new ≡ put_at out.old full (take n row.now) }
+// Puts a row into the output.
+fn put(row: &[u8], out: &mut [u8], full: usize) -> usize
+    requires { full + length row.now ≤ length out.old }
+    ensures written { result ≡ full + length row.now }
+    ensures out_then { out.new ≡ put_at out.old full row.now }
 {
-    let e = full + n;
-    slices::copy_u8(&row[..n], &mut out[full..e]);
+    let e = full + row.len();
+    out[full..e].copy_from_slice(row);
     e
 }
 
 // Prints what print::frame_line gives, and returns how many bytes are then printed.
-fn print_in(
-    code: &[u8],
-    text: &[u8],
-    row: &mut [u8; sizes::MOST_PRINTED],
-    out: &mut [u8],
-    full: usize,
-) -> usize
-    requires { full + length (frame_line code.now text.now) ≤ length out.old }
-    ensures written { result ≡ full + length (frame_line code.now text.now) }
-    ensures out_then { out.new ≡ put_at out.old full (frame_line code.now text.now) }
-{
-    let n = print::frame_line(code, text, row);
-    put(row, n, out, full)
-}
-
 fn print(code: &[u8], text: &[u8], out: &mut [u8], full: usize) -> usize
     requires { full + length (frame_line code.now text.now) ≤ length out.old }
     ensures written { result ≡ full + length (frame_line code.now text.now) }
     ensures out_then { out.new ≡ put_at out.old full (frame_line code.now text.now) }
 {
     let mut row = [0u8; sizes::MOST_PRINTED];
-    print_in(code, text, &mut row, out, full)
+    let n = print::frame_line(code, text, &mut row);
+    put(&row[..n], out, full)
 }
 
 // The bytes of the code line; none if the line is refused.
@@ -56,19 +40,13 @@ fn code_bytes(text: &[u8], code: &mut [u8]) -> usize
     ensures code_then { code.new
         ≡ code_bytes text.now ++ drop (length (code_bytes text.now)) code.old }
 {
-    match hex::line(text, code) {
-        Written::Bytes(n) => n,
-        Written::Refused(_) => 0,
-    }
+    hex::line(text, code).unwrap_or(0)
 }
 
 fn accepted(code: &[u8]) -> bool
     ensures { result ≡ accepts code.now }
 {
-    match codeline::code_line(code) {
-        Header::Read(_) => true,
-        Header::Refused(_) => false,
-    }
+    codeline::code_line(code).is_ok()
 }
 
 // The code line read to its end: "a refused code line ends the program".
@@ -91,12 +69,12 @@ fn finish_code(text: &[u8], code: &mut [u8], out: &mut [u8], full: usize) -> Sta
             full,
         };
     }
-    let f = print(&code[..n], text, out, full);
+    let full = print(&code[..n], text, out, full);
     State {
         len: 0,
         code: 0,
         ended: true,
-        full: f,
+        full,
     }
 }
 
@@ -110,18 +88,11 @@ pub fn finish_line(st: State, line: &[u8], code: &mut [u8], out: &mut [u8]) -> S
     ensures out_then { out.new
         ≡ put_at out.old st.full (line_finished_out (kept_of (held_in st line.now code.old))) }
 {
-    let t = scalar::min_usize(st.len, sizes::LINE_ROOM);
-    let n = st.code;
-    let full = st.full;
-    if n == 0 {
-        return finish_code(&line[..t], code, out, full);
+    let t = st.len.min(sizes::LINE_ROOM);
+    if st.code == 0 {
+        return finish_code(&line[..t], code, out, st.full);
     }
-    let k = scalar::min_usize(n, sizes::MOST_LINE_BYTES);
-    let f = print(&code[..k], &line[..t], out, full);
-    State {
-        len: 0,
-        code: n,
-        ended: false,
-        full: f,
-    }
+    let k = st.code.min(sizes::MOST_LINE_BYTES);
+    let full = print(&code[..k], &line[..t], out, st.full);
+    State { len: 0, full, ..st }
 }

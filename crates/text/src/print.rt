@@ -1,14 +1,13 @@
 // The printed line of a frame: decoded from its line of text, and printed as two hexadecimal digits a byte.
 ghost use Rattle.std.specs.Prelude.{◌≡◌, ◌∷◌, ◌++◌, ◌+◌, ◌*◌, ◌<◌, ◌≤◌, length, drop};
-ghost use Rattle.trellis.specs.Sizes.{most_line_bytes, most_printed};
 ghost use Rattle.machine.specs.CodeLine.{parse};
 ghost use Rattle.machine.specs.Printing.{digit_of, digits_of, said, printed, of_frame, frame_line};
 ghost use Rattle.layered.specs.Answers.{answer_reply};
-ghost use Rattle.text.specs.inner.Lines.{as_line, over, DecodeRoom};
+ghost use Rattle.text.specs.inner.Lines.{as_line, over};
 
 use crate::hex;
-use field::Written;
-use layered::answers::{Answer, Outcome};
+use layered::answers::Outcome;
+use refusal::Refusal;
 use scalar::sizes;
 
 // "hexadecimal digits 0-9 and A-F".
@@ -33,15 +32,11 @@ fn put_all(bytes: &[u8], out: &mut [u8])
     requires { length bytes.now * 2 < length out.old }
     ensures { out.new ≡ over (as_line bytes.now) out.old }
 {
-    let n = bytes.len();
-    let mut i = 0;
-    while i < n {
-        let a = i * 2;
-        let e = a + 2;
-        put(bytes[i], &mut out[a..e]);
-        i += 1;
+    for (i, &b) in bytes.iter().enumerate() {
+        let at = i * 2;
+        put(b, &mut out[at..at + 2]);
     }
-    out[n * 2] = 0x0A;
+    out[bytes.len() * 2] = b'\n';
 }
 
 // "status, t, then the symbols"; the bytes written.
@@ -57,65 +52,42 @@ fn put_line(status: u8, t: u8, symbols: &[u8], out: &mut [u8]) -> usize
 }
 
 // "A refused line prints its number as such a byte (12 as 0C) and 00 only".
-fn answer(a: Answer, symbols: &[u8], out: &mut [u8]) -> usize
+#[tactic(auto, unfolding(machine::specs::Printing::printed, crate::specs::inner::Lines::as_line))]
+fn answer(a: Result<Outcome, Refusal>, symbols: &[u8], out: &mut [u8]) -> usize
     requires { (length symbols.now * 2 + 5 ≤ length out.old) × ((answer_reply a).value ≤ 255) }
     ensures written { result ≡ length (printed (said (answer_reply a) symbols.now)) }
     ensures out_then { out.new ≡ over (printed (said (answer_reply a) symbols.now)) out.old }
 {
     match a {
-        Answer::Refused(k) => put_line(k, 0, &symbols[..0], out),
-        Answer::Decoded(o) => match o {
-            Outcome::Found(t) => put_line(0, t as u8, symbols, out),
-            Outcome::NotFound(t) => put_line(1, t as u8, symbols, out),
-        },
+        Err(refusal) => put_line(u8::from(refusal), 0, &[], out),
+        Ok(Outcome::Found(t)) => put_line(0, t as u8, symbols, out),
+        Ok(Outcome::NotFound(t)) => put_line(1, t as u8, symbols, out),
     }
 }
 
 // A frame's line under a code, printed from its bytes. The buffers are long enough for every code line that is accepted, so that 2, 3, 4
 // and 19 never occur.
-fn frame_in(
-    code: &[u8],
-    frame: &[u8],
-    symbols: &mut [u8],
-    costs: &mut [u16],
-    store: &mut [u8],
-    margins: &mut [u16],
-    out: &mut [u8],
-) -> usize
-    requires { DecodeRoom symbols.old costs.old store.old margins.old × (length out.old ≡ most_printed) }
+fn frame_bytes(code: &[u8], frame: &[u8], out: &mut [u8; sizes::MOST_PRINTED]) -> usize
     ensures written { result ≡ length (printed (of_frame (parse code.now) frame.now)) }
     ensures out_then { out.new
         ≡ over (printed (of_frame (parse code.now) frame.now)) out.old }
 {
-    let d = layered::decode_counted(code, frame, symbols, costs, store, margins);
-    let a = d.answer;
-    let n = d.columns;
-    answer(a, &symbols[..n], out)
+    let mut symbols = [0u8; sizes::MOST_SYMBOLS];
+    let mut costs = [0u16; sizes::MOST_COSTS];
+    let mut store = [0u8; sizes::MOST_STORE];
+    let mut margins = [0u16; sizes::MOST_MARGINS];
+    let d = layered::decode_counted(
+        code,
+        frame,
+        &mut symbols,
+        &mut costs,
+        &mut store,
+        &mut margins,
+    );
+    answer(d.answer, &symbols[..d.columns], out)
 }
 
 // "Line refusals come before all others."
-pub fn text_in(
-    code: &[u8],
-    text: &[u8],
-    bytes: &mut [u8],
-    symbols: &mut [u8],
-    costs: &mut [u16],
-    store: &mut [u8],
-    margins: &mut [u16],
-    out: &mut [u8],
-) -> usize
-    requires { (length bytes.old ≡ most_line_bytes)
-        × (DecodeRoom symbols.old costs.old store.old margins.old × (length out.old ≡ most_printed)) }
-    ensures written { result ≡ length (frame_line code.now text.now) }
-    ensures out_then { out.new ≡ over (frame_line code.now text.now) out.old }
-{
-    match hex::line(text, bytes) {
-        Written::Refused(k) => answer(Answer::Refused(k), &symbols[..0], out),
-        Written::Bytes(n) => frame_in(code, &bytes[..n], symbols, costs, store, margins, out),
-    }
-}
-
-// The same in an array for the longest line, with the room that a decoding takes.
 pub fn frame_line(code: &[u8], text: &[u8], out: &mut [u8; sizes::MOST_PRINTED]) -> usize
     ensures written { result ≡ length (frame_line code.now text.now) }
     ensures out_then { out.new
@@ -123,18 +95,8 @@ pub fn frame_line(code: &[u8], text: &[u8], out: &mut [u8; sizes::MOST_PRINTED])
         ++ drop (length (frame_line code.now text.now)) out.old }
 {
     let mut bytes = [0u8; sizes::MOST_LINE_BYTES];
-    let mut symbols = [0u8; sizes::MOST_SYMBOLS];
-    let mut costs = [0u16; sizes::MOST_COSTS];
-    let mut store = [0u8; sizes::MOST_STORE];
-    let mut margins = [0u16; sizes::MOST_MARGINS];
-    text_in(
-        code,
-        text,
-        &mut bytes,
-        &mut symbols,
-        &mut costs,
-        &mut store,
-        &mut margins,
-        out,
-    )
+    match hex::line(text, &mut bytes) {
+        Err(refusal) => answer(Err(refusal), &[], out),
+        Ok(n) => frame_bytes(code, &bytes[..n], out),
+    }
 }

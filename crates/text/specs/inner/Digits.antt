@@ -1,13 +1,13 @@
 -- What the readers of a line of text answer.
-use Rattle.std.specs.Prelude.{Bool, List, ℕ, get_or}
+use Rattle.std.specs.Prelude.{Bool, List, ℕ, Result, Ok, Err, get_or}
 use Rattle.trellis.specs.Lists.{pick, all_to}
 use Rattle.machine.specs.Line.{is_digit, digit}
-use Rattle.text.specs.declared.hex.Digit.{Digit}
-use Rattle.text.specs.declared.hex.Digit.TheVariants.{Is, Refused}
+use Rattle.refusal.specs.declared.Refusal.{Refusal}
+use Rattle.refusal.specs.declared.Refusal.TheVariants.{Digit}
 
 -- a digit's value; "14, .. another byte"
-abbrev pub digit_answer : ℕ → Digit
-digit_answer b = pick (is_digit b) (Is (digit b)) (Refused 14)
+abbrev pub digit_answer : ℕ → Result ℕ Refusal
+digit_answer b = pick (is_digit b) (Ok (digit b)) (Err Digit)
 
 -- each of the first n bytes is a digit
 abbrev pub all_digits : List ℕ → ℕ → Bool

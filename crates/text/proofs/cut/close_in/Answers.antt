@@ -15,8 +15,8 @@ returns-then-silent c =
       out_then = put-nothing c.args.out.now 0 _ e.0;
     }
 
-pub finish_line-r-requires : goal.finish_line-r-requires
-finish_line-r-requires c =
+pub finish_line-requires : goal.finish_line-requires
+finish_line-requires c =
     let e = close_some c.args.st.len c.args.st.code c.args.st.ended c.args.line.now c.args.code.now c.requires.0 (sym c.silent.ensures ∙ c.if-silent.false) in
     (c.requires.0, (c.requires.1.0, (e.0, omega (arith, turn_few (kept_of (held_in c.args.st c.args.line.now c.args.code.now)), c.requires.1.1))))
 
@@ -25,7 +25,7 @@ returns c =
     let e = close_some c.args.st.len c.args.st.code c.args.st.ended c.args.line.now c.args.code.now c.requires.0 (sym c.silent.ensures ∙ c.if-silent.false) in
     let f = ap length e.1 in
     record {
-      written = omega (arith, f, c.finish_line-r.ensures.full);
-      code_then = ap (λ h. h.bytes) c.finish_line-r.ensures.held ∙ e.2;
-      out_then = c.finish_line-r.ensures.out_then ∙ ap (put_at c.args.out.now 0) (sym e.1);
+      written = omega (arith, f, c.finish_line.ensures.full);
+      code_then = ap (λ h. h.bytes) c.finish_line.ensures.held ∙ e.2;
+      out_then = c.finish_line.ensures.out_then ∙ ap (put_at c.args.out.now 0) (sym e.1);
     }

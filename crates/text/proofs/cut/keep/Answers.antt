@@ -1,8 +1,5 @@
 -- A full line stays as it is; another one takes what it has room for.
 use mathlib.Core.Path.{refl}
-use native.Mathlib.Omega.{arith}
-use lib.ListN.{length-take}
-use Rattle.text.proofs.Laws.{put_copied}
 use Rattle.text.proofs.Parts.{keep-none, keep_some}
 use Rattle.text.proofs.cut.keep.Goals as goal
 
@@ -13,12 +10,9 @@ returns-then-len-ge-LINE_ROOM c =
       full = (refl, refl);
     }
 
-pub slice_bounds-copy_u8-end : goal.slice_bounds-copy_u8-end
-slice_bounds-copy_u8-end c = simp length-take (omega arith)
-
 pub returns : goal.returns
 returns c =
     record {
-      held = λ x. keep_some c.args.st.len c.args.st.code c.min_usize-n.result c.args.st.ended c.args.line.now x c.args.part.now _ c.min_usize-n.ensures (put_copied c.args.line.now c.args.part.now _ c.args.st.len c.min_usize-n.result (omega (arith, c.min_usize-n.ensures)) (omega (arith, c.min_usize-n.ensures)) c.copy_u8.ensures);
+      held = λ x. keep_some c.args.st.len c.args.st.code c.min-n.result c.args.st.ended c.args.line.now x c.args.part.now _ c.min-n.ensures c.copy_from_slice.ensures.after;
       full = (refl, refl);
     }

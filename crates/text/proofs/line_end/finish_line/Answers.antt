@@ -12,14 +12,14 @@ slice_bounds-finish_code-end c = simp length-take (omega arith)
 
 pub finish_code-requires : goal.finish_code-requires
 finish_code-requires c =
-    let e = first_out c.args.st.len c.args.st.code c.args.st.ended c.args.line.now c.args.code.now _ c.min_usize-t.ensures c.requires.0 c.requires.1.1.0 c.if-n-eq0.true in
+    let e = first_out c.args.st.len c.args.st.code c.args.st.ended c.args.line.now c.args.code.now _ c.min-t.ensures c.requires.0 c.requires.1.1.0 c.if-st-eq0.true in
     (c.requires.1.0, rw e at c.requires.1.1.1)
 
-pub returns-then-n-eq0 : goal.returns-then-n-eq0
-returns-then-n-eq0 c =
-    let e = first_out c.args.st.len c.args.st.code c.args.st.ended c.args.line.now c.args.code.now _ c.min_usize-t.ensures c.requires.0 c.requires.1.1.0 c.if-n-eq0.true in
+pub returns-then-st-eq0 : goal.returns-then-st-eq0
+returns-then-st-eq0 c =
+    let e = first_out c.args.st.len c.args.st.code c.args.st.ended c.args.line.now c.args.code.now _ c.min-t.ensures c.requires.0 c.requires.1.1.0 c.if-st-eq0.true in
     record {
-      held = first-held c.args.st.len c.args.st.code c.args.st.ended c.args.line.now c.args.code.now _ c.min_usize-t.ensures c.requires.0 c.requires.1.1.0 c.if-n-eq0.true _ _ _ _ c.finish_code.ensures.held.0 c.finish_code.ensures.held.1.0 c.finish_code.ensures.held.1.1 c.finish_code.ensures.code_then;
+      held = first-held c.args.st.len c.args.st.code c.args.st.ended c.args.line.now c.args.code.now _ c.min-t.ensures c.requires.0 c.requires.1.1.0 c.if-st-eq0.true _ _ _ _ c.finish_code.ensures.held.0 c.finish_code.ensures.held.1.0 c.finish_code.ensures.held.1.1 c.finish_code.ensures.code_then;
       full = c.finish_code.ensures.full ∙ ap (λ x. c.args.st.full + length x) (sym e);
       out_then = c.finish_code.ensures.out_then ∙ ap (put_at c.args.out.now c.args.st.full) (sym e);
     }
@@ -30,16 +30,16 @@ slice_bounds-print-end-2 c = simp length-take (omega arith)
 pub slice_bounds-print-end-3 : goal.slice_bounds-print-end-3
 slice_bounds-print-end-3 c = simp length-take (omega arith)
 
-pub print-f-requires : goal.print-f-requires
-print-f-requires c =
-    let e = later-out c.args.st.len c.args.st.code c.args.st.ended c.args.line.now c.args.code.now _ c.min_usize-t.ensures c.requires.0 c.requires.1.1.0 c.if-n-eq0.false _ c.min_usize-k.ensures c.requires.1.0 in
+pub print-full-requires : goal.print-full-requires
+print-full-requires c =
+    let e = later-out c.args.st.len c.args.st.code c.args.st.ended c.args.line.now c.args.code.now _ c.min-t.ensures c.requires.0 c.requires.1.1.0 c.if-st-eq0.false _ c.min-k.ensures c.requires.1.0 in
     rw e at c.requires.1.1.1
 
 pub returns : goal.returns
 returns c =
-    let e = later-out c.args.st.len c.args.st.code c.args.st.ended c.args.line.now c.args.code.now _ c.min_usize-t.ensures c.requires.0 c.requires.1.1.0 c.if-n-eq0.false _ c.min_usize-k.ensures c.requires.1.0 in
+    let e = later-out c.args.st.len c.args.st.code c.args.st.ended c.args.line.now c.args.code.now _ c.min-t.ensures c.requires.0 c.requires.1.1.0 c.if-st-eq0.false _ c.min-k.ensures c.requires.1.0 in
     record {
-      held = later-held c.args.st.len c.args.st.code c.args.st.ended c.args.line.now c.args.code.now _ c.min_usize-t.ensures c.requires.0 c.requires.1.1.0 c.if-n-eq0.false;
-      full = c.print-f.ensures.written ∙ ap (λ x. c.args.st.full + length x) (sym e);
-      out_then = c.print-f.ensures.out_then ∙ ap (put_at c.args.out.now c.args.st.full) (sym e);
+      held = later-held c.args.st.len c.args.st.code c.args.st.ended c.args.line.now c.args.code.now _ c.min-t.ensures c.requires.0 c.requires.1.1.0 c.if-st-eq0.false;
+      full = c.print-full.ensures.written ∙ ap (λ x. c.args.st.full + length x) (sym e);
+      out_then = c.print-full.ensures.out_then ∙ ap (put_at c.args.out.now c.args.st.full) (sym e);
     }
