@@ -6,11 +6,13 @@ ghost use Rattle.machine.specs.Machine.{symbols as symbols_of, margins as margin
 ghost use Rattle.machine.specs.Lent.{lent};
 ghost use Rattle.machine.specs.Decoding.{lending, Leaves};
 ghost use Rattle.layered.specs.Answers.{answer_reply};
+ghost use Rattle.layered.specs.inner.Buffers.{lent_in, RunIn, SameLoans, SameScratch};
 ghost use Rattle.layered.specs.inner.Codes.{code_in};
 ghost use Rattle.layered.specs.inner.Iterations.{ended_in, RunRoom};
 ghost use Rattle.layered.specs.inner.Calls.{run_lent, decoding_of, called, WorkRoom};
 
 use crate::answers::{Counted, Outcome};
+use crate::buffers::{DecodeBuffers, Scratch};
 use crate::parity;
 use crate::schedule::Schedule;
 use codeline::code::Code;
@@ -19,6 +21,29 @@ use scalar::sizes;
 
 // The run of a schedule, with the margins of its last decisions.
 fn run_to_margins<S: Schedule>(
+    code: &Code<'_>,
+    b: &mut DecodeBuffers<'_>,
+    room: &mut Scratch<'_>,
+) -> Outcome
+    requires { RunIn code.now b.old room.old
+        × (length b.old.margins.now ≡ code.now.numbers.columns) }
+    ensures loans { SameLoans b.old b.new }
+    ensures scratch { SameScratch room.old room.new }
+    ensures ends { ended_in result (lent_in b.new)
+        ≡ run_lent S.early code.now.numbers (code_in code.now)
+        (lent_in b.old) }
+    ensures symbols_then { b.new.symbols.now ≡ symbols_of (code_in code.now) b.new.costs.now }
+    ensures margins_then { b.new.margins.now ≡ margins_of (code_in code.now) b.new.costs.now }
+{
+    let o = S::run(code, b, room);
+    // Lent before the other field: beside a lent one none is read.
+    let costs = &mut *b.costs;
+    parity::margins(costs, rules::size(code.numbers.first), b.margins);
+    o
+}
+
+// The same over slices, which are cut by the caller: what a struct holds of a part is known of whole fields.
+fn run_over<S: Schedule>(
     code: &Code<'_>,
     symbols: &mut [u8],
     costs: &mut [u16],
@@ -35,9 +60,14 @@ fn run_to_margins<S: Schedule>(
     ensures symbols_then { symbols.new ≡ symbols_of (code_in code.now) costs.new }
     ensures margins_then { margins.new ≡ margins_of (code_in code.now) costs.new }
 {
-    let o = S::run(code, symbols, costs, store, arrived, sent);
-    parity::margins(costs, rules::size(code.numbers.first), margins);
-    o
+    let mut b = DecodeBuffers {
+        symbols,
+        costs,
+        store,
+        margins,
+    };
+    let mut room = Scratch { arrived, sent };
+    run_to_margins::<S>(code, &mut b, &mut room)
 }
 
 // "Decode: code, 12, 13, 2, 3, 4.", 19. Nothing is written before the last refusal has been tested.
@@ -70,7 +100,7 @@ fn under_code<S: Schedule>(
     )?;
     let w = frame.len();
     frame::copy(frame, &mut costs[..w]);
-    let o = run_to_margins::<S>(
+    let o = run_over::<S>(
         code,
         &mut symbols[..n],
         &mut costs[..w],

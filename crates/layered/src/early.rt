@@ -5,14 +5,15 @@ ghost use Rattle.trellis.specs.Check.{decide as decide_of};
 ghost use Rattle.trellis.specs.Sizes.{most_size};
 ghost use Rattle.machine.specs.CodeLine.{column_of};
 ghost use Rattle.machine.specs.Machine.{symbols as symbols_of};
-ghost use Rattle.machine.specs.Lent.{lent};
 ghost use Rattle.machine.specs.inner.LentEarly.{stop_lent};
+ghost use Rattle.layered.specs.inner.Buffers.{lent_in, RunIn, SameLoans, SameScratch};
 ghost use Rattle.layered.specs.inner.Codes.{code_in};
 ghost use Rattle.layered.specs.inner.Parity.{ParityRoom, FromTo, SomeNot};
-ghost use Rattle.layered.specs.inner.Iterations.{ended_in, RunRoom};
+ghost use Rattle.layered.specs.inner.Iterations.{ended_in};
 ghost use Rattle.layered.specs.inner.Early.{decided_again, AgainRoom, RetestRoom, Retested, GoRoom};
 
 use crate::answers::Outcome;
+use crate::buffers::{DecodeBuffers, Scratch};
 use crate::parity::CheckAt;
 use crate::place::Place;
 use crate::{parity, place};
@@ -87,19 +88,13 @@ fn tested_again(
 }
 
 // The updates one after the other, at most `most` of them, from decisions that do not satisfy every check.
-fn go_on(
-    code: &Code<'_>,
-    most: u16,
-    symbols: &mut [u8],
-    costs: &mut [u16],
-    store: &mut [u8],
-    arrived: &mut [u8],
-    sent: &mut [u8],
-) -> Outcome
-    requires { GoRoom code.now costs.old store.old symbols.old arrived.old sent.old }
-    ensures ends { ended_in result (lent costs.new store.new)
-        ≡ stop_lent (code_in code.now) most 0 (lent costs.old store.old) }
-    ensures symbols_then { symbols.new ≡ symbols_of (code_in code.now) costs.new }
+fn go_on(code: &Code<'_>, most: u16, b: &mut DecodeBuffers<'_>, room: &mut Scratch<'_>) -> Outcome
+    requires { GoRoom code.now b.old.costs.now b.old.store.now b.old.symbols.now room.old.arrived.now room.old.sent.now }
+    ensures loans { SameLoans b.old b.new }
+    ensures scratch { SameScratch room.old room.new }
+    ensures ends { ended_in result (lent_in b.new)
+        ≡ stop_lent (code_in code.now) most 0 (lent_in b.old) }
+    ensures symbols_then { b.new.symbols.now ≡ symbols_of (code_in code.now) b.new.costs.now }
 {
     let count = usize::from(code.numbers.checks);
     let mut here = Place {
@@ -109,21 +104,16 @@ fn go_on(
     };
     let mut from = CheckAt { check: 0, edge: 0 };
     let mut u: u16 = 0;
+    // By `loop`: the place of a check comes around, and a test ends it.
     loop {
         if u == most {
             return Outcome::NotFound(u);
         }
-        let next = place::update_at(
-            code,
-            usize::from(u) < count,
-            here,
-            costs,
-            store,
-            arrived,
-            sent,
-        );
+        let next = place::update_at(code, usize::from(u) < count, here, b.costs, b.store, room);
         u += 1;
-        match tested_again(code, here, from, costs, symbols) {
+        // Lent before the other field: beside a lent one none is read.
+        let costs = &mut *b.costs;
+        match tested_again(code, here, from, costs, b.symbols) {
             None => return Outcome::Found(u),
             Some(check) => from = check,
         }
@@ -139,22 +129,19 @@ fn most_updates(numbers: Numbers) -> u16
 }
 
 // The machine on the costs in `costs`, "tested at the start and after each check update".
-pub fn run(
-    code: &Code<'_>,
-    symbols: &mut [u8],
-    costs: &mut [u16],
-    store: &mut [u8],
-    arrived: &mut [u8],
-    sent: &mut [u8],
-) -> Outcome
-    requires { RunRoom code.now true costs.old store.old symbols.old arrived.old sent.old }
-    ensures ends { ended_in result (lent costs.new store.new)
-        ≡ stop_lent (code_in code.now) (code.now.numbers.checks * code.now.numbers.limit) 0 (lent costs.old store.old) }
-    ensures symbols_then { symbols.new ≡ symbols_of (code_in code.now) costs.new }
+pub fn run(code: &Code<'_>, b: &mut DecodeBuffers<'_>, room: &mut Scratch<'_>) -> Outcome
+    requires { RunIn code.now b.old room.old }
+    ensures loans { SameLoans b.old b.new }
+    ensures scratch { SameScratch room.old room.new }
+    ensures ends { ended_in result (lent_in b.new)
+        ≡ stop_lent (code_in code.now) (code.now.numbers.checks * code.now.numbers.limit) 0 (lent_in b.old) }
+    ensures symbols_then { b.new.symbols.now ≡ symbols_of (code_in code.now) b.new.costs.now }
 {
-    if parity::settled(code, costs, symbols) {
+    // Lent before the other field: beside a lent one none is read.
+    let costs = &mut *b.costs;
+    if parity::settled(code, costs, b.symbols) {
         return Outcome::Found(0);
     }
     let most = most_updates(code.numbers);
-    go_on(code, most, symbols, costs, store, arrived, sent)
+    go_on(code, most, b, room)
 }

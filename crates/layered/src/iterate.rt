@@ -2,10 +2,12 @@
 ghost use Rattle.std.specs.Prelude.{◌≡◌, true};
 ghost use Rattle.machine.specs.Machine.{symbols as symbols_of};
 ghost use Rattle.machine.specs.Lent.{lent, iteration_lent, go_lent};
+ghost use Rattle.layered.specs.inner.Buffers.{lent_in, RunIn, SameLoans, SameScratch};
 ghost use Rattle.layered.specs.inner.Codes.{code_in};
-ghost use Rattle.layered.specs.inner.Iterations.{ended_in, IterateRoom, RunRoom};
+ghost use Rattle.layered.specs.inner.Iterations.{ended_in, IterateRoom};
 
 use crate::answers::Outcome;
+use crate::buffers::{DecodeBuffers, Scratch};
 use crate::place::Place;
 use crate::{parity, place};
 use codeline::code::Code;
@@ -16,11 +18,11 @@ pub fn iterate(
     start: bool,
     costs: &mut [u16],
     store: &mut [u8],
-    arrived: &mut [u8],
-    sent: &mut [u8],
+    room: &mut Scratch<'_>,
 )
-    requires { IterateRoom code.now start costs.old store.old arrived.old sent.old }
-    ensures { lent costs.new store.new
+    requires { IterateRoom code.now start costs.old store.old room.old.arrived.now room.old.sent.now }
+    ensures scratch { SameScratch room.old room.new }
+    ensures buffers { lent costs.new store.new
         ≡ iteration_lent (code_in code.now) start (lent costs.old store.old) }
 {
     let count = usize::from(code.numbers.checks);
@@ -29,35 +31,34 @@ pub fn iterate(
         edge: 0,
         byte: 0,
     };
+    // The place that an update answers counts the checks.
     while here.check < count {
-        here = place::update_at(code, start, here, costs, store, arrived, sent);
+        here = place::update_at(code, start, here, costs, store, room);
     }
 }
 
 // The machine on the costs in `costs`: "all checks satisfied means found. Otherwise, if t = I, not found."
-pub fn run(
-    code: &Code<'_>,
-    symbols: &mut [u8],
-    costs: &mut [u16],
-    store: &mut [u8],
-    arrived: &mut [u8],
-    sent: &mut [u8],
-) -> Outcome
-    requires { RunRoom code.now true costs.old store.old symbols.old arrived.old sent.old }
-    ensures ends { ended_in result (lent costs.new store.new)
-        ≡ go_lent (code_in code.now) code.now.numbers.limit 0 (lent costs.old store.old) }
-    ensures symbols_then { symbols.new ≡ symbols_of (code_in code.now) costs.new }
+pub fn run(code: &Code<'_>, b: &mut DecodeBuffers<'_>, room: &mut Scratch<'_>) -> Outcome
+    requires { RunIn code.now b.old room.old }
+    ensures loans { SameLoans b.old b.new }
+    ensures scratch { SameScratch room.old room.new }
+    ensures ends { ended_in result (lent_in b.new)
+        ≡ go_lent (code_in code.now) code.now.numbers.limit 0 (lent_in b.old) }
+    ensures symbols_then { b.new.symbols.now ≡ symbols_of (code_in code.now) b.new.costs.now }
 {
     let limit = u16::from(code.numbers.limit);
     let mut t: u16 = 0;
+    // By `loop`: a run ends at a test, and makes one more of them than iterations.
     loop {
-        if parity::settled(code, costs, symbols) {
+        // Lent before the other field: beside a lent one none is read.
+        let costs = &mut *b.costs;
+        if parity::settled(code, costs, b.symbols) {
             return Outcome::Found(t);
         }
         if t == limit {
             return Outcome::NotFound(t);
         }
-        iterate(code, t == 0, costs, store, arrived, sent);
+        iterate(code, t == 0, b.costs, b.store, room);
         t += 1;
     }
 }

@@ -2,6 +2,7 @@
 #![tactic(auto)]
 
 pub mod answers;
+mod buffers;
 mod column;
 mod decoding;
 mod early;

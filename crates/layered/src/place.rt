@@ -1,9 +1,11 @@
 // A check in the tables and the store: where it stands, one update of it, and the check behind it.
 ghost use Rattle.std.specs.Prelude.{◌≡◌, ◌+◌};
 ghost use Rattle.machine.specs.Lent.{lent, update_lent};
+ghost use Rattle.layered.specs.inner.Buffers.{SameScratch};
 ghost use Rattle.layered.specs.inner.Codes.{code_in};
 ghost use Rattle.layered.specs.inner.Places.{Stands, Around, PlaceRoom};
 
+use crate::buffers::Scratch;
 use crate::update;
 use codeline::code::Code;
 
@@ -22,10 +24,10 @@ pub fn update_at(
     here: Place,
     costs: &mut [u16],
     store: &mut [u8],
-    arrived: &mut [u8],
-    sent: &mut [u8],
+    room: &mut Scratch<'_>,
 ) -> Place
-    requires { PlaceRoom code.now start here costs.old store.old arrived.old sent.old }
+    requires { PlaceRoom code.now start here costs.old store.old room.old.arrived.now room.old.sent.now }
+    ensures scratch { SameScratch room.old room.new }
     ensures buffers { lent costs.new store.new
         ≡ update_lent (code_in code.now) start here.check (lent costs.old store.old) }
     ensures next { Stands code.now.numbers.first code.now.degrees.now (here.check + 1) result }
@@ -46,8 +48,8 @@ pub fn update_at(
         &code.weights[at..e],
         costs,
         &mut store[place..f],
-        &mut arrived[..n],
-        &mut sent[..n],
+        &mut room.arrived[..n],
+        &mut room.sent[..n],
     );
     Place {
         check: m + 1,

@@ -1,12 +1,13 @@
 // When a decoding tests its decisions: at the start, and then after each iteration or after each check update.
 ghost use Rattle.std.specs.Prelude.{◌≡◌, Bool, true, false};
 ghost use Rattle.machine.specs.Machine.{symbols as symbols_of};
-ghost use Rattle.machine.specs.Lent.{lent};
+ghost use Rattle.layered.specs.inner.Buffers.{lent_in, RunIn, SameLoans, SameScratch};
 ghost use Rattle.layered.specs.inner.Codes.{code_in};
-ghost use Rattle.layered.specs.inner.Iterations.{ended_in, RunRoom};
+ghost use Rattle.layered.specs.inner.Iterations.{ended_in};
 ghost use Rattle.layered.specs.inner.Calls.{run_lent};
 
 use crate::answers::Outcome;
+use crate::buffers::{DecodeBuffers, Scratch};
 use crate::{early, iterate};
 use codeline::code::Code;
 
@@ -15,19 +16,14 @@ pub trait Schedule {
     ghost early: { Bool };
 
     // The machine on the costs in `costs`.
-    fn run(
-        code: &Code<'_>,
-        symbols: &mut [u8],
-        costs: &mut [u16],
-        store: &mut [u8],
-        arrived: &mut [u8],
-        sent: &mut [u8],
-    ) -> Outcome
-        requires { RunRoom code.now true costs.old store.old symbols.old arrived.old sent.old }
-        ensures ends { ended_in result (lent costs.new store.new)
+    fn run(code: &Code<'_>, b: &mut DecodeBuffers<'_>, room: &mut Scratch<'_>) -> Outcome
+        requires { RunIn code.now b.old room.old }
+        ensures loans { SameLoans b.old b.new }
+        ensures scratch { SameScratch room.old room.new }
+        ensures ends { ended_in result (lent_in b.new)
             ≡ run_lent early code.now.numbers (code_in code.now)
-            (lent costs.old store.old) }
-        ensures symbols_then { symbols.new ≡ symbols_of (code_in code.now) costs.new };
+            (lent_in b.old) }
+        ensures symbols_then { b.new.symbols.now ≡ symbols_of (code_in code.now) b.new.costs.now };
 }
 
 pub struct WholeIterations;
@@ -37,29 +33,15 @@ pub struct EachUpdate;
 impl Schedule for WholeIterations {
     ghost early = { false };
 
-    fn run(
-        code: &Code<'_>,
-        symbols: &mut [u8],
-        costs: &mut [u16],
-        store: &mut [u8],
-        arrived: &mut [u8],
-        sent: &mut [u8],
-    ) -> Outcome {
-        iterate::run(code, symbols, costs, store, arrived, sent)
+    fn run(code: &Code<'_>, b: &mut DecodeBuffers<'_>, room: &mut Scratch<'_>) -> Outcome {
+        iterate::run(code, b, room)
     }
 }
 
 impl Schedule for EachUpdate {
     ghost early = { true };
 
-    fn run(
-        code: &Code<'_>,
-        symbols: &mut [u8],
-        costs: &mut [u16],
-        store: &mut [u8],
-        arrived: &mut [u8],
-        sent: &mut [u8],
-    ) -> Outcome {
-        early::run(code, symbols, costs, store, arrived, sent)
+    fn run(code: &Code<'_>, b: &mut DecodeBuffers<'_>, room: &mut Scratch<'_>) -> Outcome {
+        early::run(code, b, room)
     }
 }

@@ -11,6 +11,7 @@ ghost use Rattle.layered.specs.Answers.{stage_of};
 ghost use Rattle.layered.specs.inner.Stages.{stage_after, loading_of, iterating_of, TestRoom, StepRoom};
 
 use crate::answers::Stage;
+use crate::buffers::Scratch;
 use crate::{iterate, parity};
 use codeline::code::Code;
 use refusal::Refusal;
@@ -58,7 +59,8 @@ pub fn iterated(
     ensures symbols_then { symbols.new ≡ symbols_of (code_in code.now) costs.new }
     ensures margins_then { margins.new ≡ margins_of (code_in code.now) costs.new }
 {
-    iterate::iterate(code, start, costs, store, arrived, sent);
+    let mut room = Scratch { arrived, sent };
+    iterate::iterate(code, start, costs, store, &mut room);
     tested(code, costs, symbols, margins)
 }
 

@@ -27,34 +27,34 @@ pub slice_bounds-copy-end-2 : goal.slice_bounds-copy-end-2
 slice_bounds-copy-end-2 g c =
     simp length-take (omega (arith, (fits c.args.code.now c.from-n.result c.from-n.ensures c.args.frame.now c.args.symbols.now c.args.costs.now c.args.store.now c.args.margins.now 0 c.in_ok-validate_decode.ensures refl)))
 
-pub slice_bounds-run_to_margins-end : goal.slice_bounds-run_to_margins-end
-slice_bounds-run_to_margins-end g c =
+pub slice_bounds-run_over-end : goal.slice_bounds-run_over-end
+slice_bounds-run_over-end g c =
     omega (arith, (fits c.args.code.now c.from-n.result c.from-n.ensures c.args.frame.now c.args.symbols.now c.args.costs.now c.args.store.now c.args.margins.now 0 c.in_ok-validate_decode.ensures refl))
 
-pub slice_bounds-run_to_margins-end-2 : goal.slice_bounds-run_to_margins-end-2
-slice_bounds-run_to_margins-end-2 g c =
+pub slice_bounds-run_over-end-2 : goal.slice_bounds-run_over-end-2
+slice_bounds-run_over-end-2 g c =
     sym (length-take-le c.from-n.result c.args.symbols.now (omega (arith, (fits c.args.code.now c.from-n.result c.from-n.ensures c.args.frame.now c.args.symbols.now c.args.costs.now c.args.store.now c.args.margins.now 0 c.in_ok-validate_decode.ensures refl))))
 
-pub slice_bounds-run_to_margins-end-3 : goal.slice_bounds-run_to_margins-end-3
-slice_bounds-run_to_margins-end-3 g c =
+pub slice_bounds-run_over-end-3 : goal.slice_bounds-run_over-end-3
+slice_bounds-run_over-end-3 g c =
     (front-room c.args.costs.now c.copy.new.costs (length c.args.frame.now) (omega (arith, (fits c.args.code.now c.from-n.result c.from-n.ensures c.args.frame.now c.args.symbols.now c.args.costs.now c.args.store.now c.args.margins.now 0 c.in_ok-validate_decode.ensures refl))) c.copy.auto.costs)
 
-pub slice_bounds-run_to_margins-end-4 : goal.slice_bounds-run_to_margins-end-4
-slice_bounds-run_to_margins-end-4 g c =
+pub slice_bounds-run_over-end-4 : goal.slice_bounds-run_over-end-4
+slice_bounds-run_over-end-4 g c =
     sym (length-take-le (length c.args.frame.now) _ (front-room c.args.costs.now c.copy.new.costs (length c.args.frame.now) (omega (arith, (fits c.args.code.now c.from-n.result c.from-n.ensures c.args.frame.now c.args.symbols.now c.args.costs.now c.args.store.now c.args.margins.now 0 c.in_ok-validate_decode.ensures refl))) c.copy.auto.costs))
 
-pub slice_bounds-run_to_margins-end-5 : goal.slice_bounds-run_to_margins-end-5
-slice_bounds-run_to_margins-end-5 g c =
+pub slice_bounds-run_over-end-5 : goal.slice_bounds-run_over-end-5
+slice_bounds-run_over-end-5 g c =
     omega (arith, (fits c.args.code.now c.from-n.result c.from-n.ensures c.args.frame.now c.args.symbols.now c.args.costs.now c.args.store.now c.args.margins.now 0 c.in_ok-validate_decode.ensures refl))
 
-pub slice_bounds-run_to_margins-end-6 : goal.slice_bounds-run_to_margins-end-6
-slice_bounds-run_to_margins-end-6 g c =
+pub slice_bounds-run_over-end-6 : goal.slice_bounds-run_over-end-6
+slice_bounds-run_over-end-6 g c =
     sym (length-take-le c.from-n.result c.args.margins.now (omega (arith, (fits c.args.code.now c.from-n.result c.from-n.ensures c.args.frame.now c.args.symbols.now c.args.costs.now c.args.store.now c.args.margins.now 0 c.in_ok-validate_decode.ensures refl))))
 
-pub run_to_margins-o-requires : goal.run_to_margins-o-requires
-run_to_margins-o-requires g c =
+pub run_over-o-requires : goal.run_over-o-requires
+run_over-o-requires g c =
     (copied_room c.args.code.now c.from-n.result c.from-n.ensures c.args.frame.now c.args.symbols.now c.args.costs.now c.args.store.now c.args.margins.now 0 c.in_ok-validate_decode.ensures refl c.copy.new.costs (copied_is c.args.frame.now (take (length c.args.frame.now) c.args.costs.now) c.copy.new.costs (sym (length-take-le (length c.args.frame.now) c.args.costs.now (omega (arith, (fits c.args.code.now c.from-n.result c.from-n.ensures c.args.frame.now c.args.symbols.now c.args.costs.now c.args.store.now c.args.margins.now 0 c.in_ok-validate_decode.ensures refl))))) c.copy.ensures) (λ x. omega (arith, c.type_inv.frame x)) (take c.from-n.result c.args.symbols.now) c.args.arrived.now c.args.sent.now (length-take-le c.from-n.result c.args.symbols.now (omega (arith, (fits c.args.code.now c.from-n.result c.from-n.ensures c.args.frame.now c.args.symbols.now c.args.costs.now c.args.store.now c.args.margins.now 0 c.in_ok-validate_decode.ensures refl)))) c.requires.arrived c.requires.sent, (length-take-le c.from-n.result c.args.margins.now (omega (arith, (fits c.args.code.now c.from-n.result c.from-n.ensures c.args.frame.now c.args.symbols.now c.args.costs.now c.args.store.now c.args.margins.now 0 c.in_ok-validate_decode.ensures refl)))) ∙ c.from-n.ensures)
 
 pub returns : goal.returns
 returns g c =
-    copied_leaves c.args.code.now c.from-n.result c.from-n.ensures c.args.frame.now c.args.symbols.now c.args.costs.now c.args.store.now c.args.margins.now 0 c.in_ok-validate_decode.ensures refl c.copy.new.costs (copied_is c.args.frame.now (take (length c.args.frame.now) c.args.costs.now) c.copy.new.costs (sym (length-take-le (length c.args.frame.now) c.args.costs.now (omega (arith, (fits c.args.code.now c.from-n.result c.from-n.ensures c.args.frame.now c.args.symbols.now c.args.costs.now c.args.store.now c.args.margins.now 0 c.in_ok-validate_decode.ensures refl))))) c.copy.ensures) g.S.Schedule.early c.run_to_margins-o.result _ _ _ _ c.run_to_margins-o.ensures.ends c.run_to_margins-o.ensures.symbols_then c.run_to_margins-o.ensures.margins_then
+    copied_leaves c.args.code.now c.from-n.result c.from-n.ensures c.args.frame.now c.args.symbols.now c.args.costs.now c.args.store.now c.args.margins.now 0 c.in_ok-validate_decode.ensures refl c.copy.new.costs (copied_is c.args.frame.now (take (length c.args.frame.now) c.args.costs.now) c.copy.new.costs (sym (length-take-le (length c.args.frame.now) c.args.costs.now (omega (arith, (fits c.args.code.now c.from-n.result c.from-n.ensures c.args.frame.now c.args.symbols.now c.args.costs.now c.args.store.now c.args.margins.now 0 c.in_ok-validate_decode.ensures refl))))) c.copy.ensures) g.S.Schedule.early c.run_over-o.result _ _ _ _ c.run_over-o.ensures.ends c.run_over-o.ensures.symbols_then c.run_over-o.ensures.margins_then

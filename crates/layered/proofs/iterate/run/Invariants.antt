@@ -2,14 +2,14 @@
 use mathlib.Core.Path.{◌≡◌}
 use Prim.Native.Nat.{◌-◌, ◌≤◌}
 use lib.Dec.{eqb}
-use lib.ListN.{length}
+use Rattle.layered.specs.inner.Buffers.{SameLoans, SameScratch}
 use Rattle.layered.specs.inner.Codes.{code_in}
 use Rattle.machine.specs.Lent.{lent, go_lent}
 use Rattle.layered.specs.inner.Iterations.{Running}
 use Rattle.layered.proofs.iterate.run.Given as goal
 
 abbrev pub invariant-loop-limit : goal.invariant-loop-limit
-invariant-loop-limit l = (l.t ≤ l.code.numbers.limit) × (Running l.code (eqb l.t 0) l.costs l.store × ((go_lent (code_in l.code) (l.code.numbers.limit - l.t) l.t (lent l.costs l.store) ≡ go_lent (code_in l.code) l.code.numbers.limit 0 (lent l.initial.costs l.initial.store)) × ((length l.symbols ≡ length l.initial.symbols) × ((length l.costs ≡ length l.initial.costs) × ((length l.store ≡ length l.initial.store) × ((length l.arrived ≡ length l.initial.arrived) × (length l.sent ≡ length l.initial.sent)))))))
+invariant-loop-limit l = (l.t ≤ l.code.numbers.limit) × (Running l.code (eqb l.t 0) l.b.costs.now l.b.store.now × ((go_lent (code_in l.code) (l.code.numbers.limit - l.t) l.t (lent l.b.costs.now l.b.store.now) ≡ go_lent (code_in l.code) l.code.numbers.limit 0 (lent l.initial.b.costs.now l.initial.b.store.now)) × (SameLoans l.initial.b l.b × SameScratch l.initial.room l.room)))
 
 abbrev pub decreases-loop-limit : goal.decreases-loop-limit
 decreases-loop-limit l = l.code.numbers.limit - l.t

@@ -61,7 +61,7 @@ slice_bounds-update-end-7 c =
 
 pub update-requires : goal.update-requires
 update-requires c =
-    update_asks c.args.code.now c.args.start c.args.here.check c.args.costs.now c.args.store.now c.requires.updatable c.args.here.edge c.args.here.byte c.from-d.result c.size-q.result c.groups-groups.result c.requires.stands.edge_is c.requires.stands.byte_is c.from-d.ensures c.size-q.ensures.0 c.groups-groups.ensures (take (c.from-d.result * c.size-q.result) c.args.arrived.now) (take (c.from-d.result * c.size-q.result) c.args.sent.now) (simp length-take (omega (arith, places_inside c.args.code.now c.args.start c.args.here.check c.args.costs.now c.args.store.now c.requires.updatable c.args.here.edge c.args.here.byte c.from-d.result c.size-q.result c.groups-groups.result c.requires.stands.edge_is c.requires.stands.byte_is c.from-d.ensures c.size-q.ensures.0 c.groups-groups.ensures, c.requires.arrived))) (simp length-take (omega (arith, places_inside c.args.code.now c.args.start c.args.here.check c.args.costs.now c.args.store.now c.requires.updatable c.args.here.edge c.args.here.byte c.from-d.result c.size-q.result c.groups-groups.result c.requires.stands.edge_is c.requires.stands.byte_is c.from-d.ensures c.size-q.ensures.0 c.groups-groups.ensures, c.requires.sent)))
+    update_asks c.args.code.now c.args.start c.args.here.check c.args.costs.now c.args.store.now c.requires.updatable c.args.here.edge c.args.here.byte c.from-d.result c.size-q.result c.groups-groups.result c.requires.stands.edge_is c.requires.stands.byte_is c.from-d.ensures c.size-q.ensures.0 c.groups-groups.ensures (take (c.from-d.result * c.size-q.result) c.args.room.now.arrived.now) (take (c.from-d.result * c.size-q.result) c.args.room.now.sent.now) (simp length-take (omega (arith, places_inside c.args.code.now c.args.start c.args.here.check c.args.costs.now c.args.store.now c.requires.updatable c.args.here.edge c.args.here.byte c.from-d.result c.size-q.result c.groups-groups.result c.requires.stands.edge_is c.requires.stands.byte_is c.from-d.ensures c.size-q.ensures.0 c.groups-groups.ensures, c.requires.arrived))) (simp length-take (omega (arith, places_inside c.args.code.now c.args.start c.args.here.check c.args.costs.now c.args.store.now c.requires.updatable c.args.here.edge c.args.here.byte c.from-d.result c.size-q.result c.groups-groups.result c.requires.stands.edge_is c.requires.stands.byte_is c.from-d.ensures c.size-q.ensures.0 c.groups-groups.ensures, c.requires.sent)))
 
 pub overflow_add-result : goal.overflow_add-result
 overflow_add-result c =
@@ -70,6 +70,7 @@ overflow_add-result c =
 pub returns : goal.returns
 returns c =
     record {
+      scratch = record { arrived = refl; sent = refl; arrived_length = omega arith; sent_length = omega arith };
       buffers = update-done c.args.code.now c.args.start c.args.here.check c.args.costs.now c.args.store.now c.requires.updatable c.args.here.edge c.args.here.byte c.from-d.result c.size-q.result c.groups-groups.result c.requires.stands.edge_is c.requires.stands.byte_is c.from-d.ensures c.size-q.ensures.0 c.groups-groups.ensures _ _ c.update.ensures.costs_then c.update.ensures.bytes_then;
       next = record { check_is = refl; edge_is = before_more c.args.code.now.degrees.now c.args.here.check c.args.here.edge c.from-d.result c.requires.stands.edge_is c.from-d.ensures; byte_is = next-byte c.args.code.now c.args.start c.args.here.check c.args.costs.now c.args.store.now c.requires.updatable c.args.here.edge c.args.here.byte c.from-d.result c.size-q.result c.groups-groups.result c.requires.stands.edge_is c.requires.stands.byte_is c.from-d.ensures c.size-q.ensures.0 c.groups-groups.ensures };
     }
