@@ -29,5 +29,6 @@ pub fn store_length(first: u8, checks: u8, length: usize) -> u32
 {
     let m = usize::from(checks);
     let edges = (length - 6 - m) / 3;
+    // By `as`: what is required says that it fits.
     (edges + m * rules::groups(first)) as u32
 }

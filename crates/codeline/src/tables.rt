@@ -49,7 +49,7 @@ impl Tables {
         self.edges += 1;
     }
 
-    // What was read of an accepted line, in front of what the lent tables hold.
+    // What was read of an accepted line, in front of what the lent tables hold: three, as the public call takes them.
     pub fn hand_over(
         &self,
         numbers: Numbers,

@@ -4,13 +4,13 @@ use mathlib.Core.Bool.{Bool, true, false, ◌||◌}
 use mathlib.Core.Logic.{◌≢◌}
 use mathlib.Core.List.{List}
 use Prim.Native.Nat.{ℕ, zero, suc, ◌+◌, ◌-◌, ◌*◌, ◌≤◌, ◌<◌, min}
-use native.Mathlib.Nat.{mul-le-mul, add-sub_cancel_left}
+use native.Mathlib.Nat.{mul-le-mul}
 use native.Mathlib.Numerals.{add-one}
 use native.Mathlib.Omega.{arith}
 use lib.Dec.{eqb, leb}
 use lib.Pow.{pow_mono}
-use lib.ListN.{length, get_or, take, length-take, length-drop}
-use lib.Seq.{length-take-le}
+use lib.ListN.{length, drop, get_or, take, length-take}
+use lib.Seq.{length-take-le, drop-drop}
 use Rattle.std.specs.List.{list_all}
 use Rattle.std.proofs.lemmas.List.{get_or-take}
 use Rattle.frame.proofs.Frames.{all_members}
@@ -64,28 +64,33 @@ records_taken first ds w t s h = ap (λ b. eqb t 0 || b) (ap (all_to (formed_at 
         let e : get_or (take w ds) n 0 ≡ get_or ds n 0 = get_or-take w ds n 0 (omega arith) in
         rw (go n (omega arith), bytes_taken first ds w n (omega arith), e)
 
--- a turn of the loop over the checks, at the place that it carries
-module _ (first : ℕ) (ds s : List ℕ) (count m place d n groups : ℕ) (h : m < count) (b : place ≡ bytes_before first ds m) (i : d ≡ get_or ds m 0) (j : groups ≡ group_length (rule_for first) * (size_of first - 1)) (l : n ≡ d + groups) where
-  record-end : n ≡ record_length (rule_for first) (get_or ds m 0)
-  record-end = rw (l, j, i)
+-- a turn of the loop over the checks: what is left of the store, of which check m's record is the front
+pub rest_all : (first : ℕ) (ds s : List ℕ) → s ≡ drop (bytes_before first ds 0) s
+unfolding bytes_before
+rest_all first ds s = refl
+
+module _ (first : ℕ) (ds s rest : List ℕ) (m d groups : ℕ) (b : rest ≡ drop (bytes_before first ds m) s) (i : d ≡ get_or ds m 0)
+    (j : groups ≡ group_length (rule_for first) * (size_of first - 1)) where
+  record-end : d + groups ≡ record_length (rule_for first) (get_or ds m 0)
+  record-end = rw (j, i)
+
+  pub rest_more : drop (d + groups) rest ≡ drop (bytes_before first ds (m + 1)) s
+  rest_more = rw (b, ← place_more first ds m (bytes_before first ds m) d groups refl i j) (drop-drop (d + groups) (bytes_before first ds m) s)
 
   -- a record that the store does not hold whole has another length
-  pub form_short : length s - place < n → all_to (formed_at first ds s) count ≡ false
+  pub form_short : (count : ℕ) → m < count → length rest < d + groups → all_to (formed_at first ds s) count ≡ false
   unfolding record_ok record_tests
-  form_short u =
+  form_short count h u =
       let z : length (part s (bytes_before first ds m) (record_length (rule_for first) (get_or ds m 0))) ≢ record_length (rule_for first) (get_or ds m 0) =
-      λ e. let a : length (part s place n) ≡ n = rw (record-end, b) e in let c : length (part s place n) ≡ min n (length s - place) = simp (length-take, length-drop) in omega (arith, a, c) in
+      λ e. let a : length (take (d + groups) rest) ≡ d + groups = rw (record-end, b) e in let c : length (take (d + groups) rest) ≡ min (d + groups) (length rest) = length-take _ _ in omega (arith, a, c, u) in
       all-not (formed_at first ds s) m count h (rw (ne_eqb _ _ z))
 
-  record_is : part s place (place + n - place) ≡ part s (bytes_before first ds m) (record_length (rule_for first) (get_or ds m 0))
-  record_is = let v : place + n - place ≡ n = add-sub_cancel_left place n in rw (v, record-end, b)
-
-  module _ (r : Bool) (o : r ≡ record_ok (rule_for first) d (part s place (place + n - place))) where
+  module _ (r : Bool) (o : r ≡ record_ok (rule_for first) d (take (d + groups) rest)) where
     formed-is : r ≡ formed_at first ds s m
-    formed-is = o ∙ rw (record_is, i)
+    formed-is = o ∙ rw (record-end, b, i)
 
     pub form_more : r ≡ true → all_to (formed_at first ds s) m ≡ true → all_to (formed_at first ds s) (m + 1) ≡ true
     form_more t k = rw (add-one m, k) (sym formed-is ∙ t)
 
-    pub form_fails : r ≡ false → all_to (formed_at first ds s) count ≡ false
-    form_fails t = all-not (formed_at first ds s) m count h (sym formed-is ∙ t)
+    pub form_fails : r ≡ false → (count : ℕ) → m < count → all_to (formed_at first ds s) count ≡ false
+    form_fails t count h = all-not (formed_at first ds s) m count h (sym formed-is ∙ t)

@@ -78,7 +78,7 @@ pub fn validate_room(needed: Lengths, lent: Lengths) -> Result<(), Refusal>
     Ok(())
 }
 
-// "Decode: code, 12, 13, 2, 3, 4.", 19: what comes after the code.
+// "Decode: code, 12, 13, 2, 3, 4.", 19: what comes after the code. Slices as the public calls have them, since what is tested is what they lend.
 #[tactic(auto, using(crate::proofs::Frames::decode_refused, crate::proofs::Frames::decode_room))]
 pub fn validate_decode(
     numbers: Numbers,

@@ -17,23 +17,21 @@ pub fn costs_ok(costs: &[u16], q: usize, n: usize) -> bool
 }
 
 // Whether the records of the checks are of accepted form; one that the store does not hold whole is not.
-#[tactic(auto, using(crate::proofs::Resuming::groups_small, crate::proofs::Resuming::bytes_none, crate::proofs::Resuming::place_more, crate::proofs::Resuming::form_short, crate::proofs::Resuming::form_more, crate::proofs::Resuming::form_fails))]
+#[tactic(auto, using(crate::proofs::Resuming::groups_small, crate::proofs::Resuming::rest_all, crate::proofs::Resuming::rest_more, crate::proofs::Resuming::form_short, crate::proofs::Resuming::form_more, crate::proofs::Resuming::form_fails))]
 fn store_ok(first: u8, degrees: &[u8], store: &[u8]) -> bool
     ensures { result ≡ all_to (formed_at first degrees.now store.now) (length degrees.now) }
 {
     let groups = rules::groups(first);
-    let mut place = 0;
+    let mut rest = store;
     for &degree in degrees {
         let d = usize::from(degree);
-        let n = d + groups;
-        if store.len() - place < n {
+        let Some((record, behind)) = rest.split_at_checked(d + groups) else {
+            return false;
+        };
+        if !form::record_ok(first, record, d) {
             return false;
         }
-        let end = place + n;
-        if !form::record_ok(first, &store[place..end], d) {
-            return false;
-        }
-        place = end;
+        rest = behind;
     }
     true
 }
