@@ -2,62 +2,39 @@
 // each; the file stdout beside src/ holds what is expected.
 #![tactic(auto)]
 
-use field::{Element, Written};
+use refusal::Refusal;
 use std::io;
 
-fn digit(n: u8) -> u8 {
-    let k = n % 16;
-    if k < 10 { b'0' + k } else { b'A' + (k - 10) }
-}
-
-fn print_byte(rt: &impl Print, b: u8) -> io::Result<()> {
-    let digits = [digit(b / 16), digit(b)];
-    rt.write_all(&digits)
-}
-
-fn print_bytes(rt: &impl Print, s: &[u8]) -> io::Result<()> {
-    for b in s {
-        print_byte(rt, *b)?;
-    }
-    Ok(())
-}
-
-fn end_line(rt: &impl Print) -> io::Result<()> {
-    rt.write_all(b"\n")
+fn print_refusal(rt: &impl Print, refusal: Refusal) -> io::Result<()> {
+    let number = u8::from(refusal);
+    println!(rt; "refused {number}")
 }
 
 fn product_case(rt: &impl Print, p: u8, a: u8, b: u8) -> io::Result<()> {
     match field::product(p, a, b) {
-        Element::Is(x) => {
-            rt.write_all(b"product ")?;
-            print_byte(rt, x)?;
-        }
-        Element::Refused(k) => print!(rt; "refused {k}")?,
+        Ok(x) => println!(rt; "product {x:02X}"),
+        Err(refusal) => print_refusal(rt, refusal),
     }
-    end_line(rt)
 }
 
 // What a check writes, or its refusal.
 fn record_case(rt: &impl Print, first: u8, weights: &[u8], costs: &[u8]) -> io::Result<()> {
     let mut record = [0u8; 473];
-    print_record(
-        rt,
-        checknode::check(first, weights, costs, &mut record),
-        &record,
-    )
+    let answer = checknode::check(first, weights, costs, &mut record);
+    print_record(rt, answer, &record)
 }
 
-fn print_record(rt: &impl Print, answer: Written, record: &[u8]) -> io::Result<()> {
+fn print_record(rt: &impl Print, answer: Result<usize, Refusal>, record: &[u8]) -> io::Result<()> {
     match answer {
-        Written::Bytes(n) => {
-            rt.write_all(b"record ")?;
-            if n <= record.len() {
-                print_bytes(rt, &record[..n])?;
+        Ok(n) => {
+            print!(rt; "record ")?;
+            for b in &record[..n.min(record.len())] {
+                print!(rt; "{b:02X}")?;
             }
+            println!(rt)
         }
-        Written::Refused(k) => print!(rt; "refused {k}")?,
+        Err(refusal) => print_refusal(rt, refusal),
     }
-    end_line(rt)
 }
 
 // A check of d columns of cost 0, weights 1, and the expansion of its record (of no record where the check is refused): how many bytes each
@@ -66,28 +43,16 @@ fn degree_case(rt: &impl Print, weights: &[u8], costs: &[u8]) -> io::Result<()> 
     let mut record = [0u8; 473];
     let answer = checknode::check(2, weights, costs, &mut record);
     print_count(rt, answer)?;
-    expand_case(rt, answer, weights, &record)
-}
-
-fn expand_case(rt: &impl Print, answer: Written, weights: &[u8], record: &[u8]) -> io::Result<()> {
+    let n = answer.unwrap_or(0).min(record.len());
     let mut out = [0u8; 128];
-    match answer {
-        Written::Bytes(n) => {
-            if n <= record.len() {
-                print_count(rt, expansion::expand(2, weights, &record[..n], &mut out))?;
-            }
-        }
-        Written::Refused(_) => print_count(rt, expansion::expand(2, weights, b"", &mut out))?,
-    }
-    Ok(())
+    print_count(rt, expansion::expand(2, weights, &record[..n], &mut out))
 }
 
-fn print_count(rt: &impl Print, answer: Written) -> io::Result<()> {
+fn print_count(rt: &impl Print, answer: Result<usize, Refusal>) -> io::Result<()> {
     match answer {
-        Written::Bytes(n) => print!(rt; "bytes {n}")?,
-        Written::Refused(k) => print!(rt; "refused {k}")?,
+        Ok(n) => println!(rt; "bytes {n}"),
+        Err(refusal) => print_refusal(rt, refusal),
     }
-    end_line(rt)
 }
 
 fn product_cases(rt: &impl Print) -> io::Result<()> {
