@@ -1,5 +1,5 @@
 // "The line is read front to back, each field once": a reader holds the code line and a place in it, and each read moves it behind the field.
-// SPEC 4.2, 7.7.2.
+// SPEC 4.2, 4.6.
 ghost use Rattle.std.specs.Prelude.{◌≡◌, ◌+◌, ◌-◌, ◌<◌, ◌≤◌, length, get_or};
 ghost use Rattle.machine.specs.CodeLine.{word_at};
 
