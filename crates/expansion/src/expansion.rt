@@ -55,32 +55,6 @@ fn pair(c: u8x16, s: u8x16, n: u8, v: u8x16) -> u8x16
     c.simd_eq(u8x16::splat(n)).select(s, v)
 }
 
-// "the S beside n if a's pairs list n, else E(a)", for sixteen rows from row at on. The first pair that lists n has the last word.
-fn rows_from(t: &[u8], q: usize, k: usize, n: u8, at: usize) -> u8x16
-    requires { (k ≤ 3) × ((q ≤ most_size) × (2 * k * q + (at + 16) ≤ length t.now)) }
-    ensures { result ≡ tab (λ a. value_in k t.now q n (at + a)) 16 }
-{
-    let mut v = u8x16::from_slice(&t[at..]);
-    for j in (0..k).rev() {
-        let c = (1 + 2 * j) * q + at;
-        let s = c + q;
-        v = pair(u8x16::from_slice(&t[c..]), u8x16::from_slice(&t[s..]), n, v);
-    }
-    v
-}
-
-// The values of one column, row by row, sixteen rows at a time: with fewer than sixteen the rest is read and not used.
-fn values(t: &[u8], q: usize, k: usize, n: u8, v: &mut [u8])
-    requires lists_room { ListsRoom k q t.now }
-    requires v_len { length v.old ≡ most_size }
-    ensures { take q v.new ≡ tab (value_in k t.now q n) q }
-{
-    for b in 0..q.div_ceil(16) {
-        let at = b * 16;
-        rows_from(t, q, k, n, at).copy_to_slice(&mut v[at..]);
-    }
-}
-
 // One column by symbols, in place: symbol x has its product, and gets the value of its row, that product moved by the shift.
 fn by_symbol(v: &[u8], s: u8, out: &mut [u8])
     requires shift_room { ShiftRoom out.old s }
@@ -92,37 +66,62 @@ fn by_symbol(v: &[u8], s: u8, out: &mut [u8])
     }
 }
 
-// One column, by symbols, in room of the caller's for its values.
-fn column_in(t: &[u8], q: usize, k: usize, n: u8, s: u8, v: &mut [u8], out: &mut [u8])
-    requires lists_room { ListsRoom k q t.now }
-    requires shift_room { ShiftRoom out.old s }
-    requires v_len { (length v.old ≡ most_size) × (length out.old ≡ q) }
-    ensures { out.new ≡ tab (by_symbol (tab (value_in k t.now q n) q) out.old s) q }
-{
-    values(t, q, k, n, v);
-    by_symbol(&v[..q], s, out);
+// Lists over q rows for k pairs a group, end to end. As many rows of each can be read as the largest field has.
+#[derive(Clone, Copy)]
+struct Lists<'a> {
+    bytes: &'a [u8],
+    q: usize,
+    k: usize,
+    ghost room: { ListsRoom k q bytes.now },
 }
 
-// The room is an array of the column's own: the compiler then knows that it is apart from the lists.
-fn column(t: &[u8], q: usize, k: usize, n: u8, s: u8, out: &mut [u8])
-    requires lists_room { ListsRoom k q t.now }
-    requires shift_room { ShiftRoom out.old s }
-    requires out_len { length out.old ≡ q }
-    ensures { out.new ≡ tab (by_symbol (tab (value_in k t.now q n) q) out.old s) q }
-{
-    let mut v = [0u8; sizes::MOST_SIZE];
-    column_in(t, q, k, n, s, &mut v, out);
-}
+impl Lists<'_> {
+    // "the S beside n if a's pairs list n, else E(a)", for sixteen rows from row at on. The first pair that lists n has the last word.
+    fn rows_from(&self, n: u8, at: usize) -> u8x16
+        requires { at + 16 ≤ most_size }
+        ensures { result ≡ tab (λ a. value_in self.now.k self.now.bytes.now self.now.q n (at + a)) 16 }
+    {
+        let t = self.bytes;
+        let mut v = u8x16::from_slice(&t[at..]);
+        for j in (0..self.k).rev() {
+            let c = (1 + 2 * j) * self.q + at;
+            let s = c + self.q;
+            v = pair(u8x16::from_slice(&t[c..]), u8x16::from_slice(&t[s..]), n, v);
+        }
+        v
+    }
 
-// All d columns, from the lists, in place of their products.
-fn columns(d: usize, q: usize, k: usize, r: &[u8], t: &[u8], out: &mut [u8])
-    requires lists_room { ListsRoom k q t.now }
-    requires turn_room { TurnRoom d q r.now out.old }
-    ensures { out.new ≡ blocks (turned k t.now q r.now out.old) d }
-{
-    for (n, &s) in r[..d].iter().enumerate() {
-        let at = n * q;
-        column(t, q, k, n as u8, s, &mut out[at..at + q]);
+    // The values of one column, row by row, sixteen rows at a time: with fewer than sixteen the rest is read and not used.
+    fn values(&self, n: u8, v: &mut [u8])
+        requires { length v.old ≡ most_size }
+        ensures { take self.now.q v.new ≡ tab (value_in self.now.k self.now.bytes.now self.now.q n) self.now.q }
+    {
+        for b in 0..self.q.div_ceil(16) {
+            let at = b * 16;
+            self.rows_from(n, at).copy_to_slice(&mut v[at..]);
+        }
+    }
+
+    // One column, by symbols. The room for its values is an array of its own: the compiler then knows that it is apart from the lists.
+    fn column(&self, n: u8, s: u8, out: &mut [u8])
+        requires shift_room { ShiftRoom out.old s }
+        requires out_len { length out.old ≡ self.now.q }
+        ensures { out.new ≡ tab (by_symbol (tab (value_in self.now.k self.now.bytes.now self.now.q n) self.now.q) out.old s) self.now.q }
+    {
+        let mut v = [0u8; sizes::MOST_SIZE];
+        self.values(n, &mut v);
+        by_symbol(&v[..self.q], s, out);
+    }
+
+    // All d columns in place of their products.
+    fn columns(&self, d: usize, r: &[u8], out: &mut [u8])
+        requires { TurnRoom d self.now.q r.now out.old }
+        ensures { out.new ≡ blocks (turned self.now.k self.now.bytes.now self.now.q r.now out.old) d }
+    {
+        for (n, &s) in r[..d].iter().enumerate() {
+            let at = n * self.q;
+            self.column(n as u8, s, &mut out[at..at + self.q]);
+        }
     }
 }
 
@@ -136,7 +135,7 @@ fn in_room(d: usize, q: usize, k: usize, r: &[u8], t: &mut [u8], out: &mut [u8])
 {
     let m = (1 + 2 * k) * q;
     unpack(r, d, q, k, &mut t[..m]);
-    columns(d, q, k, r, t, out);
+    Lists { bytes: t, q, k }.columns(d, r, out);
 }
 
 // The expansion, with the room that it takes: a group has at most three pairs. The products go straight into out, and each column is then

@@ -1,47 +1,15 @@
 -- The lists stand at the front of their room; what follows them is read and not used.
 use mathlib.Core.Path.{◌≡◌, ◌∙◌}
-use mathlib.Core.List.{◌++◌}
 use Prim.Native.Nat.{ℕ, ◌+◌, ◌*◌}
 use native.Mathlib.Omega.{arith}
-use lib.ListN.{length, take, drop, length-append, length-take, length-drop}
+use lib.ListN.{length, take, drop, length-take}
 use lib.Seq.{take_at}
-use Rattle.expansion.proofs.Transposing.{lists_room, listed}
+use Rattle.expansion.proofs.Transposing.{lists_room}
 use Rattle.expansion.proofs.expansion.in_room.Goals as goal
-
-pub overflow_mul-m : goal.overflow_mul-m
-overflow_mul-m c =
-    omega (arith, c.requires.k_bound.0)
-
-pub overflow_add-m : goal.overflow_add-m
-overflow_add-m c =
-    omega (arith, c.requires.k_bound.0)
-
-pub overflow_mul-m-2 : goal.overflow_mul-m-2
-overflow_mul-m-2 c =
-    omega (arith, lists_room c.args.k c.args.q c.args.t.now c.requires.k_bound.1.0.1 c.requires.most_size_in_bounds)
-
-pub slice_bounds-unpack-end : goal.slice_bounds-unpack-end
-slice_bounds-unpack-end c =
-    omega (arith, lists_room c.args.k c.args.q c.args.t.now c.requires.k_bound.1.0.1 c.requires.most_size_in_bounds)
-
-pub slice_bounds-unpack-end-2 : goal.slice_bounds-unpack-end-2
-slice_bounds-unpack-end-2 c =
-    simp length-take (omega (arith, lists_room c.args.k c.args.q c.args.t.now c.requires.k_bound.1.0.1 c.requires.most_size_in_bounds))
 
 pub unpack-requires : goal.unpack-requires
 unpack-requires c =
     record { pairs = c.requires.k_bound.0; some = c.requires.k_bound.1.0.0; most = c.requires.k_bound.1.0.1; few = c.requires.turn_room.few; long = c.requires.k_bound.1.1; room = simp length-take (omega (arith, lists_room c.args.k c.args.q c.args.t.now c.requires.k_bound.1.0.1 c.requires.most_size_in_bounds)) }
-
-pub columns-requires : goal.columns-requires
-columns-requires c =
-    let m : ℕ = (1 + 2 * c.args.k) * c.args.q in
-    let u = c.unpack.new.out in
-    let l : length (take m c.args.t.now) ≡ m = simp length-take (omega (arith, lists_room c.args.k c.args.q c.args.t.now c.requires.k_bound.1.0.1 c.requires.most_size_in_bounds)) in
-    let o : length u ≡ m = c.unpack.auto.out ∙ l in
-    record {
-      lists_room = listed c.args.k c.args.q c.args.t.now c.requires.k_bound.1.0.1 c.requires.most_size_in_bounds c.requires.k_bound.0 (u ++ drop m c.args.t.now) (simp (length-append, length-drop) (omega (arith, o, lists_room c.args.k c.args.q c.args.t.now c.requires.k_bound.1.0.1 c.requires.most_size_in_bounds)));
-      turn_room = c.requires.turn_room;
-    }
 
 pub returns : goal.returns
 returns c =

@@ -2,7 +2,7 @@
 use mathlib.Core.Path.{◌≡◌}
 use Rattle.trellis.specs.Lists.{tab}
 use Rattle.expansion.proofs.Transposing.{said_from}
-use Rattle.expansion.proofs.expansion.rows_from.Given as goal
+use Rattle.expansion.proofs.expansion.Lists.rows_from.Given as goal
 
 abbrev pub invariant-loop-j : goal.invariant-loop-j
-invariant-loop-j l = l.v ≡ tab (said_from l.t l.q l.k l.n l.at 16 l.j) 16
+invariant-loop-j l = l.v ≡ tab (said_from l.self.bytes.now l.self.q l.self.k l.n l.at 16 l.j) 16
