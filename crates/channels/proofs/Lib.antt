@@ -16,6 +16,7 @@ pub mod Quiet
 pub mod Ends
 pub mod Layouts
 pub mod Moves
+pub mod Each
 pub mod Given
 pub mod Serves
 pub mod Examples

@@ -7,18 +7,18 @@ use native.Mathlib.Nat.{not-suc-le-zero}
 use native.Mathlib.Decide.{ℕ_discrete}
 use native.Mathlib.Omega.{arith}
 use lib.Dec.{eqb}
-use lib.ListN.{length, set, length-set, length-append, length-drop}
+use lib.ListN.{length, length-set, length-append, length-drop}
 use lib.Seq.{get_or-set_same, get_or-set_other, drop-set-lt}
 use Rattle.trellis.specs.Lists.{pick, upto}
 use Rattle.machine.specs.CodeLine.{Code, size, frame_fault}
-use Rattle.machine.specs.Machine.{settled, used}
-use Rattle.machine.specs.Decoding.{Buffers, lending, holding}
+use Rattle.machine.specs.Machine.{settled}
+use Rattle.machine.specs.Decoding.{Buffers, holding}
 use Rattle.machine.specs.Moments.{Moment, moment}
 use Rattle.machine.proofs.Buffers.{length_symbols, length-margins}
 use Rattle.channels.specs.Channels.{frame_of, own_of}
-use Rattle.channels.specs.inner.Rounds.{opened, load_at, patch_at, status_of, Standing, standing, status_at, loaded_at, loaded_to, Rooms}
+use Rattle.channels.specs.inner.Rounds.{opened, load_at, status_of, Standing, status_at, loaded_at, loaded_to, Rooms}
 use Rattle.channels.proofs.Parts.{length_part, Exact, own_exact}
-use Rattle.channels.proofs.Patches.{patch-same, patch-room, patch_own, patch-other, patch_beyond}
+use Rattle.channels.proofs.Patches.{patch-room, patch_own, patch-other, patch_beyond}
 use Rattle.channels.proofs.Stands.{Untouched}
 
 -- a load keeps the lengths of a channel's parts
@@ -103,26 +103,21 @@ module _ (C : Code) (fs : List ℕ) (n : ℕ) (l₀ : Standing) (W : Rooms C n l
   unfolding loaded_to
   loaded = loads n (omega arith)
 
--- a load sees no store, no counts and no allowance: with these beside it leaves the same
-abbrev pub standing_with : List ℕ → List ℕ → ℕ → Standing → Standing
-standing_with s t a l = standing l.status t a (lending l.buffers.symbols l.buffers.costs s l.buffers.margins)
-
--- where the test of channel c's frame decides
-abbrev leave : Code → List ℕ → ℕ → Bool → Standing → Standing
-leave C f c i l =
-    let own : Buffers = own_of C l.buffers c in
-    let m : Moment = pick i (moment (pick (settled C f) 2 1) 0 0 (holding C f own.store own)) (moment 4 (frame_fault C f) 0 own) in
-    standing (set l.status c (status_of m.stage)) l.counts l.left (patch_at C c l.buffers m.buffers)
-
-load-beside : (C : Code) (fs : List ℕ) (c : ℕ) (s t : List ℕ) (a : ℕ) (l : Standing) → loaded_at C fs c (standing_with s t a l) ≡ standing_with s t a (loaded_at C fs c l)
+-- a load keeps the room
+pub loaded_rooms : (C : Code) (fs : List ℕ) (n : ℕ) (l : Standing) → Rooms C n l → length fs ≡ n * (C.columns * size C) → (c : ℕ) → c < n → Rooms C n (loaded_at C fs c l)
 unfolding loaded_at load_at
-load-beside C fs c s t a l = go (eqb (frame_fault C (frame_of C fs c)) 0)
-  where
-    go : (i : Bool) → leave C (frame_of C fs c) c i (standing_with s t a l) ≡ standing_with s t a (leave C (frame_of C fs c) c i l)
-    go true = rw (patch-same s (c * used C) (used C)) refl
-    go false = rw (patch-same s (c * used C) (used C)) refl
+loaded_rooms C fs n l W long c h =
+    let own : Buffers = own_of C l.buffers c in
+    let f : List ℕ = frame_of C fs c in
+    let E : Exact C (opened C f own).buffers = opened_exact C f own (length_part fs n (C.columns * size C) c (omega arith) h) (own_exact C n l.buffers W.room c h) in
+    record {
+      for_status = rw (length-set l.status c (status_of (opened C f own).stage)) W.for_status;
+      for_counts = W.for_counts;
+      room = patch-room C n l.buffers (opened C f own).buffers W.room E c h;
+    }
 
-pub loads_beside : (C : Code) (fs : List ℕ) (s t : List ℕ) (a : ℕ) (l : Standing) (n : ℕ) → loaded_to C fs n (standing_with s t a l) ≡ standing_with s t a (loaded_to C fs n l)
-unfolding loaded_to
-loads_beside C fs s t a l zero = refl
-loads_beside C fs s t a l (suc n) = ap (loaded_at C fs n) (loads_beside C fs s t a l n) ∙ load-beside C fs n s t a (upto (loaded_at C fs) n l)
+-- and the loads keep what is left of the allowance
+pub loaded_left : (C : Code) (fs : List ℕ) (n : ℕ) (l : Standing) → (loaded_to C fs n l).left ≡ l.left
+unfolding loaded_to loaded_at
+loaded_left C fs zero l = refl
+loaded_left C fs (suc n) l = loaded_left C fs n l

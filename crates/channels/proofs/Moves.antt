@@ -13,19 +13,19 @@ use Rattle.machine.specs.Decoding.{Buffers}
 use Rattle.machine.proofs.Ranges.{column-room}
 use Rattle.channels.specs.declared.layout.Layout.{Layout}
 use Rattle.channels.specs.inner.Rounds.{Standing, standing, status_at, count_at, step_at, load_at, loaded_at, loaded_to, moved_at, serving_at, round_at, RoomFor}
-use Rattle.channels.specs.inner.Layouts.{code_for, Fitted, Puts, LoadsRoom, LoadRoom, PartRoom, NextRoom, RoundRoom}
+use Rattle.channels.specs.inner.Layouts.{code_for, Puts, LoadsRoom, LoadRoom, PartRoom, NextRoom, RoundRoom}
 use Rattle.channels.proofs.Serves.{serving-serves, round_serves}
 use Rattle.channels.proofs.Quiet.{less_law}
 
 -- room for n channels is room for each of them
-pub one-room : (z : Layout) (ds cs ws : List ℕ) → Fitted z ds cs ws → (n : ℕ) (b : Buffers) → RoomFor (code_for z ds cs ws) n b → (c : ℕ) → c < n → PartRoom z c b
-one-room z ds cs ws H n b W c h =
-    let C : Code = code_for z ds cs ws in
+pub one_room : (z : Layout) → (n : ℕ) (b : Buffers) → RoomFor (code_for z) n b → (c : ℕ) → c < n → PartRoom z c b
+one_room z n b W c h =
+    let C : Code = code_for z in
     record {
-      for_symbols = rw H.columns_is (omega (arith, W.for_symbols, column-room c n C.columns h));
-      for_costs = rw H.costs_is (omega (arith, W.for_costs, column-room c n (C.columns * size C) h));
-      for_store = rw H.store_is (omega (arith, W.for_store, column-room c n (used C) h));
-      for_margins = rw H.columns_is (omega (arith, W.for_margins, column-room c n C.columns h));
+      for_symbols = rw z.columns_is (omega (arith, W.for_symbols, column-room c n C.columns h));
+      for_costs = rw z.costs_is (omega (arith, W.for_costs, column-room c n (C.columns * size C) h));
+      for_store = rw z.store_is (omega (arith, W.for_store, column-room c n (used C) h));
+      for_margins = rw z.columns_is (omega (arith, W.for_margins, column-room c n C.columns h));
     }
 
 module _ (C : Code) (c : ℕ) (l : Standing) where
@@ -34,9 +34,9 @@ module _ (C : Code) (c : ℕ) (l : Standing) where
   unfolding serving_at
   serve_skips h = rw (ne_eqb (status_at l c) 20 h)
 
-  pub serve-spent : status_at l c ≡ 20 → l.left ≡ 0 → l ≡ serving_at C c l
+  pub serve_spent : status_at l c ≡ 20 → l.left ≡ 0 → l ≡ serving_at C c l
   unfolding serving_at
-  serve-spent h e = rw (eq-eqb (status_at l c) 20 h, eq-eqb l.left 0 e)
+  serve_spent h e = rw (eq-eqb (status_at l c) 20 h, eq-eqb l.left 0 e)
 
   -- or moved
   pub serve_moves : status_at l c ≡ 20 → (l.left ≡ 0 → ⊥) → (r : ℕ) (b' : Buffers) → Puts C c l.buffers (step_at C c (count_at l c) l.buffers) r b'
@@ -51,51 +51,50 @@ module _ (C : Code) (c : ℕ) (l : Standing) where
   load_moves fs r b' P = rw (P.status_is, P.buffers_are)
 
 -- a load is lent its part of each buffer
-pub load-room : (n : ℕ) (z : Layout) (ds cs ws fs y p v st : List ℕ) → LoadsRoom n z ds cs ws fs y p v st → (c : ℕ) → c < n → (y' p' v' : List ℕ)
-    → length y' ≡ length y → length p' ≡ length p → length v' ≡ length v → LoadRoom c z ds cs ws fs y' p' v'
-load-room n z ds cs ws fs y p v st R c h y' p' v' i j k =
+pub load_room : (n : ℕ) (z : Layout) (fs : List ℕ) (l : Standing) → LoadsRoom n z fs l → (c : ℕ) → c < n
+    → LoadRoom c z fs l.buffers.symbols l.buffers.costs l.buffers.margins
+load_room n z fs l R c h =
+    let P : PartRoom z c l.buffers = one_room z n l.buffers R.rooms.room c h in
     record {
-      fitted = R.fitted;
-      frames = omega (arith, R.frames, column-room c n z.costs h);
-      symbols = omega (arith, R.symbols, column-room c n z.columns h);
-      costs = omega (arith, R.costs, column-room c n z.costs h);
-      margins = omega (arith, R.margins, column-room c n z.columns h);
+      frames = rw z.costs_is (omega (arith, R.frames, column-room c n ((code_for z).columns * size (code_for z)) h));
+      symbols = P.for_symbols;
+      costs = P.for_costs;
+      margins = P.for_margins;
     }
 
 -- what an iteration of a running channel asks
-module _ (n : ℕ) (z : Layout) (ds cs ws : List ℕ) (l : Standing) (A S : List ℕ) (R : RoundRoom n z ds cs ws l A S) (c : ℕ) (h : c < n) (e : status_at l c ≡ 20) where
-  pub step_room : NextRoom c (count_at l c) z ds cs ws l.buffers A S
+module _ (n : ℕ) (z : Layout) (l : Standing) (A S : List ℕ) (R : RoundRoom n z l A S) (c : ℕ) (h : c < n) (e : status_at l c ≡ 20) where
+  pub step_room : NextRoom c (count_at l c) z l.buffers A S
   step_room =
       record {
-        fitted = R.serve.fitted;
-        room = one-room z ds cs ws R.serve.fitted n l.buffers R.serve.serves.rooms.room c h;
-        passable = R.serve.serves.passable c h e;
+        room = one_room z n l.buffers R.serves.rooms.room c h;
+        passable = R.serves.passable c h e;
         arrived = R.arrived;
         sent = R.sent;
       }
 
   -- its count has room for one more
-  pub count_low : count_at l c + 1 ≤ z.numbers.limit
-  count_low = omega (arith, R.serve.serves.below c h e)
+  pub count_low : count_at l c + 1 ≤ z.code.numbers.limit
+  count_low = omega (arith, R.serves.below c h e)
 
 -- after a serving there is room for the next one
-pub serve-next : (n : ℕ) (z : Layout) (ds cs ws : List ℕ) (l : Standing) (A S : List ℕ) → RoundRoom n z ds cs ws l A S → (c : ℕ) → c < n
-    → (l' : Standing) (A' S' : List ℕ) → l' ≡ serving_at (code_for z ds cs ws) c l → length A' ≡ length A → length S' ≡ length S
-    → RoundRoom n z ds cs ws l' A' S'
-serve-next n z ds cs ws l A S R c h l' A' S' e i j =
+pub serve_next : (n : ℕ) (z : Layout) (l : Standing) (A S : List ℕ) → RoundRoom n z l A S → (c : ℕ) → c < n
+    → (l' : Standing) (A' S' : List ℕ) → l' ≡ serving_at (code_for z) c l → length A' ≡ length A → length S' ≡ length S
+    → RoundRoom n z l' A' S'
+serve_next n z l A S R c h l' A' S' e i j =
     record {
-      serve = record { fitted = R.serve.fitted; serves = rw e (serving-serves (code_for z ds cs ws) R.serve.fitted.coded.good n l R.serve.serves c h) };
+      serves = rw e (serving-serves (code_for z) z.code.coded.good n l R.serves c h);
       arrived = omega (arith, R.arrived);
       sent = omega (arith, R.sent);
     }
 
 -- and after a round
-pub round_next : (n : ℕ) (z : Layout) (ds cs ws : List ℕ) (l : Standing) (A S : List ℕ) → RoundRoom n z ds cs ws l A S
-    → (l' : Standing) (A' S' : List ℕ) → l' ≡ round_at (code_for z ds cs ws) n l → length A' ≡ length A → length S' ≡ length S
-    → RoundRoom n z ds cs ws l' A' S'
-round_next n z ds cs ws l A S R l' A' S' e i j =
+pub round_next : (n : ℕ) (z : Layout) (l : Standing) (A S : List ℕ) → RoundRoom n z l A S
+    → (l' : Standing) (A' S' : List ℕ) → l' ≡ round_at (code_for z) n l → length A' ≡ length A → length S' ≡ length S
+    → RoundRoom n z l' A' S'
+round_next n z l A S R l' A' S' e i j =
     record {
-      serve = record { fitted = R.serve.fitted; serves = rw e (round_serves (code_for z ds cs ws) R.serve.fitted.coded.good n l R.serve.serves) };
+      serves = rw e (round_serves (code_for z) z.code.coded.good n l R.serves);
       arrived = omega (arith, R.arrived);
       sent = omega (arith, R.sent);
     }

@@ -86,3 +86,8 @@ module _ (C : Code) (n : ℕ) where
 
     pub less_law : (l'.left ≡ l.left → ⊥) → l'.left < l.left
     less_law e = ⊎_elim (λ s. absurd (e (left_is ∙ ap (λ (x : Standing). x.left) s))) (λ s. omega (arith, left_is)) (round_left l)
+
+-- rounds leave no more than there was
+pub rounds_left : (C : Code) (n k : ℕ) (l : Standing) → (rounds_at C n k l).left ≤ l.left
+rounds_left C n zero l = omega arith
+rounds_left C n (suc k) l = ⊎_elim (λ o. rw o (rounds_left C n k l)) (λ o. omega (arith, rounds_left C n k l)) (round_left C n (rounds_at C n k l))

@@ -1,26 +1,33 @@
-// How one channel's parts of the buffers lie: their lengths, with the numbers of the code line.
-ghost use Rattle.channels.specs.inner.Layouts.{LaidOut};
+// How one channel's parts of the buffers lie: their lengths, under a code.
+ghost use Rattle.std.specs.Prelude.{◌≡◌, ◌≤◌, ◌*◌};
+ghost use Rattle.machine.specs.CodeLine.{size};
+ghost use Rattle.machine.specs.Machine.{used};
+ghost use Rattle.codeline.specs.Codes.{code_in};
 
-use codeline::answers::Numbers;
+use codeline::code::Code;
 
-// The numbers of the code line, and the lengths of a channel's parts: N, N times q, and the M record lengths added up.
+// A code, and the lengths of a channel's parts under it: N, N times q, and the M record lengths added up.
 #[derive(Clone, Copy)]
-pub struct Layout {
-    pub numbers: Numbers,
+pub struct Layout<'a> {
+    pub code: Code<'a>,
     pub columns: usize,
     pub costs: usize,
     pub store: usize,
+    ghost columns_is: { columns ≡ (code_in code).columns },
+    ghost costs_is: { costs ≡ (code_in code).columns * size (code_in code) },
+    ghost store_is: { store ≡ used (code_in code) },
+    ghost limit_is_byte: { code.numbers.limit ≤ 255 },
 }
 
 // The lengths of one channel's parts.
-pub fn layout_of(numbers: Numbers, degrees: &[u8]) -> Layout
-    ensures { LaidOut numbers degrees.now result }
+pub fn layout_of<'a>(code: &Code<'a>) -> Layout<'a>
+    ensures { result.code ≡ code.now }
 {
-    let n = scalar::u16_to_usize(numbers.columns);
-    let q = rules::size(numbers.first);
-    let store = frame::used(numbers, degrees);
+    let n = usize::from(code.numbers.columns);
+    let q = rules::size(code.numbers.first);
+    let store = frame::used(code.numbers, code.degrees);
     Layout {
-        numbers,
+        code: *code,
         columns: n,
         costs: n * q,
         store,

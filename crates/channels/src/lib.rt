@@ -5,6 +5,7 @@ pub mod answers;
 mod channel;
 mod layout;
 mod service;
+mod standing;
 mod whole;
 
 ghost use Rattle.machine.specs.Decoding.{lending};
@@ -12,7 +13,6 @@ ghost use Rattle.channels.specs.Channels.{channels};
 ghost use Rattle.channels.specs.Answers.{Gives};
 
 use crate::answers::Served;
-use scalar::sizes;
 
 // Decodes `count` frames, which stand end to end in `frames`; what channel c receives stands in the c-th part of each buffer. The
 // channels are served by number in turn, one iteration each, until every one is finished or the allowance is spent. A channel's status is
@@ -32,20 +32,11 @@ pub fn decode_channels(
         (lending symbols.old costs.old store.old margins.old)) result.number result.spent
         result.status result.iterations (lending symbols.new costs.new store.new margins.new) }
 {
-    let mut degrees = [0u8; sizes::MOST_CHECKS];
-    let mut columns = [0u16; sizes::MOST_EDGES];
-    let mut weights = [0u8; sizes::MOST_EDGES];
-    whole::decode_in(
-        count,
-        allowance,
-        code,
-        frames,
-        symbols,
-        costs,
-        store,
-        margins,
-        &mut degrees,
-        &mut columns,
-        &mut weights,
-    )
+    let served = whole::decode(
+        count, allowance, code, frames, symbols, costs, store, margins,
+    );
+    match served {
+        Ok(served) => served,
+        Err(refusal) => whole::refused(refusal),
+    }
 }

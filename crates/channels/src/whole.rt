@@ -1,144 +1,157 @@
 // The whole call: its refusals, the code line read once, and the service.
-ghost use Rattle.std.specs.Prelude.{◌≡◌};
+ghost use Rattle.std.specs.Prelude.{◌≡◌, ◌≤◌, ◌-◌, Err};
+ghost use Rattle.trellis.specs.Sizes.{most_channels};
+ghost use Rattle.refusal.specs.Replies.{fault_of};
 ghost use Rattle.machine.specs.CodeLine.{good};
-ghost use Rattle.machine.specs.Decoding.{Buffers, lending};
-ghost use Rattle.channels.specs.Channels.{refusing, under, channels};
-ghost use Rattle.channels.specs.Answers.{Gives};
-ghost use Rattle.channels.specs.inner.Layouts.{code_for, count_fault, fault_for, FaultRoom, UnderRoom};
+ghost use Rattle.machine.specs.Decoding.{lending};
+ghost use Rattle.channels.specs.Channels.{under, channels};
+ghost use Rattle.channels.specs.inner.Standing.{standing_of, SameLoans};
+ghost use Rattle.channels.specs.inner.Served.{served_by, GivesBy};
+ghost use Rattle.channels.specs.inner.Layouts.{code_for, count_fault, fault_for, run_at, RunRoom};
 
 use crate::answers::Served;
-use crate::layout::Layout;
-use crate::{layout, service};
-use codeline::answers::Header;
+use crate::layout::{self, Layout};
+use crate::standing::{Channel, Channels, Status};
+use codeline::code::Code;
+use frame::Lengths;
+use refusal::Refusal;
 use scalar::sizes;
 
 // A refusal of the whole call.
-fn refused(k: u8) -> Served
-    ensures { (b : Buffers) → Gives (refusing k b) result.number result.spent result.status result.iterations b }
+pub fn refused(refusal: Refusal) -> Served
+    ensures { result ≡ served_by (Err refusal) }
 {
     Served {
-        number: k,
+        number: u8::from(refusal),
         spent: 0,
-        status: [0u8; sizes::MOST_CHANNELS],
-        iterations: [0u8; sizes::MOST_CHANNELS],
+        status: [0; sizes::MOST_CHANNELS],
+        iterations: [0; sizes::MOST_CHANNELS],
     }
 }
 
-// "21, channel count not 1 to 8, before all; 22, A is 0, after 21"; 0 for neither.
-fn count_fault(count: u8, allowance: u32) -> u8
-    ensures { result ≡ count_fault count allowance }
+// "21, channel count not 1 to 8, before all; 22, A is 0, after 21".
+#[tactic(auto, unfolding(crate::specs::inner::Layouts::count_fault))]
+fn validate_count(count: u8, allowance: u32) -> Result<(), Refusal>
+    ensures { fault_of result ≡ count_fault count allowance }
 {
-    if count < 1 {
-        return 21;
-    }
-    if 8 < count {
-        return 21;
+    if !(1..=8).contains(&count) {
+        return Err(Refusal::ChannelCount);
     }
     if allowance == 0 {
-        return 22;
+        return Err(Refusal::Allowance);
     }
-    0
+    Ok(())
 }
 
-// 12, 2, 3, 4 and 19 for the whole call, "each length being the count times one channel's"; 0 for none.
-fn fault(
+// 12, 2, 3, 4 and 19 for the whole call, "each length being the count times one channel's".
+#[tactic(auto, unfolding(crate::specs::inner::Layouts::fault_for, frame::specs::Answers::room_fault_of))]
+fn validate_lengths(
     count: usize,
-    layout: Layout,
+    layout: &Layout<'_>,
     frames: usize,
-    symbols: usize,
-    costs: usize,
-    store: usize,
-    margins: usize,
-) -> u8
-    requires { FaultRoom count layout }
-    ensures { result ≡ fault_for count layout frames symbols costs store margins }
+    lent: Lengths,
+) -> Result<(), Refusal>
+    requires { count ≤ most_channels }
+    ensures { fault_of result
+        ≡ fault_for count layout.now frames lent.symbols lent.costs lent.store lent.margins }
 {
-    let w = count * layout.costs;
-    if frames != w {
-        return 12;
+    let needed = Lengths {
+        symbols: count * layout.columns,
+        costs: count * layout.costs,
+        store: count * layout.store,
+        margins: count * layout.columns,
+    };
+    if frames != needed.costs {
+        return Err(Refusal::CostCount);
     }
-    frame::room_fault(
-        count * layout.columns,
-        w,
-        count * layout.store,
-        symbols,
-        costs,
-        store,
-        margins,
-    )
+    frame::validate_room(needed, lent)
+}
+
+impl Channels<'_> {
+    // What is answered where the channels stand, when so much is spent of the allowance.
+    fn served(&self, spent: u16) -> Served
+        ensures number { result.number ≡ 0 }
+        ensures spent { result.spent ≡ spent }
+        ensures status { result.status ≡ (standing_of self.now).status }
+        ensures iterations { result.iterations ≡ (standing_of self.now).counts }
+    {
+        let mut status = [0; sizes::MOST_CHANNELS];
+        let mut iterations = [0; sizes::MOST_CHANNELS];
+        for (i, channel) in self.each.iter().enumerate() {
+            status[i] = channel.status.number();
+            iterations[i] = channel.iterations;
+        }
+        Served {
+            number: 0,
+            spent,
+            status,
+            iterations,
+        }
+    }
+
+    // All channels are loaded, then served.
+    fn run(&mut self, count: usize, layout: &Layout<'_>, frames: &[u8]) -> Served
+        requires { RunRoom count layout.now frames.now (standing_of self.old) }
+        ensures loans { SameLoans self.old self.new }
+        ensures then { standing_of self.new
+            ≡ run_at (code_for layout.now) frames.now count (standing_of self.old) }
+        ensures number { result.number ≡ 0 }
+        ensures spent { result.spent ≡ self.old.left - self.new.left }
+        ensures status { result.status ≡ (standing_of self.new).status }
+        ensures iterations { result.iterations ≡ (standing_of self.new).counts }
+    {
+        let mut arrived = [0u8; sizes::MOST_EXPANSION];
+        let mut sent = [0u8; sizes::MOST_EXPANSION];
+        let allowance = self.left;
+        self.load(count, layout, frames);
+        self.rounds(count, layout, &mut arrived, &mut sent);
+        let spent = (allowance - self.left) as u16;
+        self.served(spent)
+    }
 }
 
 // Under a code that is read. Nothing is written before the last refusal of the whole call has been tested.
 fn under_code(
     count: usize,
     allowance: u32,
-    layout: Layout,
-    degrees: &[u8],
-    columns: &[u16],
-    weights: &[u8],
+    layout: &Layout<'_>,
     frames: &[u8],
     symbols: &mut [u8],
     costs: &mut [u16],
     store: &mut [u8],
     margins: &mut [u16],
-) -> Served
-    requires { UnderRoom count layout degrees.now columns.now weights.now }
-    ensures { Gives
-        (under (good (code_for layout degrees.now columns.now weights.now)) count allowance
-        frames.now (lending symbols.old costs.old store.old margins.old))
-        result.number result.spent result.status result.iterations
+) -> Result<Served, Refusal>
+    requires low { 1 ≤ count }
+    requires high { count ≤ most_channels }
+    ensures { GivesBy
+        (under (good (code_for layout.now)) count allowance
+        frames.now (lending symbols.old costs.old store.old margins.old)) (served_by result)
         (lending symbols.new costs.new store.new margins.new) }
 {
-    let k = fault(
-        count,
-        layout,
-        frames.len(),
-        symbols.len(),
-        costs.len(),
-        store.len(),
-        margins.len(),
-    );
-    if k != 0 {
-        return refused(k);
-    }
-    let mut status = [0u8; sizes::MOST_CHANNELS];
-    let mut counts = [0u8; sizes::MOST_CHANNELS];
-    service::load_all(
-        count,
-        layout,
-        degrees,
-        columns,
-        weights,
-        frames,
-        symbols,
-        costs,
-        margins,
-        &mut status,
-    );
-    let left = service::serve(
-        count,
-        allowance,
-        layout,
-        degrees,
-        columns,
-        weights,
+    let lent = Lengths {
+        symbols: symbols.len(),
+        costs: costs.len(),
+        store: store.len(),
+        margins: margins.len(),
+    };
+    validate_lengths(count, layout, frames.len(), lent)?;
+    let absent = Channel {
+        status: Status::Absent,
+        iterations: 0,
+    };
+    let mut channels = Channels {
+        each: [absent; sizes::MOST_CHANNELS],
+        left: allowance,
         symbols,
         costs,
         store,
         margins,
-        &mut status,
-        &mut counts,
-    );
-    Served {
-        number: 0,
-        spent: (allowance - left) as u16,
-        status,
-        iterations: counts,
-    }
+    };
+    Ok(channels.run(count, layout, frames))
 }
 
-// Over the tables of decode_channels.
-pub fn decode_in(
+// The whole call.
+pub fn decode(
     count: u8,
     allowance: u32,
     code: &[u8],
@@ -147,27 +160,32 @@ pub fn decode_in(
     costs: &mut [u16],
     store: &mut [u8],
     margins: &mut [u16],
-    degrees: &mut [u8; sizes::MOST_CHECKS],
-    columns: &mut [u16; sizes::MOST_EDGES],
-    weights: &mut [u8; sizes::MOST_EDGES],
-) -> Served
-    ensures { Gives (channels count allowance code.now frames.now
-        (lending symbols.old costs.old store.old margins.old)) result.number result.spent
-        result.status result.iterations (lending symbols.new costs.new store.new margins.new) }
+) -> Result<Served, Refusal>
+    ensures { GivesBy
+        (channels count allowance code.now frames.now
+        (lending symbols.old costs.old store.old margins.old)) (served_by result)
+        (lending symbols.new costs.new store.new margins.new) }
 {
-    let k = count_fault(count, allowance);
-    if k != 0 {
-        return refused(k);
-    }
-    match codeline::code_tables(code, degrees, columns, weights) {
-        Header::Refused(k) => refused(k),
-        Header::Read(numbers) => {
-            let z = layout::layout_of(numbers, degrees);
-            let count = scalar::u8_to_usize(count);
-            under_code(
-                count, allowance, z, degrees, columns, weights, frames, symbols, costs, store,
-                margins,
-            )
-        }
-    }
+    validate_count(count, allowance)?;
+    let mut degrees = [0u8; sizes::MOST_CHECKS];
+    let mut columns = [0u16; sizes::MOST_EDGES];
+    let mut weights = [0u8; sizes::MOST_EDGES];
+    let numbers = codeline::code_tables(code, &mut degrees, &mut columns, &mut weights)?;
+    let read = Code {
+        numbers,
+        degrees: &degrees,
+        columns: &columns,
+        weights: &weights,
+    };
+    let layout = layout::layout_of(&read);
+    under_code(
+        usize::from(count),
+        allowance,
+        &layout,
+        frames,
+        symbols,
+        costs,
+        store,
+        margins,
+    )
 }

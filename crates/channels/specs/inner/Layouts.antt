@@ -1,30 +1,19 @@
 -- What the functions ask and leave: the numbers and lengths that a channel needs, and room for each loop.
-use Rattle.std.specs.Prelude.{◌≡◌, List, ℕ, ◌+◌, ◌*◌, ◌≤◌, ◌<◌, min, eqb, length}
+use Rattle.std.specs.Prelude.{◌≡◌, List, ℕ, ◌+◌, ◌-◌, ◌*◌, ◌≤◌, ◌<◌, eqb, length}
 use Rattle.trellis.specs.Refusals.{fault_by}
-use Rattle.trellis.specs.Rules.{size_of}
 use Rattle.trellis.specs.Sizes.{most_symbols, most_expansion, most_costs, most_channels}
-use Rattle.machine.specs.CodeLine.{Code}
-use Rattle.machine.specs.Machine.{used}
+use Rattle.machine.specs.CodeLine.{Code, size}
 use Rattle.machine.specs.Decoding.{Buffers}
 use Rattle.machine.specs.Moments.{Moment}
-use Rattle.machine.specs.inner.Tables.{bytes_before}
 use Rattle.machine.specs.inner.InRange.{Passable}
-use Rattle.codeline.specs.declared.answers.Numbers.{Numbers}
-use Rattle.codeline.specs.inner.Coding.{code_of, Coded}
+use Rattle.codeline.specs.Codes.{code_in}
 use Rattle.channels.specs.declared.layout.Layout.{Layout}
 use Rattle.channels.specs.Channels.{own_of, count_tests, whole_tests}
-use Rattle.channels.specs.inner.Rounds.{Standing, Serves, lent_in, status_of, patch_at}
+use Rattle.channels.specs.inner.Rounds.{Standing, Rooms, Serves, lent_in, status_of, patch_at, loaded_to, rounds_at}
 
 -- "21, channel count not 1 to 8, before all; 22, A is 0, after 21."; 0 for neither
 unfoldable pub count_fault : ℕ → ℕ → ℕ
 count_fault n A = fault_by (count_tests n A)
-
--- a layout by its numbers
-pub record LaidOut (k : Numbers) (ds : List ℕ) (z : Layout) : Type 0 where
-  pub numbers_is : z.numbers ≡ k
-  pub columns_is : z.columns ≡ k.columns
-  pub costs_is : z.costs ≡ k.columns * size_of k.first
-  pub store_is : z.store ≡ bytes_before k.first ds (min k.checks (length ds))
 
 -- 12, 2, 3, 4, 19 by the lengths; 0 for none
 unfoldable pub fault_for : ℕ → Layout → ℕ → ℕ → ℕ → ℕ → ℕ → ℕ
@@ -37,16 +26,9 @@ pub record FaultRoom (n : ℕ) (z : Layout) : Type 0 where
   pub costs : z.costs ≤ most_costs
   pub store : z.store ≤ 65535
 
--- the code that the numbers of a layout and the tables say
-abbrev pub code_for : Layout → List ℕ → List ℕ → List ℕ → Code
-code_for z ds cs ws = code_of z.numbers ds cs ws
-
--- it is accepted, and the lengths are those of its channels' parts
-pub record Fitted (z : Layout) (ds cs ws : List ℕ) : Type 0 where
-  pub coded : Coded z.numbers ds cs ws
-  pub columns_is : z.columns ≡ z.numbers.columns
-  pub costs_is : z.costs ≡ z.numbers.columns * size_of z.numbers.first
-  pub store_is : z.store ≡ used (code_for z ds cs ws)
+-- the code of a layout
+abbrev pub code_for : Layout → Code
+code_for z = code_in z.code
 
 -- what one channel's load or iteration leaves: its status, and its parts of the buffers
 pub record Puts (C : Code) (c : ℕ) (b : Buffers) (m : Moment) (status : ℕ) (b' : Buffers) : Type 0 where
@@ -54,16 +36,11 @@ pub record Puts (C : Code) (c : ℕ) (b : Buffers) (m : Moment) (status : ℕ) (
   pub buffers_are : b' ≡ patch_at C c b m.buffers
 
 -- the loads of n channels, and that of channel c
-pub record LoadsRoom (n : ℕ) (z : Layout) (ds cs ws fs y p v st : List ℕ) : Type 0 where
-  pub fitted : Fitted z ds cs ws
-  pub frames : length fs ≡ n * z.costs
-  pub symbols : n * z.columns ≤ length y
-  pub costs : n * z.costs ≤ length p
-  pub margins : n * z.columns ≤ length v
-  pub for_status : n ≤ length st
+pub record LoadsRoom (n : ℕ) (z : Layout) (fs : List ℕ) (l : Standing) : Type 0 where
+  pub frames : length fs ≡ n * ((code_for z).columns * size (code_for z))
+  pub rooms : Rooms (code_for z) n l
 
-pub record LoadRoom (c : ℕ) (z : Layout) (ds cs ws fs y p v : List ℕ) : Type 0 where
-  pub fitted : Fitted z ds cs ws
+pub record LoadRoom (c : ℕ) (z : Layout) (fs y p v : List ℕ) : Type 0 where
   pub frames : c * z.costs + z.costs ≤ length fs
   pub symbols : c * z.columns + z.columns ≤ length y
   pub costs : c * z.costs + z.costs ≤ length p
@@ -77,30 +54,29 @@ pub record PartRoom (z : Layout) (c : ℕ) (b : Buffers) : Type 0 where
   pub for_margins : c * z.columns + z.columns ≤ length b.margins
 
 -- its next iteration, after t: its costs are in range and its records of accepted form
-pub record NextRoom (c t : ℕ) (z : Layout) (ds cs ws : List ℕ) (b : Buffers) (A S : List ℕ) : Type 0 where
-  pub fitted : Fitted z ds cs ws
+pub record NextRoom (c t : ℕ) (z : Layout) (b : Buffers) (A S : List ℕ) : Type 0 where
   pub room : PartRoom z c b
-  pub passable : Passable (code_for z ds cs ws) fitted.coded.good (eqb t 0) (lent_in (own_of (code_for z ds cs ws) b c))
+  pub passable : Passable (code_for z) z.code.coded.good (eqb t 0) (lent_in (own_of (code_for z) b c))
   pub arrived : most_expansion ≤ length A
   pub sent : most_expansion ≤ length S
 
--- the service of n channels, a round with two lists to work in, and one of its servings
-pub record ServeRoom (n : ℕ) (z : Layout) (ds cs ws : List ℕ) (l : Standing) : Type 0 where
-  pub fitted : Fitted z ds cs ws
-  pub serves : Serves (code_for z ds cs ws) fitted.coded.good n l
-
-pub record RoundRoom (n : ℕ) (z : Layout) (ds cs ws : List ℕ) (l : Standing) (A S : List ℕ) : Type 0 where
-  pub serve : ServeRoom n z ds cs ws l
+-- a round of n channels, with two lists to work in, and one of its servings
+pub record RoundRoom (n : ℕ) (z : Layout) (l : Standing) (A S : List ℕ) : Type 0 where
+  pub serves : Serves (code_for z) z.code.coded.good n l
   pub arrived : most_expansion ≤ length A
   pub sent : most_expansion ≤ length S
 
-pub record OneRoom (c : ℕ) (z : Layout) (ds cs ws : List ℕ) (l : Standing) (A S : List ℕ) : Type 0 where
+pub record OneRoom (c : ℕ) (z : Layout) (l : Standing) (A S : List ℕ) : Type 0 where
   pub count : ℕ
   pub inside : c < count
-  pub room : RoundRoom count z ds cs ws l A S
+  pub room : RoundRoom count z l A S
 
--- under a code that is read
-pub record UnderRoom (n : ℕ) (z : Layout) (ds cs ws : List ℕ) : Type 0 where
-  pub fitted : Fitted z ds cs ws
-  pub low : 1 ≤ n
-  pub high : n ≤ most_channels
+-- the loads, and rounds while something is left
+abbrev pub run_at : Code → List ℕ → ℕ → Standing → Standing
+run_at C fs n l = rounds_at C n l.left (loaded_to C fs n l)
+
+-- the whole service of n channels; what is spent of the allowance is a word
+pub record RunRoom (n : ℕ) (z : Layout) (fs : List ℕ) (l : Standing) : Type 0 where
+  pub loads : LoadsRoom n z fs l
+  pub serves : Serves (code_for z) z.code.coded.good n (loaded_to (code_for z) fs n l)
+  pub spent : l.left - (run_at (code_for z) fs n l).left ≤ 65535

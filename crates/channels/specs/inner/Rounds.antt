@@ -1,13 +1,13 @@
 -- The channels as the code serves them: the code line is read once, a channel is loaded and iterated in its own parts of the buffers, and
 -- since nobody else writes there an iteration tests no refusals. proofs/Ends.antt shows that this is the call of Channels.antt.
-use Rattle.std.specs.Prelude.{◌≡◌, Bool, not, ◌||◌, List, [], map, ◌++◌, ℕ, ◌+◌, ◌-◌, ◌*◌, ◌≤◌, ◌<◌, eqb, length, get_or, set, drop}
+use Rattle.std.specs.Prelude.{◌≡◌, Bool, not, ◌||◌, List, map, ◌++◌, ℕ, ◌+◌, ◌-◌, ◌*◌, ◌≤◌, ◌<◌, eqb, length, get_or, set, drop}
 use Rattle.trellis.specs.Lists.{up_to, pick, upto, patch}
 use Rattle.trellis.specs.Reply.{Reply}
 use Rattle.trellis.specs.Sizes.{most_channels}
 use Rattle.machine.specs.CodeLine.{Code, size, frame_fault}
 use Rattle.machine.specs.Machine.{settled, used}
 use Rattle.machine.specs.Lent.{Lent}
-use Rattle.machine.specs.Decoding.{Buffers, lending, holding}
+use Rattle.machine.specs.Decoding.{Buffers, holding}
 use Rattle.machine.specs.Moments.{Stage, Moment, moment, further, gone}
 use Rattle.machine.specs.inner.Accepted.{GoodCode}
 use Rattle.machine.specs.inner.InRange.{Passable}
@@ -40,10 +40,6 @@ patch_at C c b o =
       margins = patch b.margins (c * C.columns) C.columns o.margins;
     }
 
--- the buffers that a load is lent: it touches no store
-abbrev pub unstored : List ℕ → List ℕ → List ℕ → Buffers
-unstored y p v = lending y p [] v
-
 -- 20 while running, 0 found, 1 not found, else the refusal's number: at the end it is the channel's status
 unfoldable pub status_of : Stage → ℕ
 status_of s = pick (eqb s.state 1) 20 (pick (eqb s.state 2) 0 (pick (eqb s.state 3) 1 s.number))
@@ -57,10 +53,6 @@ pub record Standing : Type 0 where
 
 abbrev pub standing : List ℕ → List ℕ → ℕ → Buffers → Standing
 standing s t a b = record { status = s; counts = t; left = a; buffers = b }
-
--- what the loads see of it: they are lent no store, no iterations and no allowance
-abbrev pub load_standing : List ℕ → List ℕ → List ℕ → List ℕ → Standing
-load_standing s y p v = standing s [] 0 (unstored y p v)
 
 abbrev pub status_at : Standing → ℕ → ℕ
 status_at l c = get_or l.status c 0

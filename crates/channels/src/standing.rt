@@ -1,0 +1,71 @@
+// Where the channels of a call stand.
+ghost use Rattle.std.specs.Prelude.{◌≡◌, eqb};
+ghost use Rattle.layered.specs.Answers.{stage_of};
+ghost use Rattle.channels.specs.inner.Rounds.{status_of};
+ghost use Rattle.channels.specs.inner.Statuses.{status_number};
+
+use layered::answers::Stage;
+use refusal::Refusal;
+use scalar::sizes;
+
+// How far a channel is; absent, where the call has fewer.
+#[derive(Clone, Copy, Debug, PartialEq, Eq)]
+pub enum Status {
+    Absent,
+    Running,
+    Found,
+    NotFound,
+    Refused(Refusal),
+}
+
+impl Status {
+    // That of a load or an iteration.
+    #[tactic(auto, unfolding(crate::specs::inner::Rounds::status_of))]
+    pub fn of(stage: Result<Stage, Refusal>) -> Status
+        ensures { status_number result ≡ status_of (stage_of stage) }
+    {
+        match stage {
+            Ok(Stage::Running) => Status::Running,
+            Ok(Stage::Found) => Status::Found,
+            Ok(Stage::NotFound) => Status::NotFound,
+            Err(refusal) => Status::Refused(refusal),
+        }
+    }
+
+    pub fn is_running(self) -> bool
+        ensures { result ≡ eqb (status_number self) 20 }
+    {
+        matches!(self, Status::Running)
+    }
+
+    // 20 while running: of a channel that is so at the end, the allowance is spent.
+    pub fn number(self) -> u8
+        ensures { result ≡ status_number self }
+    {
+        match self {
+            Status::Absent => 0,
+            Status::Running => 20,
+            Status::Found => 0,
+            Status::NotFound => 1,
+            Status::Refused(refusal) => u8::from(refusal),
+        }
+    }
+}
+
+// A channel's status, and the iterations that it had.
+#[derive(Clone, Copy, Debug, PartialEq, Eq)]
+pub struct Channel {
+    pub status: Status,
+    pub iterations: u8,
+}
+
+// Each channel, what is left of the allowance, and the lent buffers.
+#[derive(Drop)]
+pub struct Channels<'a> {
+    pub each: [Channel; sizes::MOST_CHANNELS],
+    pub left: u32,
+    pub symbols: &'a mut [u8],
+    pub costs: &'a mut [u16],
+    pub store: &'a mut [u8],
+    pub margins: &'a mut [u16],
+}
