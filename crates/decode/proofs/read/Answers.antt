@@ -6,5 +6,5 @@ use Rattle.decode.proofs.read.Goals as goal
 
 pub returns-clause-bytes : goal.returns-clause-bytes
 returns-clause-bytes g c =
-    let t = length-take c.least-k.result c.args.chunk.now in
-    reads _ _ c.read.result c.read.new.buf _ c.least-k.result c.args.left _ c.least-k.ensures.value (omega (arith, t)) c.read.ensures.bound c.read.ensures.bytes
+    let t = length-take c.min-k.result c.args.chunk.now in
+    reads _ _ c.read.result c.read.new.buf _ c.min-k.result c.args.left _ c.min-k.ensures (omega (arith, t)) c.read.ensures.bound c.read.ensures.bytes
