@@ -1,7 +1,7 @@
 -- Expand, gather, messages and scatter make one update: each loop's list is cut into the columns' parts, expand and messages accept what the update
 -- gives them, and an expansion is the message of the old record.
 use mathlib.Core.Path.{◌≡◌, refl, sym, ap, ap₂, ◌∙◌}
-use mathlib.Core.Bool.{Bool, true, false}
+use mathlib.Core.Bool.{Bool, true, false, true≢false}
 use mathlib.Core.List.{List, ◌++◌, map, append_assoc, append-nil}
 use Prim.Native.Nat.{ℕ, zero, suc, ◌+◌, ◌*◌, ◌≤◌, ◌<◌}
 use native.Mathlib.Nat.{mul-zero, mul_comm, not-suc-le-zero, suc-mul}
@@ -13,6 +13,10 @@ use Rattle.std.proofs.lemmas.List.{length-replicate, get_or-replicate}
 use lib.Seq.{take_at, drop_at, drop-length, ext_get_or, get_or-take, get_or-drop}
 use lib.Pow.{pow_pos}
 use borrow.Author.Tests.{eq-eqb, le-ltb}
+use Rattle.std.specs.Prelude.{Result, Ok, Err, IsOk}
+use Rattle.trellis.specs.Reply.{Reply, accepted, refusal}
+use Rattle.refusal.specs.Replies.{reply_of}
+use Rattle.refusal.specs.declared.Refusal.{Refusal}
 use Rattle.trellis.specs.Lists.{up_to, each, upto, all_to, tab, part, patch, blocks}
 use Rattle.trellis.specs.Check.{Column, column, blank, all_sent}
 use Rattle.trellis.specs.Record.{record_of, record_length, record_ok, expand_at, expansion}
@@ -27,8 +31,8 @@ use Rattle.trellis.proofs.Ready.{length-columns, column-at}
 use Rattle.trellis.proofs.Messages.{ready_messages}
 use Rattle.field.proofs.Weighed.{weights-accepted, rest-case, ready-weighed}
 use Rattle.expansion.proofs.Cases.{expand_case}
-use Rattle.checknode.specs.Answers.{zero_ok, messages_cases, messages_leaves, messages_sent}
-use Rattle.expansion.specs.Answers.{expand_leaves}
+use Rattle.checknode.specs.Answers.{zero_ok, messages_cases, messages_reply, messages_leaves, messages_sent}
+use Rattle.expansion.specs.Answers.{expand_reply, expand_leaves}
 use Rattle.machine.specs.CodeLine.{edge_at, column_of}
 use Rattle.machine.specs.Machine.{scaled, incoming, outgoing, arriving, spread}
 use Rattle.machine.specs.Lent.{weights_of, message_lent, arriving_lent, record_lent, costs_lent}
@@ -139,6 +143,17 @@ expand_accepts first ws r out W f e =
     sym (expand_case first ws (weights-accepted first ws W.accepted W.two W.few W.some W.small) (length out) (λ k. out) _ r f (omega arith))
     ∙ rw (← e, drop-length out) (append-nil (expansion (rule_for first) ws r))
 
+-- a reply that is accepted
+accepted_ok : (e : Result ℕ Refusal) (n : ℕ) → reply_of e ≡ accepted n → IsOk e
+accepted_ok (Ok x) n i = refl
+accepted_ok (Err r) n i = absurd (true≢false (ap (λ (a : Reply). a.refused) i))
+
+pub expand_ok : (first : ℕ) (ws r out : List ℕ) → Weighed first ws → record_ok (rule_for first) (length ws) r ≡ true → length out ≡ length ws * size_of first
+    → (e : Result ℕ Refusal) → reply_of e ≡ expand_reply first ws r out → IsOk e
+unfolding expand_reply
+expand_ok first ws r out W f l e i =
+    accepted_ok e _ (i ∙ sym (expand_case first ws (weights-accepted first ws W.accepted W.two W.few W.some W.small) (length out) (λ k. refusal k) _ r f (omega arith)))
+
 zeros : (n : ℕ) → replicate n 0 ≡ tab (λ x. 0) n
 zeros n = ext_get_or 0 (replicate n 0) (tab (λ x. 0) n) (length-replicate n 0 ∙ sym (length-tab (λ x. 0) n)) (λ i h.
     let j : i < n = omega (arith, length-replicate {A = ℕ} n 0) in get_or-replicate n i 0 0 j ∙ sym (get_d_tab (λ x. 0) n i j))
@@ -166,6 +181,11 @@ module _ (first : ℕ) (ws Q : List ℕ) (D : Ready first ws Q) where
         le-ltb (length r) (record_length (rule_for first) (length ws)) (omega arith),
         le-ltb (length out) (length ws * size_of first) (omega arith),
       )
+
+  pub messages_ok : (r out : List ℕ) → length r ≡ record_length (rule_for first) (length ws) → length out ≡ length ws * size_of first
+      → (e : Result ℕ Refusal) → reply_of e ≡ messages_reply first ws Q r out → IsOk e
+  unfolding messages_reply
+  messages_ok r out l m e i = accepted_ok e _ (i ∙ messages-pass r out l m (λ k. refusal k) _)
 
   -- the record and the sent costs fill their buffers
   pub sent_is : (r out new last : List ℕ) → length r ≡ record_length (rule_for first) (length ws) → length out ≡ length ws * size_of first → new ≡ messages_leaves first ws Q r out → last ≡ messages_sent first ws Q r out

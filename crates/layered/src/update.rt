@@ -19,8 +19,7 @@ fn recall(first: u8, start: bool, weights: &[u8], bytes: &[u8], out: &mut [u8])
         out.fill(0);
         return;
     }
-    // Of an accepted check, with room: not refused.
-    let _ = expansion::expand(first, weights, bytes, out);
+    expansion::expand(first, weights, bytes, out).unwrap();
 }
 
 // The record of the check with these costs, and its sent costs.
@@ -31,8 +30,7 @@ fn send(first: u8, weights: &[u8], costs: &[u8], bytes: &mut [u8], out: &mut [u8
     ensures out_then { out.new
         ≡ all_sent (rule_for first) (columns_of (size_of first) weights.now costs.now) }
 {
-    // As above.
-    let _ = checknode::messages(first, weights, costs, bytes, out);
+    checknode::messages(first, weights, costs, bytes, out).unwrap();
 }
 
 // "This is one update of the check", whose record stands in `bytes`; `arrived` and `sent` are room to work in.

@@ -2,7 +2,7 @@
 use mathlib.Core.Path.{◌≡◌}
 use borrow.Author.Rules.{rules}
 use lib.ListN.{length, replicate}
-use Rattle.layered.proofs.Updates.{recall-first, recall-later}
+use Rattle.layered.proofs.Updates.{expand_ok, recall-first, recall-later}
 use Rattle.layered.proofs.update.recall.Goals as goal
 
 pub returns-then-start : goal.returns-then-start
@@ -15,3 +15,8 @@ pub returns : goal.returns
 returns c =
     let a = c.args in
     recall-later a.first a.start a.weights.now a.bytes.now a.out.now _ c.requires c.if-start.false c.expand.ensures.out_then
+
+pub unwrap-requires : goal.unwrap-requires
+unwrap-requires c =
+    let a = c.args in
+    expand_ok a.first a.weights.now a.bytes.now a.out.now c.requires.weighed (c.requires.form c.if-start.false) c.requires.full c.expand.result c.expand.ensures.reply
