@@ -1,31 +1,12 @@
 // The groups of a record, from the rests of the costs sent: for each a the extra column and the columns whose rest is below the best.
 #![tactic(auto)]
 
-mod lane;
-mod layout;
 mod list;
 
-ghost use Rattle.std.specs.Prelude.{◌≡◌, ◌≤◌};
-ghost use Rattle.tables.specs.inner.Tables.{Shaped};
-ghost use Rattle.groups.specs.Calls.{group_shape, groups_leave};
+ghost use Rattle.std.specs.Prelude.{◌≡◌};
+ghost use Rattle.groups.specs.Calls.{groups_leave};
 
-use crate::layout::Shape;
 use rules::Rule;
-
-// The shape of the rests: at least sixteen rows, for that many are taken at a time.
-fn shape_of(rule: Rule) -> Shape
-    requires { ((2 ≤ rule.p) × (rule.p ≤ 6)) × ((2 ≤ rule.k) × (rule.k ≤ 3)) }
-    ensures shape { result ≡ group_shape rule.p rule.k }
-    ensures fits { Shaped result.q result.l result.k × (4 ≤ result.q) }
-{
-    let q = 1usize << rule.p;
-    let l = scalar::max_usize(16, q);
-    Shape {
-        q: q,
-        l: l,
-        k: rule.k as usize,
-    }
-}
 
 // The groups of a record from the rests that `sent` writes: for each a from 1 to 2 ^ p - 1, E, then k pairs of column and cost. Nothing
 // changes where p is not 2 to 6, k not 2 to 3, d not 2 to 32, or a slice too short.
@@ -35,7 +16,7 @@ pub fn groups(rule: Rule, d: usize, sent: &[u8], out: &mut [u8])
     if !tables::fits(rule, d) {
         return;
     }
-    let shape = shape_of(rule);
+    let shape = tables::shape_of(rule);
     let n = d * shape.l;
     if sent.len() < n {
         return;

@@ -7,11 +7,12 @@ use native.Mathlib.Nat.{suc-mul, mul-le-mul_right}
 use lib.Seq.{take_at, drop_at, drop-drop, take_all, get_or-take}
 use Rattle.trellis.proofs.Loops.{length-tab, tab_ext}
 use native.Mathlib.Omega.{arith}
-use lib.ListN.{length, drop, take, get_or, length-append, length-take, length-drop, drop_of_length-le}
+use lib.ListN.{length, drop, take, get_or, length-take, length-drop, drop_of_length-le}
 use Rattle.trellis.specs.Lists.{tab, blocks, part, patch}
-use Rattle.tables.specs.inner.Tables.{Table, risen_at, risen_in, grown_at, grown_list, after_to}
+use Rattle.tables.specs.inner.Shapes.{Table}
+use Rattle.tables.specs.inner.Tables.{risen_at, risen_in, grown_at, grown_list, after_to}
 use Rattle.tables.proofs.Copying.{mul-even}
-use Rattle.tables.proofs.Parts.{past_first, part-front, part_twice, take-front, take_twice, blocks-length, blocks-drop, part_of, patch_turn, fill_end}
+use Rattle.tables.proofs.Parts.{past_first, part-front, part_twice, take-front, take_twice, blocks-length, blocks-drop, part_of, patch_turn}
 
 -- table j with a column taken in, by a join with a copy of the table below it
 pub rise_in_is : (g : Bool) (q l k : ℕ) (line d s : List ℕ) (j m n : ℕ) {r : List ℕ} → 1 ≤ j → m ≡ j * l → n ≡ m + l
@@ -45,12 +46,6 @@ module _ (g : Bool) (q l k : ℕ) (line d : List ℕ) (size : length d ≡ k * l
       let n : suc j * l ≡ length d = ap (λ y. y * l) e ∙ sym size in
       let b : drop (suc j * l) (blocks F k) ≡ [] = drop_of_length-le (blocks F k) {i = suc j * l} (omega (arith, blocks-length F l F-full k)) in
       sym (ap₂ {C = List ℕ} (λ x y. x ++ y) (take_all (suc j * l) d (omega arith)) b ∙ append-nil d)
-
-  pub half_length : (j : ℕ) (s : List ℕ) → suc j ≤ k → Half j s → length s ≡ length d
-  unfolding grown_list
-  half_length j s h e =
-      let m = mul-le-mul_right l h in
-      ap length e ∙ length-append (take (suc j * l) d) _ ∙ omega (arith, length-take (suc j * l) d, length-drop (suc j * l) (blocks F k), blocks-length F l F-full k)
 
   -- such a table below i + 1 is still as it was
   pub half_low : (i : ℕ) (s : List ℕ) → 1 ≤ i → i < k → Half i s → part s (i * l - l) l ≡ part d (i * l - l) l
@@ -95,9 +90,6 @@ module _ (g : Bool) (q l k : ℕ) (line d : List ℕ) (size : length d ≡ k * l
       let n : 0 * l ≡ 0 = omega arith in
       ap₂ {C = List ℕ} (λ p y. p ++ y) u x ∙ sym (ap (λ y. drop y (blocks F k)) (sym n) ∙ y ∙ ap (λ y. F 0 ++ drop y (blocks F k)) z)
 
-pub taken_in : (g : Bool) (q l k : ℕ) (lines table : List ℕ) (n a b : ℕ) {r : List ℕ} → a ≡ n * l → b ≡ a + l → r ≡ grown_list g q l k (take (b - a) (drop a lines)) table → r ≡ grown_list g q l k (part lines (n * l) l) table
-taken_in g q l k lines table n a b e f o = o ∙ ap (λ y. grown_list g q l k y table) (part_of lines a b n l e f)
-
 pub widths : (k l : ℕ) → Table l → k ≤ 3 → (k * l ≤ 192) × (k * l % 16 ≡ 0)
 widths k l W h = (omega (arith, mul-le-mul_right l h, W.limit), mul-even k l W)
 
@@ -117,9 +109,13 @@ module _ (g : Bool) (q l k : ℕ) (lines : List ℕ) (d : ℕ) (some : 2 ≤ d) 
   unfolding after_to
   after-start a b e f o = o ∙ ap (λ (y : List ℕ). blocks (λ _. y) k) (part_of lines a b (d - 1) l e f)
 
-  pub after_turn : (i : ℕ) {t r : List ℕ} → t ≡ At i → r ≡ grown_list g q l k (part lines ((d - 2 - i) * l) l) t → r ≡ At (i + 1)
+  pub after_turn : (i n : ℕ) {t r : List ℕ} → 1 ≤ i → n ≡ d - 1 - i → t ≡ At (i - 1) → r ≡ grown_list g q l k (part lines (n * l) l) t → r ≡ At i
   unfolding after_to
-  after_turn i e o = let n : i + 1 ≡ suc i = omega arith in rw n (o ∙ ap (grown_list g q l k (part lines ((d - 2 - i) * l) l)) e)
+  after_turn zero n h e u o = absurd (omega arith)
+  after_turn (suc i) n h e u o =
+      let x : n ≡ d - 2 - i = omega arith in
+      let y : suc i - 1 ≡ i = omega arith in
+      o ∙ ap₂ (λ m t. grown_list g q l k (part lines (m * l) l) t) x (u ∙ ap At y)
 
   -- the tables kept as block i
   pub keep_turn : (D out : List ℕ) (i : ℕ) {t r : List ℕ} → i < d - 1 → length D ≡ (d - 1) * (k * l) → out ≡ blocks At i ++ drop (i * (k * l)) D
@@ -128,6 +124,3 @@ module _ (g : Bool) (q l k : ℕ) (lines : List ℕ) (d : ℕ) (some : 2 ≤ d) 
       let w : length t ≡ k * l = ap length o ∙ after-length i in
       let x = mul-le-mul_right (k * l) (let x : suc i ≤ d - 1 = h in x) in
       patch_turn At (k * l) after-length D out i (omega (arith, x, suc-mul i (k * l))) e o (u ∙ ap (λ y. patch out (i * y) y t) w)
-
-  pub after-end : (D out : List ℕ) (i : ℕ) → i ≡ d - 1 → length D ≡ (d - 1) * (k * l) → out ≡ blocks At i ++ drop (i * (k * l)) D → out ≡ blocks At (d - 1)
-  after-end D out i e n o = fill_end At (k * l) after-length D out i (d - 1) e n o

@@ -4,52 +4,34 @@
 mod block;
 mod grow;
 mod join;
-mod lane;
-mod rests;
+pub mod layout;
 mod rows;
 
 ghost use Rattle.std.specs.Prelude.{◌≡◌, ◌≤◌};
-ghost use Rattle.tables.specs.inner.Tables.{Shaped};
-ghost use Rattle.tables.specs.Calls.{in_range, shape_for, sent_leaves};
+ghost use Rattle.tables.specs.Calls.{in_range, ShapeFor, sent_leaves};
 
-use crate::rests::Shape;
+use crate::layout::Shape;
 use rules::Rule;
 use scalar::sizes;
 
 // Whether p is 2 to 6, k 2 to 3 and d 2 to 32.
+#[tactic(auto, unfolding(crate::specs::Calls::in_range))]
 pub fn fits(rule: Rule, d: usize) -> bool
     ensures { result ≡ in_range rule.p rule.k d }
 {
-    if rule.p < 2 {
-        return false;
-    }
-    if 6 < rule.p {
-        return false;
-    }
-    if rule.k < 2 {
-        return false;
-    }
-    if 3 < rule.k {
-        return false;
-    }
-    if d < 2 {
-        return false;
-    }
-    d <= sizes::MOST_DEGREE
+    (2..=6).contains(&rule.p) && (2..=3).contains(&rule.k) && (2..=sizes::MOST_DEGREE).contains(&d)
 }
 
 // The shape of the tables: at least sixteen rows, for that many are taken at a time.
-fn shape_of(rule: Rule) -> Shape
+pub fn shape_of(rule: Rule) -> Shape
     requires { ((2 ≤ rule.p) × (rule.p ≤ 6)) × ((2 ≤ rule.k) × (rule.k ≤ 3)) }
-    ensures shape { result ≡ shape_for rule.p rule.k rule.greatest }
-    ensures fits { Shaped result.q result.l result.k × (4 ≤ result.q) }
+    ensures { ShapeFor rule.p rule.k rule.greatest result }
 {
     let q = 1usize << rule.p;
-    let l = scalar::max_usize(16, q);
     Shape {
-        q: q,
-        l: l,
-        k: rule.k as usize,
+        q,
+        l: q.max(16),
+        k: usize::from(rule.k),
         greatest: rule.greatest,
     }
 }

@@ -99,6 +99,14 @@ pub fn lane3(x: u8x16) -> u8x16
     x.swizzle([3, 3, 3, 3, 3, 3, 3, 3, 3, 3, 3, 3, 3, 3, 3, 3])
 }
 
+// The better of e and x.
+#[inline(always)]
+pub fn better(e: u8x16, x: u8x16) -> u8x16
+    ensures { result ≡ lanes (λ i. max (get_or e i 0) (get_or x i 0)) }
+{
+    e.simd_max(x)
+}
+
 // The better of e and the lesser of p and x.
 #[inline(always)]
 fn best_low(e: u8x16, p: u8x16, x: u8x16) -> u8x16

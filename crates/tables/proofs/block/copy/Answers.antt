@@ -1,12 +1,10 @@
-use Rattle.tables.proofs.Blocks.{copy_turn}
-use Rattle.tables.proofs.Turns.{copied}
+use Prim.Native.Nat.{◌*◌}
 use native.Mathlib.Omega.{arith}
+use Rattle.tables.proofs.Blocks.{copy_turn, copied}
 use Rattle.tables.proofs.block.copy.Goals as goal
 
-pub loop-v-preserved : goal.loop-v-preserved
-loop-v-preserved c = let a = c.args in let x = c.next-b.ensures in
-    ((omega (arith, x), omega (arith, x)), copy_turn a.from.now a.e.now c.loop-v.e c.loop-v.v _ x.0 (omega (arith, x)) (omega arith) c.loop-v.invariant.1.1 c.copy_block.ensures)
+pub loop-b-preserved : goal.loop-b-preserved
+loop-b-preserved c = copy_turn c.args.from.now c.args.e.now c.loop-b.e c.loop-b.b (omega arith) c.requires.same c.loop-b.invariant
 
 pub returns : goal.returns
-returns c = let a = c.args in
-    copied a.from.now a.e.now c.loop-v.e c.loop-v.v (omega arith) (omega arith) c.loop-v.invariant.1.1
+returns c = copied c.args.from.now c.args.e.now c.loop-b.e (16 * c.loop-b.b) c.requires.same (omega arith) c.loop-b.invariant

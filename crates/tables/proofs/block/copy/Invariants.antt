@@ -1,12 +1,9 @@
-use Rattle.trellis.specs.Lists.{tab}
 use mathlib.Core.Path.{◌≡◌}
 use mathlib.Core.List.{◌++◌}
-use Prim.Native.Nat.{ℕ, ◌-◌, ◌%◌, ◌≤◌}
-use lib.ListN.{length, drop, get_or}
+use Prim.Native.Nat.{◌*◌}
+use lib.ListN.{drop, get_or}
+use Rattle.trellis.specs.Lists.{tab}
 use Rattle.tables.proofs.block.copy.Given as goal
 
-abbrev pub invariant-loop-v : goal.invariant-loop-v
-invariant-loop-v l = ((l.v ≤ length l.initial.e) × (l.v % 16 ≡ 0)) × ((length l.e ≡ length l.initial.e) × (l.e ≡ tab (λ (k : ℕ). get_or l.from k 0) l.v ++ drop l.v l.initial.e))
-
-abbrev pub decreases-loop-v : goal.decreases-loop-v
-decreases-loop-v l = length l.initial.e - l.v
+abbrev pub invariant-loop-b : goal.invariant-loop-b
+invariant-loop-b l = l.e ≡ tab (λ k. get_or l.from k 0) (16 * l.b) ++ drop (16 * l.b) l.initial.e

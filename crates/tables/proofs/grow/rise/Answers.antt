@@ -11,7 +11,6 @@ overflow_sub-m c =
 pub join-requires : goal.join-requires
 join-requires c =
     record {
-      shaped = c.requires.shaped;
       u_len = (c.requires.line_len.0, (omega (arith, c.requires.line_len.1), part_length c.args.table.now _ _ c.args.shape.l refl (omega (arith, c.part_at-m.ensures, c.requires.le_j))));
     }
 

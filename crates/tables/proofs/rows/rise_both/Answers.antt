@@ -12,14 +12,12 @@ overflow_sub-m c =
 pub join-requires : goal.join-requires
 join-requires c =
     record {
-      shaped = c.requires.shaped;
       u_len = (part_length c.args.after.now _ _ c.args.shape.l refl (omega (arith, c.part_at-a.ensures, c.requires.le_j.1)), (omega arith, c.requires.line_len.1.1));
     }
 
 pub join-requires-2 : goal.join-requires-2
 join-requires-2 c =
     record {
-      shaped = c.requires.shaped;
       u_len = (c.requires.line_len.0, (omega (arith, c.copy.auto, c.requires.line_len), part_length c.args.before.now _ _ c.args.shape.l refl (omega (arith, c.part_at-m.ensures, c.requires.le_j.1))));
     }
 
