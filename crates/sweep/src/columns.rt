@@ -9,6 +9,7 @@ ghost use Rattle.checknode.specs.inner.Asks.{Times};
 ghost use Rattle.sweep.specs.Kept.{cell_count};
 ghost use Rattle.sweep.specs.inner.Cells.{move_cost, Sized, step_for, step_column, order_of, is_back, table_of};
 
+use crate::step::Column;
 use crate::{cells, step};
 use checknode::accepted::Check;
 use scalar::sizes;
@@ -62,17 +63,13 @@ fn advance(
     ensures { out.new ≡ step_for first h costs.now cells.now }
 {
     let rule = rules::rule_of(first);
-    let s = usize::from(column(rule.p, h, costs, row, moves));
-    step::step(
-        row,
+    let decided = usize::from(column(rule.p, h, costs, row, moves));
+    let column = Column {
+        products: row,
         moves,
-        cells,
-        s,
-        rules::size(first),
-        usize::from(rule.k),
-        rule.greatest,
-        out,
-    );
+        decided,
+    };
+    step::step(&column, cells, usize::from(rule.k), rule.greatest, out);
 }
 
 // One column more, by its number.

@@ -7,37 +7,37 @@ ghost use Rattle.sweep.specs.inner.Cells.{Sums, Steps, move_cost, deviation_at, 
 
 use crate::cells;
 
+// A column as a sweep takes it: the products of its weight with each symbol, the cost of a deviation to each, and its decision's product.
+#[derive(Clone, Copy)]
+pub struct Column<'a> {
+    pub products: &'a [u8],
+    pub moves: &'a [u16],
+    pub decided: usize,
+    ghost steps: { Steps products.now moves.now },
+    ghost element: { decided < length products.now },
+}
+
 // The cheapest deviation of the column that leads to sum t, from the costs of one deviation fewer.
-fn deviation_at(row: &[u8], moves: &[u16], low: &[u16], t: usize, greatest: bool) -> u32
-    requires steps { Steps row.now moves.now }
-    requires low_len { (length low.now ≡ length row.now) × (t < length row.now) }
-    ensures { (result ≡ deviation_at greatest row.now moves.now low.now t) × (result ≤ 1024) }
+fn deviation_at(column: &Column<'_>, low: &[u16], t: usize, greatest: bool) -> u32
+    requires low_len { (length low.now ≡ length column.now.products.now) × (t < length column.now.products.now) }
+    ensures { (result ≡ deviation_at greatest column.now.products.now column.now.moves.now low.now t) × (result ≤ 1024) }
 {
     let mut e = 1024u32;
-    for (x, &s) in row.iter().enumerate() {
-        e = e.min(cells::join_of(greatest, moves[x], low[t ^ usize::from(s)]));
+    for (x, &s) in column.products.iter().enumerate() {
+        e = e.min(cells::join_of(greatest, column.moves[x], low[t ^ usize::from(s)]));
     }
     e
 }
 
-// One count: the column keeps its decision, whose product is s, or it is one of the deviations.
-fn layer(
-    row: &[u8],
-    moves: &[u16],
-    low: &[u16],
-    same: &[u16],
-    s: usize,
-    greatest: bool,
-    out: &mut [u16],
-)
-    requires steps { Steps row.now moves.now }
-    requires low_len { (length low.now ≡ length row.now) × (length same.now ≡ length row.now) }
-    requires out_len { (length out.old ≡ length row.now) × (s < length row.now) }
-    ensures { out.new ≡ layers greatest row.now moves.now low.now same.now s }
+// One count: the column keeps its decision, or it is one of the deviations.
+fn layer(column: &Column<'_>, low: &[u16], same: &[u16], greatest: bool, out: &mut [u16])
+    requires low_len { (length low.now ≡ length column.now.products.now) × (length same.now ≡ length column.now.products.now) }
+    requires out_len { length out.old ≡ length column.now.products.now }
+    ensures { out.new ≡ layers greatest column.now.products.now column.now.moves.now low.now same.now column.now.decided }
 {
     for (t, cost) in out.iter_mut().enumerate() {
-        let kept = u32::from(same[t ^ s]);
-        *cost = kept.min(deviation_at(row, moves, low, t, greatest)) as u16;
+        let kept = u32::from(same[t ^ column.decided]);
+        *cost = kept.min(deviation_at(column, low, t, greatest)) as u16;
     }
 }
 
@@ -71,56 +71,30 @@ pub fn move_costs(costs: &[u8], z: usize, out: &mut [u16])
 }
 
 // The costs of j deviations.
-fn count(
-    row: &[u8],
-    moves: &[u16],
-    cells: &[u16],
-    s: usize,
-    q: usize,
-    j: usize,
-    greatest: bool,
-    out: &mut [u16],
-)
-    requires steps { Steps row.now moves.now }
-    requires row_len { (length row.now ≡ q) × (s < q) }
-    requires q_in_bounds { (j * q + q ≤ length cells.now) × (length out.old ≡ q) }
-    ensures { out.new ≡ count_cells greatest q row.now moves.now cells.now s j }
+fn count(column: &Column<'_>, cells: &[u16], j: usize, greatest: bool, out: &mut [u16])
+    requires cells_len { j * length column.now.products.now + length column.now.products.now ≤ length cells.now }
+    requires out_len { length out.old ≡ length column.now.products.now }
+    ensures { out.new ≡ count_cells greatest (length column.now.products.now) column.now.products.now column.now.moves.now cells.now column.now.decided j }
 {
+    let q = column.products.len();
     if j == 0 {
-        kept(&cells[..q], s, out);
+        kept(&cells[..q], column.decided, out);
         return;
     }
     let b = j * q;
-    layer(
-        row,
-        moves,
-        &cells[b - q..b],
-        &cells[b..b + q],
-        s,
-        greatest,
-        out,
-    );
+    layer(column, &cells[b - q..b], &cells[b..b + q], greatest, out);
 }
 
 // The costs of each count up to k.
-pub fn step(
-    row: &[u8],
-    moves: &[u16],
-    cells: &[u16],
-    s: usize,
-    q: usize,
-    k: usize,
-    greatest: bool,
-    out: &mut [u16],
-)
-    requires steps { Steps row.now moves.now }
-    requires row_len { (length row.now ≡ q) × ((s < q) × (k ≤ 3)) }
-    requires cells_len { (length cells.now ≡ (k + 1) * q) × (length out.old ≡ (k + 1) * q) }
-    ensures { out.new ≡ step_cells greatest q k row.now moves.now cells.now s }
+pub fn step(column: &Column<'_>, cells: &[u16], k: usize, greatest: bool, out: &mut [u16])
+    requires k_few { k ≤ 3 }
+    requires cells_len { (length cells.now ≡ (k + 1) * length column.now.products.now) × (length out.old ≡ (k + 1) * length column.now.products.now) }
+    ensures { out.new ≡ step_cells greatest (length column.now.products.now) k column.now.products.now column.now.moves.now cells.now column.now.decided }
 {
+    let q = column.products.len();
     for j in 0..k + 1 {
         let b = j * q;
-        count(row, moves, cells, s, q, j, greatest, &mut out[b..b + q]);
+        count(column, cells, j, greatest, &mut out[b..b + q]);
     }
 }
 

@@ -1,6 +1,7 @@
 -- The rule's numbers are those of the first byte; the column's products and costs make one step.
-use mathlib.Core.Path.{ap, ◌∙◌, sym, subst}
+use mathlib.Core.Path.{refl, ap, ◌∙◌, sym, subst}
 use Prim.Native.Nat.{◌^◌}
+use native.Mathlib.Omega.{arith}
 use Rattle.rules.specs.declared.Rule.{Rule}
 use Rattle.sweep.proofs.Laws.{step_asks, step-done}
 use Rattle.checknode.specs.inner.Asks.{Times}
@@ -14,14 +15,16 @@ column-requires c =
       sized = subst (λ p. Sized (2 ^ p) c.args.costs.now c.args.row.now c.args.moves.now) (sym (ap (λ (r : Rule). r.p) c.rule_of-rule.ensures)) c.requires.sized;
     }
 
+pub invariant_of-column : goal.invariant_of-column
+invariant_of-column c =
+    let a = step_asks c.args.first c.args.h c.args.costs.now c.requires.times (ap (λ (r : Rule). r.p) c.rule_of-rule.ensures) c.column.ensures.term c.column.ensures.row_then c.column.ensures.moves_then c.from-decided.ensures (omega (arith, c.column.auto, c.requires.sized.of_row)) refl refl c.args.cells.now c.args.out.now c.requires.sized.has_zero c.requires.cells_len.0 c.requires.cells_len.1 in
+    record { steps = a.0; element = a.1.0.1.0 }
+
 pub step-requires : goal.step-requires
 step-requires c =
-    record {
-      steps = (step_asks c.args.first c.args.h c.args.costs.now c.requires.times (ap (λ (r : Rule). r.p) c.rule_of-rule.ensures) c.column.ensures.term c.column.ensures.row_then c.column.ensures.moves_then c.from-s.ensures c.size.ensures.0 (c.from.ensures ∙ ap (λ (r : Rule). r.k) c.rule_of-rule.ensures) (ap (λ (r : Rule). r.greatest) c.rule_of-rule.ensures) c.args.cells.now c.args.out.now c.requires.sized.has_zero c.requires.cells_len.0 c.requires.cells_len.1).0;
-      row_len = (step_asks c.args.first c.args.h c.args.costs.now c.requires.times (ap (λ (r : Rule). r.p) c.rule_of-rule.ensures) c.column.ensures.term c.column.ensures.row_then c.column.ensures.moves_then c.from-s.ensures c.size.ensures.0 (c.from.ensures ∙ ap (λ (r : Rule). r.k) c.rule_of-rule.ensures) (ap (λ (r : Rule). r.greatest) c.rule_of-rule.ensures) c.args.cells.now c.args.out.now c.requires.sized.has_zero c.requires.cells_len.0 c.requires.cells_len.1).1.0;
-      cells_len = (step_asks c.args.first c.args.h c.args.costs.now c.requires.times (ap (λ (r : Rule). r.p) c.rule_of-rule.ensures) c.column.ensures.term c.column.ensures.row_then c.column.ensures.moves_then c.from-s.ensures c.size.ensures.0 (c.from.ensures ∙ ap (λ (r : Rule). r.k) c.rule_of-rule.ensures) (ap (λ (r : Rule). r.greatest) c.rule_of-rule.ensures) c.args.cells.now c.args.out.now c.requires.sized.has_zero c.requires.cells_len.0 c.requires.cells_len.1).1.1;
-    }
+    let a = step_asks c.args.first c.args.h c.args.costs.now c.requires.times (ap (λ (r : Rule). r.p) c.rule_of-rule.ensures) c.column.ensures.term c.column.ensures.row_then c.column.ensures.moves_then c.from-decided.ensures (omega (arith, c.column.auto, c.requires.sized.of_row)) (c.from.ensures ∙ ap (λ (r : Rule). r.k) c.rule_of-rule.ensures) (ap (λ (r : Rule). r.greatest) c.rule_of-rule.ensures) c.args.cells.now c.args.out.now c.requires.sized.has_zero c.requires.cells_len.0 c.requires.cells_len.1 in
+    record { k_few = a.1.0.1.1; cells_len = a.1.1 }
 
 pub returns : goal.returns
 returns c =
-    step-done c.args.first c.args.h c.args.costs.now c.requires.times (ap (λ (r : Rule). r.p) c.rule_of-rule.ensures) c.column.ensures.term c.column.ensures.row_then c.column.ensures.moves_then c.from-s.ensures c.size.ensures.0 (c.from.ensures ∙ ap (λ (r : Rule). r.k) c.rule_of-rule.ensures) (ap (λ (r : Rule). r.greatest) c.rule_of-rule.ensures) c.args.cells.now c.step.ensures
+    step-done c.args.first c.args.h c.args.costs.now c.requires.times (ap (λ (r : Rule). r.p) c.rule_of-rule.ensures) c.column.ensures.term c.column.ensures.row_then c.column.ensures.moves_then c.from-decided.ensures (omega (arith, c.column.auto, c.requires.sized.of_row)) (c.from.ensures ∙ ap (λ (r : Rule). r.k) c.rule_of-rule.ensures) (ap (λ (r : Rule). r.greatest) c.rule_of-rule.ensures) c.args.cells.now c.step.ensures

@@ -9,11 +9,11 @@ use Rattle.sweep.proofs.step.layer.Goals as goal
 pub bounds-same-t : goal.bounds-same-t
 unfolding xor
 bounds-same-t c =
-    omega (arith, c.requires.steps.sums.sum c.loop-t.t c.args.s (omega (arith, c.requires.out_len.0)) c.requires.out_len.1, c.requires.low_len)
+    omega (arith, c.args.column.now.steps.sums.sum c.loop-t.t c.args.column.now.decided (omega (arith, c.requires.out_len)) c.args.column.now.element, c.requires.low_len)
 
 pub loop-t-preserved : goal.loop-t-preserved
 unfolding xor
 loop-t-preserved c =
     let a = c.args in
-    let v = layer_value a.greatest a.row.now a.moves.now a.low.now a.same.now a.s c.loop-t.t c.from-kept.ensures c.deviation_at.ensures.0 c.min.ensures in
-    (search rules, fill_next (layer_at a.greatest a.row.now a.moves.now a.low.now a.same.now a.s) c.loop-t.out c.loop-t.t _ (omega arith) c.loop-t.invariant.1 v)
+    let v = layer_value a.greatest a.column.now.products.now a.column.now.moves.now a.low.now a.same.now a.column.now.decided c.loop-t.t c.from-kept.ensures c.deviation_at.ensures.0 c.min.ensures in
+    (search rules, fill_next (layer_at a.greatest a.column.now.products.now a.column.now.moves.now a.low.now a.same.now a.column.now.decided) c.loop-t.out c.loop-t.t _ (omega arith) c.loop-t.invariant.1 v)
