@@ -20,14 +20,6 @@ returns-in_err-validate_check c =
     let f = refused a.first a.weights.now a.costs.now a.out.now c.in_err-validate_check.ensures (some_number r) in
     record { reply = e ∙ f.0; out_then = f.1 }
 
-pub overflow_add-n : goal.overflow_add-n
-overflow_add-n c =
-    let weights = c.args.weights.now in
-    let costs = c.args.costs.now in
-    let out = c.args.out.now in
-    let first = c.args.first in
-    omega (arith, c.groups.ensures, (passed first weights costs (length out) c.in_ok-validate_check.ensures refl).ready.few, (passed first weights costs (length out) c.in_ok-validate_check.ensures refl).fits)
-
 pub slice_bounds-record_in-end : goal.slice_bounds-record_in-end
 slice_bounds-record_in-end c =
     omega (arith, c.groups.ensures, (passed c.args.first c.args.weights.now c.args.costs.now (length c.args.out.now) c.in_ok-validate_check.ensures refl).fits)

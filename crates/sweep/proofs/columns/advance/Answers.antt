@@ -8,22 +8,10 @@ use Rattle.checknode.specs.inner.Asks.{Times}
 use Rattle.sweep.specs.inner.Cells.{Sized}
 use Rattle.sweep.proofs.columns.advance.Goals as goal
 
-pub column-requires : goal.column-requires
-column-requires c =
-    record {
-      times = subst (λ p. Times p c.args.h) (sym (ap (λ (r : Rule). r.p) c.rule_of-rule.ensures)) c.requires.times;
-      sized = subst (λ p. Sized (2 ^ p) c.args.costs.now c.args.row.now c.args.moves.now) (sym (ap (λ (r : Rule). r.p) c.rule_of-rule.ensures)) c.requires.sized;
-    }
-
 pub invariant_of-column : goal.invariant_of-column
 invariant_of-column c =
     let a = step_asks c.args.first c.args.h c.args.costs.now c.requires.times (ap (λ (r : Rule). r.p) c.rule_of-rule.ensures) c.column.ensures.term c.column.ensures.row_then c.column.ensures.moves_then c.from-decided.ensures (omega (arith, c.column.auto, c.requires.sized.of_row)) refl refl c.args.cells.now c.args.out.now c.requires.sized.has_zero c.requires.cells_len.0 c.requires.cells_len.1 in
     record { steps = a.0; element = a.1.0.1.0 }
-
-pub step-requires : goal.step-requires
-step-requires c =
-    let a = step_asks c.args.first c.args.h c.args.costs.now c.requires.times (ap (λ (r : Rule). r.p) c.rule_of-rule.ensures) c.column.ensures.term c.column.ensures.row_then c.column.ensures.moves_then c.from-decided.ensures (omega (arith, c.column.auto, c.requires.sized.of_row)) (c.from.ensures ∙ ap (λ (r : Rule). r.k) c.rule_of-rule.ensures) (ap (λ (r : Rule). r.greatest) c.rule_of-rule.ensures) c.args.cells.now c.args.out.now c.requires.sized.has_zero c.requires.cells_len.0 c.requires.cells_len.1 in
-    record { k_few = a.1.0.1.1; cells_len = a.1.1 }
 
 pub returns : goal.returns
 returns c =

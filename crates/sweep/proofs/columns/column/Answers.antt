@@ -8,21 +8,6 @@ use Rattle.sweep.specs.inner.Cells.{move_cost}
 use Rattle.checknode.proofs.Lining.{column-term}
 use Rattle.sweep.proofs.columns.column.Goals as goal
 
-pub products-requires : goal.products-requires
-products-requires c =
-    record {
-      times = c.requires.times;
-      row_len = (c.requires.sized.of_row, omega (arith, c.requires.sized.of_row, c.requires.sized.limit));
-    }
-
-pub move_costs-requires : goal.move_costs-requires
-move_costs-requires c =
-    omega (arith, c.requires.sized.of_costs, c.requires.sized.of_moves)
-
-pub bounds-row-z : goal.bounds-row-z
-bounds-row-z c =
-    omega (arith, (c.decide-z.ensures.0.0 ∙ ap first_zero (map-id c.args.costs.now)), c.requires.sized.has_zero, c.requires.sized.of_row, c.products.auto)
-
 pub returns : goal.returns
 returns c =
     let costs = c.args.costs.now in

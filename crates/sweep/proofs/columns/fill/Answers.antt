@@ -34,28 +34,6 @@ loop-i-init c =
     let n = start-length f ws cs D (is_back c.args.direction) t w h c.begin.ensures in
     (c.requires.cells_len.0, (n ∙ omega (arith, c.requires.cells_len.1, wt), table-start f ws cs D (is_back c.args.direction) t w we h c.begin.ensures))
 
-pub order-requires : goal.order-requires
-order-requires c =
-    omega (arith, c.loop-i.invariant.0, c.loop-i-test.true)
-
-pub turn-requires : goal.turn-requires
-turn-requires c =
-    let first : ℕ = c.args.check.now.first in
-    let ws : List ℕ = c.args.check.now.weights.now in
-    let cs : List ℕ = c.args.check.now.costs.now in
-    let ready : Ready first ws cs = c.args.check.now.ready in
-    let w : ℕ = c.cell_count-w.result in
-    let count : w ≡ cell_count first = c.cell_count-w.ensures.0 in
-    let i : ℕ = c.loop-i.i in
-    let below : i < length ws = omega (arith, c.loop-i-test.true) in
-    let within : i * w + w ≤ length ws * w = part_room i (length ws) w below in
-    let in_table : i * w + w ≤ length c.loop-i.table = omega (arith, within, c.loop-i.invariant.1.0) in
-    let inv = c.loop-i.invariant in
-    record {
-      n_in_bounds = c.order.ensures.1;
-      cells_len = (omega (arith, c.copy_from_slice.auto, inv.0), part_length c.loop-i.table (i * w) w in_table ∙ count);
-    }
-
 pub loop-i-preserved : goal.loop-i-preserved
 loop-i-preserved c =
     let first : ℕ = c.args.check.now.first in
@@ -79,23 +57,3 @@ loop-i-preserved c =
     let m = next-length first ws cs ready back i some w count t in_table k in
     (omega (arith, c.copy_from_slice.auto, inv.0), (m ∙ inv.1.0, table-next first ws cs ready back i some w count t inv.1.1 k))
 
-pub shape_of-table : goal.shape_of-table
-shape_of-table c =
-    omega (arith, c.loop-i.invariant.1.0, c.requires.cells_len.1, ap (λ y. (length c.args.check.now.weights.now) * y) c.cell_count-w.ensures.0)
-
-pub returns : goal.returns
-returns c =
-    let ws : List ℕ = c.args.check.now.weights.now in
-    let cs : List ℕ = c.args.check.now.costs.now in
-    let w : ℕ = c.cell_count-w.result in
-    let i : ℕ = c.loop-i.i in
-    let f : ℕ = c.args.check.now.first in
-    let ws : List ℕ = c.args.check.now.weights.now in
-    let cs : List ℕ = c.args.check.now.costs.now in
-    let D = c.args.check.now.ready in
-    let w : ℕ = c.cell_count-w.result in
-    let we : w ≡ cell_count f = c.cell_count-w.ensures.0 in
-    let i : ℕ = c.loop-i.i in
-    let inv = c.loop-i.invariant in
-    let e : i ≡ length ws = omega (arith, c.loop-i-test.false, c.loop-i.auto.i-end) in
-    table-end f ws cs D (is_back c.args.direction) i c.loop-i.auto.i w we c.loop-i.table (length ws) inv.1.1 e inv.1.0

@@ -20,13 +20,6 @@ advance-requires c =
       cells_len = c.requires.cells_len;
     }
 
-pub returns : goal.returns
-returns c =
-    let weights = c.args.check.now.weights.now in
-    let first = c.args.check.now.first in
-    let n = c.args.n in
-    c.advance.ensures ∙ ap (λ l. step_by (power_of first) (greatest_of first) (most_of first) (get_or weights n 0) l c.args.cells.now) (costs-part first weights c.args.check.now.costs.now c.args.check.now.ready n c.requires.n_in_bounds c.size-q.result c.size-q.ensures.0)
-
 pub slice_bounds-row-end : goal.slice_bounds-row-end
 slice_bounds-row-end c =
     let k = c.args.check.now in

@@ -11,14 +11,6 @@ use Rattle.sweep.proofs.Laws.{part_length}
 use Rattle.sweep.proofs.Grouping.{group-full}
 use Rattle.sweep.proofs.group.groups.Goals as goal
 
-pub group-requires : goal.group-requires
-group-requires c =
-    let k = c.args.k in
-    record {
-      sent_len = (c.requires.sent_len.0, (omega (arith, c.loop-i-test.true), (c.requires.sent_len.1.0, c.requires.sent_len.1.1.0)));
-      out_len = (part_length c.loop-i.out (c.loop-i.i * (1 + 2 * k)) (1 + 2 * k) (omega (arith, part_room c.loop-i.i (c.args.q - 1) (1 + 2 * k) c.loop-i-test.true, c.requires.out_len, c.loop-i.invariant.0)), c.requires.pairs_room.few (c.loop-i.i + 1) (omega arith) (omega (arith, c.loop-i-test.true)));
-    }
-
 pub loop-i-preserved : goal.loop-i-preserved
 loop-i-preserved c =
     let sent = c.args.sent.now in

@@ -26,14 +26,3 @@ loop-n-preserved c =
     let e = c.args.e in
     (omega (arith, c.put_above-c.auto, c.loop-n.invariant.0), (count_turn e (sent_of sent q a) c.loop-n.n c.loop-n.c c.loop-n.invariant.1.0 refl c.put_above-c.ensures.count, pair_turn e (sent_of sent q a) d c.loop-n.n c.loop-n.c c.args.out.now c.loop-n.out c.loop-n-test.true (omega (arith, c.requires.d_in_bounds, pair_length e (sent_of sent q a) d)) c.loop-n.invariant.1.0 (cc) refl c.loop-n.invariant.1.1 c.put_above-c.ensures.out_then))
 
-pub returns : goal.returns
-returns c =
-    let sent = c.args.sent.now in
-    let q = c.args.q in
-    let a = c.args.a in
-    let e = c.args.e in
-    let n : c.loop-n.n ≡ c.args.d = omega arith in
-    record {
-      count = c.loop-n.invariant.1.0 ∙ ap (pair_count e (sent_of sent q a)) n;
-      out_then = c.loop-n.invariant.1.1 ∙ ap (λ n. blocks (pair_above e (sent_of sent q a)) n ++ drop (pair_count e (sent_of sent q a) n * 2) c.args.out.now) n;
-    }

@@ -15,28 +15,6 @@ use Rattle.checknode.proofs.Resting.{shifts-length}
 use Rattle.sweep.proofs.Sending.{rows_joinable, rows_are, sent-fits, record_is, two_parts, rest-length}
 use Rattle.sweep.proofs.record.record_from.Goals as goal
 
-pub slice_bounds-shifts-end : goal.slice_bounds-shifts-end
-slice_bounds-shifts-end c =
-    omega (arith, c.requires.out_len)
-
-pub slice_bounds-shifts-end-2 : goal.slice_bounds-shifts-end-2
-slice_bounds-shifts-end-2 c =
-    simp length-take (omega (arith, c.requires.out_len))
-
-pub shifts-requires : goal.shifts-requires
-shifts-requires c =
-    record {
-      out_len = simp length-take (omega (arith, c.requires.out_len));
-    }
-
-pub slice_bounds-sent_all-end : goal.slice_bounds-sent_all-end
-slice_bounds-sent_all-end c =
-    simp (length-append, length-drop) (omega (arith, (ap length c.shifts.ensures ∙ shifts-length c.args.check.now.first c.args.check.now.weights.now c.args.check.now.costs.now c.args.check.now.ready), c.requires.out_len))
-
-pub slice_bounds-sent_all-end-2 : goal.slice_bounds-sent_all-end-2
-slice_bounds-sent_all-end-2 c =
-    simp (length-take, length-append, length-drop) (omega (arith, (ap length c.shifts.ensures ∙ shifts-length c.args.check.now.first c.args.check.now.weights.now c.args.check.now.costs.now c.args.check.now.ready), c.requires.out_len))
-
 pub sent_all-requires : goal.sent_all-requires
 sent_all-requires c =
     let f : ℕ = c.args.check.now.first in
@@ -48,14 +26,6 @@ sent_all-requires c =
     let shifts-long : length (shifts_of (power_of f) ws cs) ≡ length ws = shifts-length f ws cs c.args.check.now.ready in
     let shifts-first : (s : List ℕ) → (r : List ℕ) → s ≡ shifts_of (power_of f) ws cs → take (length ws) (s ++ r) ≡ shifts_of (power_of f) ws cs = λ s r e. take_at s r (length ws) (ap length e ∙ shifts-long) ∙ e in
     rows_joinable f ws cs c.args.check.now.ready bytes c.args.before.now c.args.after.now c.requires.swept greatest-is c.size-q.ensures.0 most-is (shifts-first _ _ c.shifts.ensures) c.args.sent.now c.requires.sent_len
-
-pub slice_bounds-groups-count : goal.slice_bounds-groups-count
-slice_bounds-groups-count c =
-    omega (arith, c.requires.out_len)
-
-pub slice_bounds-groups-start : goal.slice_bounds-groups-start
-slice_bounds-groups-start c =
-    omega (arith, c.requires.out_len)
 
 pub groups-requires : goal.groups-requires
 groups-requires c =

@@ -12,6 +12,3 @@ unfolding xor
 loop-x-preserved c =
     (simp length-set (omega arith), cc (tab-more (λ j. bit_xor c.args.sum (get_or c.args.out.now j 0)) c.args.out.now c.loop-x.x-index (omega arith), tab_seam (λ j. bit_xor c.args.sum (get_or c.args.out.now j 0)) c.args.out.now c.loop-x.x-index (omega arith), xor_comm (get_or c.loop-x.out c.loop-x.x-index 0) c.args.sum))
 
-pub returns : goal.returns
-returns c =
-    let e : c.loop-x.x-index ≡ length c.args.out.now = omega arith in cc (tab_whole (λ j. xor c.args.sum (get_or c.args.out.now j 0)) c.args.out.now)

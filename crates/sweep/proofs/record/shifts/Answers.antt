@@ -2,12 +2,6 @@
 use Rattle.checknode.proofs.Resting.{shifts_law}
 use Rattle.sweep.proofs.record.shifts.Goals as goal
 
-pub terms-sum-requires : goal.terms-sum-requires
-terms-sum-requires c =
-    record {
-      out_len = c.requires.out_len;
-    }
-
 pub returns : goal.returns
 returns c =
     shifts_law c.args.check.now.first c.args.check.now.weights.now c.args.check.now.costs.now c.args.check.now.ready c.terms-sum.ensures.sum c.terms-sum.ensures.out_then c.shift_all.ensures

@@ -3,18 +3,6 @@ use native.Mathlib.Omega.{arith}
 use Rattle.sweep.proofs.Sending.{kept_tables}
 use Rattle.sweep.proofs.record.sweeps.Goals as goal
 
-pub fill-requires : goal.fill-requires
-fill-requires c =
-    record {
-      cells_len = (c.requires.cells_len, c.requires.before_len);
-    }
-
-pub fill-requires-2 : goal.fill-requires-2
-fill-requires-2 c =
-    record {
-      cells_len = (omega (arith, c.fill.auto, c.requires.cells_len), c.requires.after_len);
-    }
-
 pub returns : goal.returns
 returns c =
     record {

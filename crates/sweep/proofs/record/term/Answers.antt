@@ -28,8 +28,3 @@ times-requires c =
     let n = c.args.n in
     rw c.power.ensures (ready-low first weights costs c.args.check.now.ready, (ready-high first weights costs c.args.check.now.ready, (c.args.check.now.ready.weight-small n c.requires.n_in_bounds, (let u : c.decide-z.result.symbol < size_of first = rw (c.decide-z.ensures.0.0 ∙ ap first_zero (map-id _ ∙ costs-part first weights costs c.args.check.now.ready n c.requires.n_in_bounds c.size-q.result c.size-q.ensures.0)) (c.args.check.now.ready.zeros n c.requires.n_in_bounds) in u))))
 
-pub returns : goal.returns
-returns c =
-    let weights = c.args.check.now.weights.now in
-    let n = c.args.n in
-    c.times.ensures ∙ ap₂ (λ p y. product p (get_or weights n 0) y) c.power.ensures (c.decide-z.ensures.0.0 ∙ ap first_zero (map-id _ ∙ costs-part c.args.check.now.first weights c.args.check.now.costs.now c.args.check.now.ready n c.requires.n_in_bounds c.size-q.result c.size-q.ensures.0))

@@ -6,11 +6,6 @@ use Rattle.trellis.specs.Field.{xor}
 use Rattle.trellis.proofs.Loops.{fill_next}
 use Rattle.sweep.proofs.step.kept.Goals as goal
 
-pub bounds-same-t : goal.bounds-same-t
-unfolding xor
-bounds-same-t c =
-    omega (arith, c.requires.sums.sum c.loop-t.t c.args.s (omega (arith, c.requires.out_len.0)) c.requires.out_len.1)
-
 pub loop-t-preserved : goal.loop-t-preserved
 unfolding xor
 loop-t-preserved c =
