@@ -2,13 +2,13 @@
 use mathlib.Core.Path.{◌≡◌, refl, sym, ap, ap₂, ◌∙◌}
 use mathlib.Core.Bool.{Bool, true, false}
 use mathlib.Core.List.{List, [], ◌∷◌, ◌++◌, append_assoc, append-nil}
-use Prim.Native.Nat.{ℕ, zero, suc, ◌+◌, ◌-◌, ◌*◌, ◌≤◌, ◌<◌, min}
-use native.Mathlib.Nat.{suc-mul, zero-mul, add-sub_cancel_left, eq-or-lt_of_le}
+use Prim.Native.Nat.{ℕ, zero, suc, ◌+◌, ◌-◌, ◌*◌, ◌≤◌, ◌<◌}
+use native.Mathlib.Nat.{suc-mul, zero-mul, eq-or-lt_of_le}
 use native.Mathlib.Numerals.{add-one}
 use native.Mathlib.Omega.{arith}
 use mathlib.Core.Logic.{⊎_elim}
 use lib.Dec.{ltb}
-use lib.ListN.{length, get_or, set, take, drop, length-append, length-drop, length-take, drop_of_length-le}
+use lib.ListN.{length, get_or, set, take, drop, length-append, drop_of_length-le}
 use lib.Seq.{drop-cons, set_at, append_snoc, take_at, drop_at, drop-drop, drop-length, take_all}
 use Rattle.trellis.specs.Lists.{pick, blocks}
 use Rattle.sweep.specs.inner.Groups.{lowest_to, pair_above, pair_count, unused_pair, group_by}
@@ -22,32 +22,10 @@ two_sets X l u v at e h =
     rw (s, t, a, set_at X (get_or l at 0) (get_or l (suc at) 0 ∷ drop (suc (suc at)) l) u at e, ← append_snoc X u (get_or l (suc at) 0 ∷ drop (suc (suc at)) l))
     (set_at (X ++ (u ∷ [])) (get_or l (suc at) 0) (drop (suc (suc at)) l) v (suc at) m ∙ append_assoc X (u ∷ []) (v ∷ drop (suc (suc at)) l) ∙ sym (append_assoc X (u ∷ v ∷ []) (drop (suc (suc at)) l)))
 
-pub two_of_lem : (l : List ℕ) (u v : ℕ) → length l ≡ 2 → set (set l 0 u) 1 v ≡ u ∷ v ∷ []
-two_of_lem [] u v h = absurd (omega arith)
-two_of_lem (x ∷ []) u v h = absurd (omega arith)
-two_of_lem (x ∷ y ∷ []) u v h = refl
-two_of_lem (x ∷ y ∷ z ∷ l) u v h = absurd (omega arith)
-
-pub lowest_turn : (f : ℕ → ℕ) (x : ℕ) {e r v : ℕ} → e ≡ lowest_to f x → v ≡ f x → r ≡ min e v → r ≡ lowest_to f (x + 1)
-lowest_turn f x a b o = o ∙ rw (a, b, add-one x)
-
 -- blocks that are w long as far as they are written
 pub length-blocks_to : (f : ℕ → List ℕ) (w n : ℕ) → ((j : ℕ) → j < n → length (f j) ≡ w) → length (blocks f n) ≡ n * w
 length-blocks_to f w zero h = sym (zero-mul w)
 length-blocks_to f w (suc n) h = length-append (blocks f n) (f n) ∙ ap₂ ◌+◌ (length-blocks_to f w n (λ j l. h j (omega arith))) (h n (omega arith)) ∙ sym (suc-mul n w)
-
-pub block_turn : (f : ℕ → List ℕ) (w : ℕ) (l out : List ℕ) (i : ℕ) {r : List ℕ} → length (blocks f i) ≡ i * w → out ≡ blocks f i ++ drop (i * w) l → r ≡ f i
-    → take (i * w) out ++ (r ++ drop (i * w + w - i * w) (drop (i * w) out)) ≡ blocks f (i + 1) ++ drop ((i + 1) * w) l
-block_turn f w l out i n e g =
-    let a : i * w + w - i * w ≡ w = add-sub_cancel_left (i * w) w in
-    let b : (i + 1) * w ≡ i * w + w = rw (add-one i) (suc-mul i w) in
-    let t : take (i * w) (blocks f i ++ drop (i * w) l) ≡ blocks f i = take_at (blocks f i) (drop (i * w) l) (i * w) n in
-    let d : drop (i * w) (blocks f i ++ drop (i * w) l) ≡ drop (i * w) l = drop_at (blocks f i) (drop (i * w) l) (i * w) n in
-    let k : drop w (drop (i * w) l) ≡ drop (i * w + w) l = drop-drop w (i * w) l in
-    rw (e, g, a, b, t, d, k, add-one i) (sym (append_assoc (blocks f i) (f i) _))
-
-pub block_last : (f : ℕ → List ℕ) (w : ℕ) (l out : List ℕ) (i : ℕ) → out ≡ blocks f i ++ drop (i * w) l → length l ≡ i * w → out ≡ blocks f i
-block_last f w l out i e h = rw (e, ← h, drop-length) (append-nil (blocks f i))
 
 module _ (e : ℕ) (S : ℕ → ℕ) where
   pub pair_length : (n : ℕ) → length (blocks (pair_above e S) n) ≡ pair_count e S n * 2
@@ -129,18 +107,3 @@ group-done k d S (x ∷ out) e n c {r} {s} l m a b g o u =
     let q : drop (c * 2) (B ++ drop (C * 2) out) ≡ drop (C * 2) out = drop_at B (drop (C * 2) out) (c * 2) v in
     let j : drop (n - suc (c * 2)) (drop (C * 2) out) ≡ [] = drop-drop (n - suc (c * 2)) (C * 2) out ∙ drop_of_length-le out {i = C * 2 + (n - suc (c * 2))} (omega (arith, ap (λ y. y * 2) b)) in
     rw (w, f, p, q, j, u, append-nil (blocks unused_pair (k - c)), b) (group-last k d S e a)
-
--- what is left behind the pairs
-pub group-rest : (k d : ℕ) (S : ℕ → ℕ) (out : List ℕ) (e n c : ℕ) {r : List ℕ} → length out ≡ 1 + 2 * k → n ≡ length out → c ≡ pair_count e S d → c ≤ k
-    → r ≡ blocks (pair_above e S) d ++ drop (pair_count e S d * 2) (take (n - 1) (drop 1 (set out 0 e)))
-    → length (take (n - (1 + c * 2)) (drop (1 + c * 2) (take 1 (set out 0 e) ++ (r ++ drop (n - 1) (drop 1 (set out 0 e)))))) ≡ (k - c) * 2
-group-rest k d S [] e n c l m b g o = absurd (omega arith)
-group-rest k d S (x ∷ out) e n c {r} l m b g o =
-    let N : n - 1 ≡ length out = omega arith in
-    let t : take (n - 1) out ≡ out = take_all (n - 1) out (omega arith) in
-    let z : drop (n - 1) out ≡ [] = ap (λ y. drop y out) N ∙ drop-length out in
-    let w : 1 + c * 2 ≡ suc (c * 2) = omega arith in
-    let u : length r ≡ 2 * k = ap length (o ∙ ap (λ y. blocks (pair_above e S) d ++ drop (pair_count e S d * 2) y) t) ∙ length-append (blocks (pair_above e S) d) _ ∙ omega (arith, pair_length e S d, length-drop (pair_count e S d * 2) out, ap (λ y. y * 2) b) in
-    let v : length (r ++ []) ≡ 2 * k = ap length (append-nil r) ∙ u in
-    let h : length (drop (c * 2) (r ++ [])) ≡ (k - c) * 2 = length-drop (c * 2) (r ++ []) ∙ omega arith in
-    rw (w, z) (length-take (n - suc (c * 2)) (drop (c * 2) (r ++ [])) ∙ omega arith)

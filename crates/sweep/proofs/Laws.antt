@@ -8,11 +8,10 @@ use native.Mathlib.Numerals.{add-one}
 use native.Mathlib.Omega.{arith}
 use native.Mathlib.Nat.{add-sub_cancel_left, mul-le-mul_right}
 use borrow.Author.Tests.{eq-eqb, ne_eqb}
-use lib.Dec.{eqb}
 use lib.ListN.{replicate, length-replicate, get_or-replicate, length, drop, take, get_or, length-take, length-drop}
 use lib.Seq.{ext_get_or}
 use Rattle.std.proofs.Math.Seq.{take-length}
-use Rattle.trellis.specs.Lists.{pick, tab, part}
+use Rattle.trellis.specs.Lists.{tab, part}
 use Rattle.trellis.specs.Field.{xor, product}
 use Rattle.trellis.specs.Check.{first_zero}
 use Rattle.trellis.specs.Rules.{join_of, power_of, size_of, most_of, greatest_of}
@@ -67,18 +66,7 @@ part_length l a q h = simp (length-take, length-drop) (omega arith)
 below_is : (l : List ℕ) (b q : ℕ) → q ≤ b → take (b - (b - q)) (drop (b - q) l) ≡ part l (b - q) q
 below_is l b q h = let e : b - (b - q) ≡ q = omega arith in rw e
 
-pub below_length : (l : List ℕ) (b q : ℕ) → q ≤ b → b ≤ length l → length (take (b - (b - q)) (drop (b - q) l)) ≡ q
-below_length l b q h k = simp (length-take, length-drop) (omega arith)
-
 module _ (g : Bool) (q : ℕ) (row moves cells : List ℕ) (s : ℕ) where
-  pub count-length : (j : ℕ) → length (count_cells g q row moves cells s j) ≡ q
-  unfolding count_cells
-  count-length j = go (eqb j 0)
-    where
-      go : (b : Bool) → length (pick b (tab (λ t. get_or (take q cells) (xor t s) 0) q) (tab (layer_at g row moves (part cells (j * q - q) q) (part cells (j * q) q) s) q)) ≡ q
-      go true = length-tab _ q
-      go false = length-tab _ q
-
   pub count-first : (j n : ℕ) {out : List ℕ} → j ≡ 0 → n ≡ q → out ≡ tab (λ t. get_or (take q cells) (xor t s) 0) n → out ≡ count_cells g q row moves cells s j
   unfolding count_cells
   count-first j n e u o = rw (eq-eqb _ _ e) (o ∙ ap (tab (λ t. get_or (take q cells) (xor t s) 0)) u)

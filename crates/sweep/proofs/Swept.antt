@@ -17,13 +17,13 @@ use Rattle.trellis.specs.Rules.{join_of, rule_of, rule_for, power_of, size_of, m
 use Rattle.trellis.specs.Ready.{Ready}
 use Rattle.trellis.specs.Sweep.{mark, swept, least_to, stepped, across, joined}
 use Rattle.trellis.proofs.Xor.{xor_lt}
-use Rattle.trellis.proofs.Loops.{length-tab, get_d_tab, tab_ext, tab-front, blocks_ext, blocks-front, length-even, block_more, block-end}
+use Rattle.trellis.proofs.Loops.{length-tab, get_d_tab, tab_ext, tab-front, blocks_ext, blocks-front, length-even, block_more}
 use Rattle.trellis.proofs.Rules.{most-few}
 use Rattle.trellis.proofs.Sent.{Proper, sent-one, symbol}
 use Rattle.trellis.proofs.Ready.{length-columns, column-at, costs-length, ready-high, ready_proper}
 use Rattle.trellis.proofs.Sweep.{swept_none, swept-before, swept-after}
 use Rattle.checknode.specs.inner.Asks.{Times}
-use Rattle.field.proofs.Blocks.{block_at, part_room}
+use Rattle.field.proofs.Blocks.{block_at}
 use Rattle.checknode.proofs.Turns.{ready-times, part_is}
 use Rattle.sweep.specs.Kept.{cell_count}
 use Rattle.sweep.specs.inner.Cells.{cells_of, move_cost, deviation_at, layer_at, count_cells, step_cells, Sized, step_by, order_of, turns_of, cells_after}
@@ -167,9 +167,6 @@ module _ (f : ℕ) (ws cs : List ℕ) (D : Ready f ws cs) where
       omega (arith, mul-le-mul b a)
 
   module _ (n : ℕ) (h : n < length ws) (q : ℕ) (e : q ≡ size_of f) where
-    pub costs-room : n * q + q ≤ length cs
-    costs-room = omega (arith, part_room n (length ws) q h, ap (λ y. length ws * y) e, D.count)
-
     pub sized_of : {row moves : List ℕ} → length row ≡ size_of f → length moves ≡ size_of f → Sized (size_of f) (take (n * q + q - n * q) (drop (n * q) cs)) row moves
     sized_of r m =
         rw (part_is f ws cs D n h q e)
@@ -247,6 +244,3 @@ module _ (f : ℕ) (ws cs : List ℕ) (D : Ready f ws cs) where
       next-length table {r} h o =
           let n : length r ≡ w = ap length o ∙ full i in
           simp (length-append, length-take, length-drop) (omega arith)
-
-      pub table-end : (table : List ℕ) (d : ℕ) → table ≡ blocks kept i ++ drop (i * w) table → i ≡ d → length table ≡ d * w → table ≡ blocks kept d
-      table-end table d t u h = block-end kept w full table table i t (h ∙ ap (λ y. y * w) (sym u)) ∙ ap (blocks kept) u

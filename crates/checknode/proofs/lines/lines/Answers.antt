@@ -1,20 +1,11 @@
-use mathlib.Core.Path.{◌≡◌, refl, ◌∙◌}
 use Prim.Native.Nat.{◌<◌}
 use native.Mathlib.Omega.{arith}
 use borrow.Author.Rules.{rules}
 use lib.ListN.{length, length-take, length-drop}
 use Rattle.trellis.specs.Rules.{power_of}
-use Rattle.engine.specs.inner.Terms.{term_of}
-use Rattle.checknode.specs.inner.Lines.{rests_of}
-use Rattle.trellis.proofs.Loops.{tab_whole, block-end}
 use Rattle.checknode.proofs.Turns.{term_turn, out_turn, sum_turn}
-use Rattle.checknode.proofs.Lining.{rests_full, lines_room, column-room, column_turn, line_turn, line-cleared, lines_turn}
-use native.Mathlib.Nat.{zero-mul}
+use Rattle.checknode.proofs.Lining.{lines_room, column-room, column_turn, line_turn, line-cleared, lines_turn}
 use Rattle.checknode.proofs.lines.lines.Goals as goal
-
-pub loop-n-init : goal.loop-n-init
-loop-n-init c =
-    ((refl, refl), (rw (zero-mul c.args.l) refl, (refl, refl)))
 
 pub slice_bounds-column-end-in-loop-n : goal.slice_bounds-column-end-in-loop-n
 slice_bounds-column-end-in-loop-n c =
@@ -35,17 +26,3 @@ loop-n-preserved c =
     let t = term_turn f ws cs c.args.check.now.ready n h _ c.size-q.ensures.0 (column_turn c.args.check.now.first c.args.l c.args.check.now.weights.now c.args.check.now.costs.now c.args.rows.now c.args.lines.now c.args.out.now c.args.check.now.ready c.requires.rows_value n h c.size-q.result c.size-q.ensures.0 c.column-s.ensures.term) in
     let o = line_turn c.args.check.now.first c.args.l c.args.check.now.weights.now c.args.check.now.costs.now c.args.rows.now c.args.lines.now c.args.out.now c.args.check.now.ready c.requires.rows_value n h c.size-q.result c.size-q.ensures.0 (line-cleared (power_of c.args.check.now.first) c.args.check.now.weights.now c.args.check.now.costs.now c.args.l c.loop-n.n c.args.lines.now c.loop-n.lines c.requires.lines_room.cleared c.loop-n.invariant.1.0) c.column-s.ensures.line_then in
     ((search rules, search rules), (lines_turn f ws cs c.args.l n c.args.check.now.ready h _ c.args.lines.now c.loop-n.lines c.size-q.ensures.0 c.loop-n.invariant.1.0 c.requires.lines_room.of_lines c.loop-n.invariant.0.0 o, (out_turn f ws cs c.args.check.now.ready n h c.loop-n.out c.args.out.now (omega (arith, c.requires.lines_room.of_out)) c.loop-n.invariant.1.1.0 t, sum_turn f ws cs c.args.check.now.ready n h c.loop-n.invariant.1.1.1 t)))
-
-pub returns : goal.returns
-returns c =
-    let p = power_of c.args.check.now.first in
-    let ws = c.args.check.now.weights.now in
-    let cs = c.args.check.now.costs.now in
-    let l = c.args.l in
-    let e : c.loop-n.n ≡ length ws = omega arith in
-    let f = c.requires.lines_room.of_out in
-    record {
-      sum = cc;
-      lines_then = rw e at (block-end (rests_of p ws cs l) l (rests_full p ws cs l) c.args.lines.now c.loop-n.lines c.loop-n.n c.loop-n.invariant.1.0 (rw e c.requires.lines_room.of_lines));
-      out_then = c.loop-n.invariant.1.1.0 ∙ rw (e, ← f) (tab_whole (term_of p ws cs) c.args.out.now);
-    }

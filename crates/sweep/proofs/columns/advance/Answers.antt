@@ -1,11 +1,8 @@
 -- The rule's numbers are those of the first byte; the column's products and costs make one step.
-use mathlib.Core.Path.{refl, ap, ◌∙◌, sym, subst}
-use Prim.Native.Nat.{◌^◌}
+use mathlib.Core.Path.{refl, ap, ◌∙◌}
 use native.Mathlib.Omega.{arith}
 use Rattle.rules.specs.declared.Rule.{Rule}
 use Rattle.sweep.proofs.Laws.{step_asks, step-done}
-use Rattle.checknode.specs.inner.Asks.{Times}
-use Rattle.sweep.specs.inner.Cells.{Sized}
 use Rattle.sweep.proofs.columns.advance.Goals as goal
 
 pub invariant_of-column : goal.invariant_of-column

@@ -2,7 +2,6 @@
 use mathlib.Core.Path.{ap, ap₂, ◌∙◌}
 use Rattle.std.proofs.lemmas.List.{map-id}
 use Rattle.trellis.specs.Check.{first_zero}
-use native.Mathlib.Omega.{arith}
 use Rattle.trellis.specs.Lists.{tab}
 use Rattle.sweep.specs.inner.Cells.{move_cost}
 use Rattle.checknode.proofs.Lining.{column-term}

@@ -9,8 +9,7 @@ use Rattle.trellis.specs.Ready.{Ready}
 use Rattle.sweep.specs.Kept.{cell_count}
 use Rattle.sweep.specs.inner.Cells.{is_back}
 use Rattle.field.proofs.Blocks.{part_room}
-use Rattle.sweep.proofs.Laws.{part_length}
-use Rattle.sweep.proofs.Swept.{cells_some, table-start, start-length, table_turn, table_copied, table-next, next-length, table-end}
+use Rattle.sweep.proofs.Swept.{cells_some, table-start, start-length, table_turn, table_copied, table-next, next-length}
 use Rattle.sweep.proofs.columns.fill.Goals as goal
 
 pub begin-requires : goal.begin-requires
@@ -56,4 +55,3 @@ loop-i-preserved c =
     let k = table_turn first ws cs ready back i some w count c.order.result below n (c.order.ensures.1) copied c.turn.ensures in
     let m = next-length first ws cs ready back i some w count t in_table k in
     (omega (arith, c.copy_from_slice.auto, inv.0), (m ∙ inv.1.0, table-next first ws cs ready back i some w count t inv.1.1 k))
-

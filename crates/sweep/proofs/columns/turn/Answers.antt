@@ -1,10 +1,7 @@
 -- The column's costs are a part of all costs, and the room's parts are as long as the field.
-use mathlib.Core.Path.{ap, ◌∙◌}
 use native.Mathlib.Omega.{arith}
-use lib.ListN.{get_or, length-take}
-use Rattle.trellis.specs.Rules.{power_of, most_of, greatest_of}
-use Rattle.sweep.specs.inner.Cells.{step_by}
-use Rattle.checknode.proofs.Turns.{part_is as costs-part, ready-times}
+use lib.ListN.{length-take}
+use Rattle.checknode.proofs.Turns.{ready-times}
 use Rattle.sweep.proofs.Swept.{sized_of, size-limit}
 use Rattle.sweep.proofs.columns.turn.Goals as goal
 

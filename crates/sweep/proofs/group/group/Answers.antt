@@ -1,10 +1,10 @@
 -- E, then the pairs of the columns above it, and unused pairs up to k of them.
-use mathlib.Core.Path.{◌≡◌, ap, ◌∙◌, sym}
+use mathlib.Core.Path.{◌≡◌}
 use Prim.Native.Nat.{◌≤◌}
 use native.Mathlib.Omega.{arith}
 use lib.ListN.{length, set, length-set, length-take, length-drop}
 use Rattle.sweep.specs.inner.Groups.{sent_of, pair_count}
-use Rattle.sweep.proofs.Grouping.{pair_length, group-full, group-done, group-rest}
+use Rattle.sweep.proofs.Grouping.{pair_length, group-done}
 use Rattle.sweep.proofs.group.group.Goals as goal
 
 pub pairs-c-requires : goal.pairs-c-requires

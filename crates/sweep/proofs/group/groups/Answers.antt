@@ -7,7 +7,6 @@ use Prim.Native.Nat.{◌+◌, ◌-◌, ◌*◌, ◌<◌}
 use native.Mathlib.Omega.{arith}
 use Rattle.sweep.specs.inner.Groups.{sent_of, group_by}
 use Rattle.field.proofs.Blocks.{part_room}
-use Rattle.sweep.proofs.Laws.{part_length}
 use Rattle.sweep.proofs.Grouping.{group-full}
 use Rattle.sweep.proofs.group.groups.Goals as goal
 

@@ -1,10 +1,8 @@
-use mathlib.Core.Path.{◌≡◌, refl, ap, ◌∙◌}
-use mathlib.Core.List.{◌++◌}
+use mathlib.Core.Path.{refl}
 use Prim.Native.Nat.{◌*◌, ◌≤◌}
 use native.Mathlib.Omega.{arith}
-use lib.ListN.{length, drop}
-use Rattle.trellis.specs.Lists.{blocks}
-use Rattle.sweep.specs.inner.Groups.{sent_of, pair_above, pair_count}
+use lib.ListN.{length}
+use Rattle.sweep.specs.inner.Groups.{sent_of, pair_count}
 use Rattle.sweep.proofs.Grouping.{pair_length, pair_room, count_small, count_turn, pair_turn}
 use Rattle.sweep.proofs.group.pairs.Goals as goal
 
@@ -25,4 +23,3 @@ loop-n-preserved c =
     let a = c.args.a in
     let e = c.args.e in
     (omega (arith, c.put_above-c.auto, c.loop-n.invariant.0), (count_turn e (sent_of sent q a) c.loop-n.n c.loop-n.c c.loop-n.invariant.1.0 refl c.put_above-c.ensures.count, pair_turn e (sent_of sent q a) d c.loop-n.n c.loop-n.c c.args.out.now c.loop-n.out c.loop-n-test.true (omega (arith, c.requires.d_in_bounds, pair_length e (sent_of sent q a) d)) c.loop-n.invariant.1.0 (cc) refl c.loop-n.invariant.1.1 c.put_above-c.ensures.out_then))
-

@@ -1,12 +1,10 @@
-use mathlib.Core.Path.{◌≡◌, ap, ◌∙◌, sym}
+use mathlib.Core.Path.{◌≡◌, ap, ◌∙◌}
 use Prim.Native.Nat.{◌*◌}
 use native.Mathlib.Omega.{arith}
 use Rattle.trellis.specs.Lists.{part}
 use Rattle.trellis.specs.Sweep.{least_to}
 use Rattle.sweep.specs.inner.Joins.{across_at, beside_at}
 use Rattle.trellis.proofs.Sweep.{least_to-mark}
-use Rattle.field.proofs.Blocks.{part_room}
-use Rattle.sweep.proofs.Laws.{least_turn, cut_is, part_length}
 use Rattle.sweep.proofs.join.beside.Goals as goal
 
 pub returns : goal.returns

@@ -3,7 +3,7 @@ use mathlib.Core.Path.{◌≡◌, ap, ap₂, ◌∙◌, sym}
 use mathlib.Core.List.{List, ◌++◌}
 use Prim.Native.Nat.{ℕ, ◌+◌, ◌-◌, ◌*◌, ◌<◌}
 use native.Mathlib.Omega.{arith}
-use lib.ListN.{length, take, get_or, length-append, length-take, length-drop}
+use lib.ListN.{length, take, get_or}
 use lib.Seq.{take_at}
 use lib.Pow.{pow_pos}
 use native.Mathlib.Nat.{mul_comm}

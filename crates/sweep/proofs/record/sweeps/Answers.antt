@@ -1,5 +1,4 @@
 -- Each sweep leaves its table; what stands in a table is kept.
-use native.Mathlib.Omega.{arith}
 use Rattle.sweep.proofs.Sending.{kept_tables}
 use Rattle.sweep.proofs.record.sweeps.Goals as goal
 

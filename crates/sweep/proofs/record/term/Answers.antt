@@ -1,10 +1,8 @@
 use Rattle.std.proofs.lemmas.List.{map-id}
 -- The decision is a symbol of the field, so the product is not refused.
-use mathlib.Core.Path.{ap, ap₂, ◌∙◌}
+use mathlib.Core.Path.{ap, ◌∙◌}
 use Prim.Native.Nat.{◌<◌}
 use native.Mathlib.Omega.{arith}
-use lib.ListN.{get_or}
-use Rattle.trellis.specs.Field.{product}
 use Rattle.trellis.specs.Check.{first_zero}
 use Rattle.trellis.specs.Rules.{size_of}
 use Rattle.trellis.proofs.Ready.{ready-low, ready-high}
@@ -27,4 +25,3 @@ times-requires c =
     let first = c.args.check.now.first in
     let n = c.args.n in
     rw c.power.ensures (ready-low first weights costs c.args.check.now.ready, (ready-high first weights costs c.args.check.now.ready, (c.args.check.now.ready.weight-small n c.requires.n_in_bounds, (let u : c.decide-z.result.symbol < size_of first = rw (c.decide-z.ensures.0.0 ∙ ap first_zero (map-id _ ∙ costs-part first weights costs c.args.check.now.ready n c.requires.n_in_bounds c.size-q.result c.size-q.ensures.0)) (c.args.check.now.ready.zeros n c.requires.n_in_bounds) in u))))
-

@@ -1,9 +1,8 @@
 -- The test decides between the two cases of the definition; each part has q costs.
-use mathlib.Core.Path.{◌≡◌, refl, sym}
-use Prim.Native.Nat.{◌*◌}
+use mathlib.Core.Path.{◌≡◌, refl}
 use native.Mathlib.Omega.{arith}
 use lib.ListN.{length, take, length-take}
-use Rattle.sweep.proofs.Laws.{sums_same, past_first, part_length, below_length, count-first, count-later}
+use Rattle.sweep.proofs.Laws.{count-first, count-later}
 use Rattle.sweep.proofs.step.count.Goals as goal
 
 pub returns-then-j-eq0 : goal.returns-then-j-eq0

@@ -1,12 +1,9 @@
 use native.Mathlib.Omega.{arith}
-use mathlib.Core.Path.{◌≡◌, ap, ◌∙◌}
+use mathlib.Core.Path.{◌≡◌}
 use Prim.Native.Nat.{◌+◌, ◌*◌}
-use borrow.Author.Rules.{rules}
 use lib.ListN.{length}
 use Rattle.sweep.specs.inner.Cells.{count_cells, step_cells}
-use Rattle.trellis.proofs.Loops.{block_next}
-use Rattle.field.proofs.Blocks.{part_room}
-use Rattle.sweep.proofs.Laws.{part_length, count-length, front_whole}
+use Rattle.sweep.proofs.Laws.{front_whole}
 use Rattle.sweep.proofs.step.step.Goals as goal
 
 pub returns : goal.returns
