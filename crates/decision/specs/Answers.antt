@@ -1,4 +1,4 @@
--- The reply of both calls, which differ in the width of the costs.
+-- The reply, whatever the width of the costs.
 use Rattle.std.specs.Prelude.{◌≡◌, List, ℕ, ◌≤◌, length}
 use Rattle.trellis.specs.Check.{decide}
 use Rattle.decision.specs.declared.answers.Decision.{Decision}

@@ -34,15 +34,3 @@ pub fn decide<C: Cost>(costs: &[C]) -> Decision
         x += 1;
     }
 }
-
-pub fn decide_u8(costs: &[u8]) -> Decision
-    ensures { Decides costs.now result }
-{
-    decide(costs)
-}
-
-pub fn decide_u16(costs: &[u16]) -> Decision
-    ensures { Decides costs.now result }
-{
-    decide(costs)
-}

@@ -11,15 +11,3 @@ pub fn copy<T: Copy>(from: &[T], to: &mut [T])
         to.copy_from_slice(from);
     }
 }
-
-pub fn copy_u8(bytes: &[u8], to: &mut [u8])
-    ensures { to.new ≡ copied_to bytes.now to.old }
-{
-    copy(bytes, to);
-}
-
-pub fn copy_u16(words: &[u16], to: &mut [u16])
-    ensures { to.new ≡ copied_to words.now to.old }
-{
-    copy(words, to);
-}
