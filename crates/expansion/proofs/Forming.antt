@@ -6,9 +6,8 @@ use mathlib.Core.List.{List}
 use Prim.Native.Nat.{ℕ, zero, suc, ◌+◌, ◌-◌, ◌*◌, ◌≤◌, ◌<◌}
 use native.Mathlib.Nat.{mul-le-mul, mul-suc, le_refl}
 use native.Mathlib.Omega.{arith}
-use native.Mathlib.Decide.{dec_le}
-use borrow.Author.Tests.{eq-eqb, ne_eqb, lt-ltb, le-ltb, le-leb, lt-leb}
-use lib.Dec.{ltb, leb}
+use borrow.Author.Tests.{eq-eqb, ne_eqb}
+use lib.Dec.{ltb}
 use lib.ListN.{length, get_or}
 use Rattle.trellis.specs.Lists.{pick, all_to}
 use Rattle.trellis.specs.Record.{record_length, pair_tests, pairs_ok, record_tests, record_ok}
@@ -19,13 +18,6 @@ use Rattle.trellis.specs.Rules.{rule_for, size_of, most_of}
 pub last_test : (b : Bool) → b ≡ pick b true false
 last_test true = refl
 last_test false = refl
-
-pub above_test : (s e : ℕ) → ltb e s ≡ pick (leb s e) false true
-above_test s e =
-    elim (dec_le s e) [
-      | yes h ↦ rw (le-ltb e s h, le-leb s e h)
-      | no h ↦ rw (lt-ltb e s (omega arith), lt-leb s e (omega arith))
-    ]
 
 -- the first of the pairs that are left, with column c, and those after it
 pub pairs-more : (k : ℕ) (r : List ℕ) (at e d low : ℕ) {c : ℕ} (ok : Bool) {b : Bool} → 0 < k → c ≡ get_or r at 0 → b ≡ passes (pair_tests c (get_or r (at + 1) 0) e d low)

@@ -2,7 +2,7 @@
 use mathlib.Core.Path.{◌≡◌, refl, ap, ◌∙◌, sym}
 use mathlib.Core.List.{List, [], ◌∷◌}
 use Prim.Native.Nat.{ℕ, zero, suc, ◌+◌, ◌-◌, ◌*◌, ◌≤◌, ◌<◌}
-use native.Mathlib.Nat.{add-zero, zero-mul, suc-mul, mul-suc, mul-le-mul, mul-le-mul_left, mul-le-mul_right}
+use native.Mathlib.Nat.{add-zero, zero-mul, suc-mul, mul-le-mul, mul-le-mul_right}
 use native.Mathlib.Omega.{arith}
 use lib.Bits.{bit_xor, xor_lt}
 use borrow.Rule.Slice.PartMut.{put_mid}
@@ -21,7 +21,7 @@ use Rattle.std.proofs.lemmas.List.{take-take}
 use Rattle.trellis.specs.Lists.{tab, part}
 use Rattle.trellis.proofs.Loops.{tab-front, tab_ext, length-tab, get_d_tab}
 use Rattle.field.proofs.Blocks.{part_room}
-use Rattle.expansion.specs.inner.Transposed.{every_at, byte_in, beside_in, beside_from, value_in, by_symbol, turned, UnpackRoom, ListsRoom, ShiftRoom, TurnRoom}
+use Rattle.expansion.specs.inner.Transposed.{every_at, byte_in, beside_in, beside_from, ShiftRoom, TurnRoom}
 
 -- one list
 module _ (r : List ℕ) (at g f : ℕ) where
@@ -34,26 +34,6 @@ module _ (r : List ℕ) (at g f : ℕ) where
   unfolding every_at
   every-next zero h = absurd (omega arith)
   every-next (suc b) h = let e : suc b - 1 ≡ b = omega arith in rw e
-
--- all lists
-module _ {k d q : ℕ} {r out : List ℕ} (U : UnpackRoom k d q r out) (i : ℕ) (h : i < 1 + 2 * k) where
-  -- list i's part of the room
-  pub list_room : i * q + q ≤ length out
-  list_room = rw (U.room, ← suc-mul i q) (mul-le-mul_right q h)
-
-  -- its bytes are in the record
-  pub list_inside : (b : ℕ) → b + 1 < q → d + i + (1 + 2 * k) * b < length r
-  list_inside b l =
-      let m : (1 + 2 * k) * suc b ≤ (1 + 2 * k) * (q - 1) = mul-le-mul_left (1 + 2 * k) (omega arith) in
-      omega (arith, U.long, m, mul-suc (1 + 2 * k) b)
-
--- lists of q rows, in room for 64
-module _ (k q : ℕ) (t : List ℕ) (h : q ≤ 64) (room : (1 + 2 * k) * 64 ≤ length t) where
-  pub lists_room : (1 + 2 * k) * q ≤ length t
-  lists_room = omega (arith, mul-le-mul_left (1 + 2 * k) h)
-
-  pub listed : k ≤ 3 → (l : List ℕ) → length l ≡ length t → ListsRoom k q l
-  listed p l e = record { pairs = p; most = h; long = omega (arith, mul-le-mul_left (2 * k) h) }
 
 -- a list's rows from place c on
 from_place : (t : List ℕ) (c m a : ℕ) → a < m → get_or (part t c m) a 0 ≡ get_or t (c + a) 0
@@ -106,9 +86,6 @@ module _ (t : List ℕ) (q k n at m : ℕ) where
       let g : get_or v a 0 ≡ said_from (suc j) a = rw e (get_d_tab (said_from (suc j)) m a i) in
       rw (z, y, p, r, g, from_place t c m a i, from_place t s m a i))
 
-  pub rows_end : (j : ℕ) {v : List ℕ} → j ≡ 0 → v ≡ tab (said_from j) m → v ≡ tab (λ a. value_in k t q n (at + a)) m
-  rows_end j u e = e ∙ tab_ext _ _ m (λ a l. let z : k - j ≡ k = omega arith in rw (z, u))
-
 -- pair j's places
 pub pair_room : (j k q at m : ℕ) (t : List ℕ) → j < k → 2 * k * q + (at + m) ≤ length t → (1 + 2 * j) * q + at + q + m ≤ length t
 pair_room j k q at m t h l =
@@ -152,10 +129,6 @@ kept_beyond row n q k l new h e u d =
 -- one column by symbols, in place
 pub symbol-room : (v : List ℕ) (s x : ℕ) {row : List ℕ} → ShiftRoom row s → length v ≡ length row → x < length row → bit_xor (get_or row x 0) s < length v
 symbol-room v s x {row} S l h = omega (arith, l, S.size, xor_lt S.p (get_or row x 0) s (S.below x h) S.s_below)
-
-pub turned-column : (k q : ℕ) (t r out₀ : List ℕ) (n : ℕ) {l : List ℕ} → l ≡ part out₀ (n * q) q
-    → tab (by_symbol (tab (value_in k t q n) q) l (get_or r n 0)) q ≡ turned k t q r out₀ n
-turned-column k q t r out₀ n e = rw e refl
 
 -- column n's place
 pub columns-room : {d q : ℕ} {r out : List ℕ} → TurnRoom d q r out → (n : ℕ) → n < d → (n * q + q ≤ 2048) × (n * q + q ≤ length out)

@@ -3,7 +3,7 @@ use mathlib.Core.Path.{◌≡◌, sym}
 use Prim.Native.Nat.{ℕ, ◌*◌, ◌/◌, ◌%◌, ◌<◌, ◌≤◌, ◌^◌}
 use native.Mathlib.Omega.{arith}
 use lib.Bits.{bit_xor}
-use borrow.Author.Tests.{eq-eqb, ne_eqb}
+use borrow.Author.Tests.{eq-eqb}
 use Rattle.trellis.specs.Field.{xor, polynomial, doubled}
 use Rattle.trellis.proofs.Recurrence.{size_64}
 
@@ -17,6 +17,3 @@ module _ (p a : ℕ) (h : p ≤ 6) (k : a < 2 ^ p) where
   pub doubled-set : {r : ℕ} → a * 2 % 256 / 2 ^ p % 2 ≡ 1 → r ≡ polynomial p → bit_xor (a * 2 % 256) r ≡ doubled p a
   unfolding xor
   doubled-set e q = rw (shifted p a h k, q) (sym (simp (eq-eqb (a * 2 / 2 ^ p % 2) 1 (rw (shifted p a h k) at e))))
-
-  pub doubled_clear : (a * 2 % 256 / 2 ^ p % 2 ≡ 1 → ⊥) → a * 2 % 256 ≡ doubled p a
-  doubled_clear e = rw (shifted p a h k) (sym (simp (ne_eqb (a * 2 / 2 ^ p % 2) 1 (rw (shifted p a h k) at e))))

@@ -1,10 +1,9 @@
 -- The call rows by its test: when the products fit, and what it leaves.
 use mathlib.Core.Path.{◌≡◌, refl, ◌∙◌, sym}
-use mathlib.Core.Bool.{true, false, ◌&&◌}
-use mathlib.Core.Logic.{◌≢◌}
+use mathlib.Core.Bool.{true, ◌&&◌}
 use mathlib.Core.List.{List}
-use Prim.Native.Nat.{ℕ, ◌*◌, ◌^◌, ◌≤◌, ◌<◌}
-use borrow.Author.Tests.{eq-eqb, ne_eqb, le-leb, lt-leb}
+use Prim.Native.Nat.{ℕ, ◌*◌, ◌^◌, ◌≤◌}
+use borrow.Author.Tests.{eq-eqb, le-leb}
 use lib.Dec.{T, leb, eqb, ltb, leb→le, eqb→eq, ltb→lt, lt→ltb}
 use lib.ListN.{length, get_or}
 use Rattle.trellis.specs.Lists.{blocks}
@@ -12,30 +11,10 @@ use Rattle.trellis.proofs.Tests.{fst_T, snd_T, of_true, to_true, all-at, all_of}
 use Rattle.field.specs.Answers.{elements_ok, row_of, rows_fit, rows_leave}
 use Rattle.field.specs.inner.Asks.{Factors}
 
--- the tests in their order
 module _ (p : ℕ) (ws : List ℕ) (room : ℕ) where
-  pub fits_low : p < 2 → false ≡ rows_fit p ws room
+  fits_last : 2 ≤ p → p ≤ 6 → length ws ≤ 32 → room ≡ length ws * 2 ^ p → elements_ok (2 ^ p) ws ≡ rows_fit p ws room
   unfolding rows_fit
-  fits_low h = sym (rw (lt-leb 2 p h) refl)
-
-  module _ (a : 2 ≤ p) where
-    pub fits-high : 6 < p → false ≡ rows_fit p ws room
-    unfolding rows_fit
-    fits-high h = sym (rw (le-leb 2 p a, lt-leb p 6 h) refl)
-
-    module _ (b : p ≤ 6) where
-      pub fits_many : 32 < length ws → false ≡ rows_fit p ws room
-      unfolding rows_fit
-      fits_many h = sym (rw (le-leb 2 p a, le-leb p 6 b, lt-leb (length ws) 32 h) refl)
-
-      module _ (c : length ws ≤ 32) where
-        pub fits-room : room ≢ length ws * 2 ^ p → false ≡ rows_fit p ws room
-        unfolding rows_fit
-        fits-room h = sym (rw (le-leb 2 p a, le-leb p 6 b, le-leb (length ws) 32 c, ne_eqb room (length ws * 2 ^ p) h) refl)
-
-        pub fits_last : room ≡ length ws * 2 ^ p → elements_ok (2 ^ p) ws ≡ rows_fit p ws room
-        unfolding rows_fit
-        fits_last h = sym (rw (le-leb 2 p a, le-leb p 6 b, le-leb (length ws) 32 c, eq-eqb room (length ws * 2 ^ p) h) refl)
+  fits_last a b c h = sym (rw (le-leb 2 p a, le-leb p 6 b, le-leb (length ws) 32 c, eq-eqb room (length ws * 2 ^ p) h) refl)
 
   -- what is known where they fit
   pub fitting : rows_fit p ws room ≡ true → Factors p ws × (room ≡ length ws * 2 ^ p)
@@ -63,11 +42,7 @@ module _ (p : ℕ) (ws : List ℕ) (room : ℕ) where
 
 -- what the call leaves
 module _ (p : ℕ) (ws out : List ℕ) where
-  pub rows_none : rows_fit p ws (length out) ≡ false → out ≡ rows_leave p ws out
-  unfolding rows_leave
-  rows_none e = sym (rw e refl)
-
-  pub rows_done : rows_fit p ws (length out) ≡ true → blocks (row_of p ws) (length ws) ≡ rows_leave p ws out
+  rows_done : rows_fit p ws (length out) ≡ true → blocks (row_of p ws) (length ws) ≡ rows_leave p ws out
   unfolding rows_leave
   rows_done e = sym (rw e refl)
 

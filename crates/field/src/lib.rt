@@ -37,6 +37,7 @@ pub fn validate_weights(first: u8, weights: &[u8]) -> Result<(), Refusal>
 
 // The products of each weight with every symbol, 2 ^ p bytes a weight, end to end. Nothing changes where p is not 2 to 6, where there
 // are more than 32 weights, where a weight is no element, or where out has another length than these products.
+#[tactic(auto, unfolding(crate::specs::Answers::rows_leave))]
 pub fn rows(p: u8, weights: &[u8], out: &mut [u8])
     ensures { out.new ≡ rows_leave p weights.now out.old }
 {

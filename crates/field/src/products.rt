@@ -41,6 +41,7 @@ fn by_bits(p: u8, h: u8, row: &mut [u8])
 }
 
 // The products of x to x + 3 from that of x, a multiple of four: the two lowest bits add h and b, which is h doubled.
+#[tactic(auto, unfolding(trellis::specs::Field::xor))]
 fn put_four(base: u8, h: u8, b: u8, row: &mut [u8])
     requires { length row.old ≡ 4 }
     ensures { row.new ≡ base ∷ xor base h ∷ xor base b ∷ xor base (xor h b) ∷ [] }

@@ -1,10 +1,7 @@
 -- The products fill out, and the columns turned from them are the expansion.
 use Prim.Native.Nat.{◌+◌}
 use mathlib.Core.Path.{◌≡◌, ap, ◌∙◌}
-use native.Mathlib.Omega.{arith}
-use lib.Pow.{pow_pos}
 use Rattle.trellis.specs.Rules.{power_of, most_of}
-use Rattle.trellis.proofs.Rules.{most-few}
 use Rattle.trellis.proofs.Records.{expansion-join}
 use Rattle.rules.specs.declared.Rule.{Rule}
 use Rattle.field.specs.Answers.{rows_leave}
@@ -12,14 +9,9 @@ use Rattle.field.proofs.RowsCall.{rows_filled}
 use Rattle.expansion.proofs.Expanding.{factors, turnable, turned_is}
 use Rattle.expansion.proofs.expansion.expand_in.Goals as goal
 
-pub in_room-requires : goal.in_room-requires
-in_room-requires c =
-    let f = c.args.first in let k : c.from.result ≡ most_of f = (c.from.ensures ∙ ap (λ (r : Rule). r.k) c.rule_of-rule.ensures) in
-    record {
-      k_bound = rw k ((most-few f, ((rw c.requires.q_le_most_size.1.0 (pow_pos (power_of f)), c.requires.q_le_most_size.0), rw c.requires.q_le_most_size.1.0 c.requires.expand_room.long)));
-      most_size_in_bounds = rw k (omega (arith, most-few f));
-      turn_room = (turnable c.requires.expand_room c.args.q c.requires.q_le_most_size.1.0 _ (c.rows.ensures ∙ ap (λ p. rows_leave p c.args.weights.now c.args.out.now) (ap (λ (r : Rule). r.p) c.rule_of-rule.ensures) ∙ rows_filled (power_of c.args.first) c.args.weights.now c.args.out.now (factors c.requires.expand_room) c.requires.q_le_most_size.1.1));
-    }
+pub in_room-requires-clause-turn_room : goal.in_room-requires-clause-turn_room
+in_room-requires-clause-turn_room c =
+    (turnable c.requires.expand_room c.args.q c.requires.q_le_most_size.1.0 _ (c.rows.ensures ∙ ap (λ p. rows_leave p c.args.weights.now c.args.out.now) (ap (λ (r : Rule). r.p) c.rule_of-rule.ensures) ∙ rows_filled (power_of c.args.first) c.args.weights.now c.args.out.now (factors c.requires.expand_room) c.requires.q_le_most_size.1.1))
 
 pub returns : goal.returns
 returns c =

@@ -13,10 +13,6 @@ use Rattle.field.proofs.field.times.Goals.{then-left-eq1, else-left-eq1}
 pub loop-left-init : goal.loop-left-init
 loop-left-init c = (c.requires.1.1.0, (c.requires.1.1.1, xor-zero _))
 
-pub double-factor-requires : goal.double-factor-requires
-double-factor-requires c =
-    (c.requires.0, (c.requires.1.0, c.loop-left.invariant.0))
-
 pub loop-left-preserved : goal.loop-left-preserved
 unfolding xor
 loop-left-preserved c =
