@@ -3,7 +3,8 @@
 #![tactic(auto)]
 
 ghost use Rattle.std.specs.Prelude.{◌≡◌, ◌≤◌};
-ghost use Rattle.field.specs.Answers.{element_reply, product_reply, written_reply};
+ghost use Rattle.refusal.specs.Replies.{reply_of};
+ghost use Rattle.field.specs.Answers.{product_reply};
 ghost use Rattle.checknode.specs.Answers.{check_reply, check_leaves};
 ghost use Rattle.expansion.specs.Answers.{expand_reply, expand_leaves};
 ghost use Rattle.display.specs.Answers.{display_reply, display_leaves};
@@ -25,86 +26,78 @@ ghost use Rattle.petsivola.specs.Packed.{Packs, outcome_reply};
 
 use channels::answers::Served;
 use codeline::answers::Summary;
-use field::{Element, Written};
-use layered::answers::{Answer, Outcome};
+use layered::answers::Outcome;
+use refusal::Refusal;
 use window::registers::Registers;
 
-fn of_element(e: Element) -> u32
-    ensures { Packs result (element_reply e) }
+// A product or how many bytes were written; a refusal's number in the upper half.
+fn packed(answer: Result<usize, Refusal>) -> u32
+    requires { (reply_of answer).value ≤ most_line_bytes }
+    ensures { Packs result (reply_of answer) }
 {
-    match e {
-        Element::Is(x) => x as u32,
-        Element::Refused(k) => (k as u32) * 65536,
+    match answer {
+        Ok(n) => n as u32,
+        Err(refusal) => u32::from(u8::from(refusal)) * 65536,
     }
 }
 
-fn of_written(written: Written) -> u32
-    requires { (written_reply written).value ≤ most_line_bytes }
-    ensures { Packs result (written_reply written) }
+fn of_outcome(outcome: Outcome) -> u32
+    ensures { Packs result (outcome_reply outcome) }
 {
-    match written {
-        Written::Bytes(n) => n as u32,
-        Written::Refused(k) => (k as u32) * 65536,
+    match outcome {
+        Outcome::Found(t) => u32::from(t),
+        Outcome::NotFound(t) => 65536 + u32::from(t),
     }
 }
 
-fn of_outcome(o: Outcome) -> u32
-    ensures { Packs result (outcome_reply o) }
+fn of_answer(answer: Result<Outcome, Refusal>) -> u32
+    ensures { Packs result (answer_reply answer) }
 {
-    match o {
-        Outcome::Found(t) => t as u32,
-        Outcome::NotFound(t) => 65536 + (t as u32),
-    }
-}
-
-fn of_answer(a: Answer) -> u32
-    ensures { Packs result (answer_reply a) }
-{
-    match a {
-        Answer::Decoded(o) => of_outcome(o),
-        Answer::Refused(k) => (k as u32) * 65536,
+    match answer {
+        Ok(outcome) => of_outcome(outcome),
+        Err(refusal) => packed(Err(refusal)),
     }
 }
 
 pub fn petsivola_product(p: u8, a: u8, b: u8) -> u32
     ensures { Packs result (product_reply p a b) }
 {
-    of_element(field::product(p, a, b))
+    packed(field::product(p, a, b).map(usize::from))
 }
 
 pub fn petsivola_check(first: u8, weights: &[u8], costs: &[u8], out: &mut [u8]) -> u32
     ensures reply { Packs result (check_reply first weights.now costs.now out.old) }
     ensures out_then { out.new ≡ check_leaves first weights.now costs.now out.old }
 {
-    of_written(checknode::check(first, weights, costs, out))
+    packed(checknode::check(first, weights, costs, out))
 }
 
 pub fn petsivola_sweep(first: u8, weights: &[u8], costs: &[u8], out: &mut [u8]) -> u32
     ensures reply { Packs result (check_reply first weights.now costs.now out.old) }
     ensures out_then { out.new ≡ check_leaves first weights.now costs.now out.old }
 {
-    of_written(sweep::sweep(first, weights, costs, out))
+    packed(sweep::sweep(first, weights, costs, out))
 }
 
 pub fn petsivola_expand(first: u8, weights: &[u8], bytes: &[u8], out: &mut [u8]) -> u32
     ensures reply { Packs result (expand_reply first weights.now bytes.now out.old) }
     ensures out_then { out.new ≡ expand_leaves first weights.now bytes.now out.old }
 {
-    of_written(expansion::expand(first, weights, bytes, out))
+    packed(expansion::expand(first, weights, bytes, out))
 }
 
 pub fn petsivola_display(first: u8, weights: &[u8], bytes: &[u8], out: &mut [u8]) -> u32
     ensures reply { Packs result (display_reply first weights.now bytes.now out.old) }
     ensures out_then { out.new ≡ display_leaves first weights.now bytes.now out.old }
 {
-    of_written(display::display(first, weights, bytes, out))
+    packed(display::display(first, weights, bytes, out))
 }
 
 pub fn petsivola_line(text: &[u8], out: &mut [u8]) -> u32
     ensures reply { Packs result (line_reply text.now out.old) }
     ensures out_then { out.new ≡ line_leaves text.now out.old }
 {
-    of_written(text::line(text, out))
+    packed(text::line(text, out))
 }
 
 pub fn petsivola_code_line(code: &[u8]) -> Summary
@@ -169,7 +162,7 @@ pub fn petsivola_encode(code: &[u8], message: &[u8], symbols: &mut [u8]) -> u32
     ensures reply { Packs result (encoding code.now message.now symbols.old).reply }
     ensures symbols_then { symbols.new ≡ (encoding code.now message.now symbols.old).out }
 {
-    of_written(encoder::encode(code, message, symbols))
+    packed(encoder::encode(code, message, symbols))
 }
 
 pub fn petsivola_window_write(
@@ -202,10 +195,7 @@ pub fn petsivola_window_read(window: Registers, address: u8) -> u8
 pub fn petsivola_window_interrupt(window: Registers) -> u8
     ensures { result ≡ pick (interrupt (bytes_of window)) 1 0 }
 {
-    if window::interrupt(window) {
-        return 1;
-    }
-    0
+    u8::from(window::interrupt(window))
 }
 
 pub fn petsivola_channels(
@@ -232,5 +222,5 @@ pub fn petsivola_combine(code: &[u8], first: &[u8], second: &[u8], out: &mut [u8
     ensures out_then { out.new
         ≡ (combining code.now first.now second.now out.old).out }
 {
-    of_written(combiner::combine(code, first, second, out))
+    packed(combiner::combine(code, first, second, out))
 }

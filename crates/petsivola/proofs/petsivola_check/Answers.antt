@@ -6,12 +6,12 @@ use Rattle.checknode.proofs.Values.{check-short}
 use Rattle.petsivola.specs.Packed.{Packs}
 use Rattle.petsivola.proofs.petsivola_check.Goals as goal
 
-pub of_written-requires : goal.of_written-requires
-of_written-requires c = rw c.check.ensures.reply (le_trans (check-short _ _ _ _) (omega arith))
+pub packed-requires : goal.packed-requires
+packed-requires c = rw c.check.ensures.reply (le_trans (check-short _ _ _ _) (omega arith))
 
 pub returns : goal.returns
 returns c =
     record {
-      reply = subst (Packs _) c.check.ensures.reply c.of_written.ensures;
+      reply = subst (Packs _) c.check.ensures.reply c.packed.ensures;
       out_then = c.check.ensures.out_then;
     }

@@ -6,12 +6,12 @@ use Rattle.display.proofs.Refusals.{display_short}
 use Rattle.petsivola.specs.Packed.{Packs}
 use Rattle.petsivola.proofs.petsivola_display.Goals as goal
 
-pub of_written-requires : goal.of_written-requires
-of_written-requires c = rw c.display.ensures.reply (le_trans (display_short _ _ _ _) (omega arith))
+pub packed-requires : goal.packed-requires
+packed-requires c = rw c.display.ensures.reply (le_trans (display_short _ _ _ _) (omega arith))
 
 pub returns : goal.returns
 returns c =
     record {
-      reply = subst (Packs _) c.display.ensures.reply c.of_written.ensures;
+      reply = subst (Packs _) c.display.ensures.reply c.packed.ensures;
       out_then = c.display.ensures.out_then;
     }

@@ -4,12 +4,12 @@ use Rattle.petsivola.specs.Packed.{Packs}
 use Rattle.petsivola.proofs.Short.{line-short}
 use Rattle.petsivola.proofs.petsivola_line.Goals as goal
 
-pub of_written-requires : goal.of_written-requires
-of_written-requires c = rw c.line.ensures.reply (line-short _ _)
+pub packed-requires : goal.packed-requires
+packed-requires c = rw c.line.ensures.reply (line-short _ _)
 
 pub returns : goal.returns
 returns c =
     record {
-      reply = subst (Packs _) c.line.ensures.reply c.of_written.ensures;
+      reply = subst (Packs _) c.line.ensures.reply c.packed.ensures;
       out_then = c.line.ensures.out_then;
     }
