@@ -66,6 +66,7 @@ fn sum(c: u8, s: u8, g: u16) -> u16
     (u32::from(c) + u32::from(m)) as u16
 }
 
+// Beside least_raised: a parameter for the sum would take more lines of contract than the loop has.
 #[tactic(auto, unfolding(crate::specs::inner::Columns::least_summed))]
 fn least_summed(qs: &[u8], new: &[u8], g: u16) -> u16
     requires { (length new.now ≡ length qs.now) × (g ≤ 16) }

@@ -1,4 +1,4 @@
-// Decoding over lent tables and lists to work in: the code is read, then its refusals, or the run of a schedule.
+// Decoding: the code is read, then its refusals, or the run of a schedule.
 ghost use Rattle.std.specs.Prelude.{◌≡◌, true, ◌≤◌, length};
 ghost use Rattle.trellis.specs.Sizes.{most_symbols};
 ghost use Rattle.machine.specs.CodeLine.{parse, numbers_of, columns_read};
@@ -112,7 +112,7 @@ fn under_code<S: Schedule>(
     Ok(o)
 }
 
-// Over the tables and lists of decode_counted and decode_early.
+// Over tables and lists of its own.
 pub fn decode_in<S: Schedule>(
     code: &[u8],
     frame: &[u8],
@@ -120,11 +120,6 @@ pub fn decode_in<S: Schedule>(
     costs: &mut [u16],
     store: &mut [u8],
     margins: &mut [u16],
-    degrees: &mut [u8; sizes::MOST_CHECKS],
-    columns: &mut [u16; sizes::MOST_EDGES],
-    weights: &mut [u8; sizes::MOST_EDGES],
-    arrived: &mut [u8; sizes::MOST_EXPANSION],
-    sent: &mut [u8; sizes::MOST_EXPANSION],
 ) -> Counted
     ensures leaves { Leaves
         (called S.early code.now frame.now
@@ -132,7 +127,12 @@ pub fn decode_in<S: Schedule>(
         (lending symbols.new costs.new store.new margins.new) }
     ensures columns { (result.columns ≡ columns_read (numbers_of (parse code.now))) × (result.columns ≤ most_symbols) }
 {
-    match codeline::code_tables(code, degrees, columns, weights) {
+    let mut degrees = [0u8; sizes::MOST_CHECKS];
+    let mut columns = [0u16; sizes::MOST_EDGES];
+    let mut weights = [0u8; sizes::MOST_EDGES];
+    let mut arrived = [0u8; sizes::MOST_EXPANSION];
+    let mut sent = [0u8; sizes::MOST_EXPANSION];
+    match codeline::code_tables(code, &mut degrees, &mut columns, &mut weights) {
         Err(refusal) => Counted {
             answer: Err(refusal),
             columns: 0,
@@ -140,12 +140,19 @@ pub fn decode_in<S: Schedule>(
         Ok(numbers) => {
             let accepted = Code {
                 numbers,
-                degrees,
-                columns,
-                weights,
+                degrees: &degrees,
+                columns: &columns,
+                weights: &weights,
             };
             let answer = under_code::<S>(
-                &accepted, frame, symbols, costs, store, margins, arrived, sent,
+                &accepted,
+                frame,
+                symbols,
+                costs,
+                store,
+                margins,
+                &mut arrived,
+                &mut sent,
             );
             Counted {
                 answer,

@@ -58,24 +58,7 @@ pub fn decode_counted(
         (lending symbols.new costs.new store.new margins.new) }
     ensures columns { (result.columns ≡ columns_read (numbers_of (parse code.now))) × (result.columns ≤ most_symbols) }
 {
-    let mut degrees = [0u8; sizes::MOST_CHECKS];
-    let mut columns = [0u16; sizes::MOST_EDGES];
-    let mut weights = [0u8; sizes::MOST_EDGES];
-    let mut arrived = [0u8; sizes::MOST_EXPANSION];
-    let mut sent = [0u8; sizes::MOST_EXPANSION];
-    decoding::decode_in::<WholeIterations>(
-        code,
-        frame,
-        symbols,
-        costs,
-        store,
-        margins,
-        &mut degrees,
-        &mut columns,
-        &mut weights,
-        &mut arrived,
-        &mut sent,
-    )
+    decoding::decode_in::<WholeIterations>(code, frame, symbols, costs, store, margins)
 }
 
 // Decodes a frame as decode does, but stops "as soon as the decisions satisfy all checks, tested at the start and after each check
@@ -93,25 +76,7 @@ pub fn decode_early(
         (lending symbols.old costs.old store.old margins.old) (answer_reply result)
         (lending symbols.new costs.new store.new margins.new) }
 {
-    let mut degrees = [0u8; sizes::MOST_CHECKS];
-    let mut columns = [0u16; sizes::MOST_EDGES];
-    let mut weights = [0u8; sizes::MOST_EDGES];
-    let mut arrived = [0u8; sizes::MOST_EXPANSION];
-    let mut sent = [0u8; sizes::MOST_EXPANSION];
-    decoding::decode_in::<EachUpdate>(
-        code,
-        frame,
-        symbols,
-        costs,
-        store,
-        margins,
-        &mut degrees,
-        &mut columns,
-        &mut weights,
-        &mut arrived,
-        &mut sent,
-    )
-    .answer
+    decoding::decode_in::<EachUpdate>(code, frame, symbols, costs, store, margins).answer
 }
 
 // Loads a frame and runs the first test: the buffers hold the first decisions with their margins and the frame as costs; the store is only
