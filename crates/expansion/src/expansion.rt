@@ -120,6 +120,7 @@ impl Lists<'_> {
     {
         for (n, &s) in r[..d].iter().enumerate() {
             let at = n * self.q;
+            // `as`: n is below 32, and a conversion that can fail is no plainer.
             self.column(n as u8, s, &mut out[at..at + self.q]);
         }
     }

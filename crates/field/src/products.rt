@@ -36,6 +36,7 @@ fn by_bits(p: u8, h: u8, row: &mut [u8])
     let e = field::double(p, d);
     let f = field::double(p, e);
     for x in 0..row.len() {
+        // `as`: x is below 64, and a conversion that can fail is no plainer.
         row[x] = of_bits(h, b, c, d, e, f, x as u8);
     }
 }
