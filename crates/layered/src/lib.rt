@@ -24,7 +24,6 @@ ghost use Rattle.layered.specs.Answers.{answer_reply, stage_of};
 use crate::answers::{Counted, Outcome, Stage};
 use crate::schedule::{EachUpdate, WholeIterations};
 use refusal::Refusal;
-use scalar::sizes;
 
 // Decodes a frame of N times q costs under a code line: found or not found with the iterations made, the decisions in `symbols`, the
 // costs P in `costs`, the records in `store`, the decisions' margins in `margins`. Refused: the code line's 5 to 11; 12, cost count; 13,
@@ -93,20 +92,7 @@ pub fn load(
         (lending symbols.old costs.old store.now margins.old)) (stage_of result)
         (lending symbols.new costs.new store.now margins.new) }
 {
-    let mut degrees = [0u8; sizes::MOST_CHECKS];
-    let mut columns = [0u16; sizes::MOST_EDGES];
-    let mut weights = [0u8; sizes::MOST_EDGES];
-    stages::load_in(
-        code,
-        frame,
-        symbols,
-        costs,
-        store,
-        margins,
-        &mut degrees,
-        &mut columns,
-        &mut weights,
-    )
+    stages::load_in(code, frame, symbols, costs, store, margins)
 }
 
 // One iteration after t of them, which goes on from the lent costs and records, whoever wrote them. Refused: as decode, then 13, a cost
@@ -124,23 +110,5 @@ pub fn step(
         (lending symbols.old costs.old store.old margins.old)) (stage_of result)
         (lending symbols.new costs.new store.new margins.new) }
 {
-    let mut degrees = [0u8; sizes::MOST_CHECKS];
-    let mut columns = [0u16; sizes::MOST_EDGES];
-    let mut weights = [0u8; sizes::MOST_EDGES];
-    let mut arrived = [0u8; sizes::MOST_EXPANSION];
-    let mut sent = [0u8; sizes::MOST_EXPANSION];
-    stages::step_in(
-        t,
-        code,
-        frame,
-        symbols,
-        costs,
-        store,
-        margins,
-        &mut degrees,
-        &mut columns,
-        &mut weights,
-        &mut arrived,
-        &mut sent,
-    )
+    stages::step_in(t, code, frame, symbols, costs, store, margins)
 }

@@ -138,7 +138,7 @@ fn step_under(
     Ok(stage_after(found, u16::from(t) + 1, code.numbers.limit))
 }
 
-// Over the tables of load.
+// Over tables of its own.
 pub fn load_in(
     code: &[u8],
     frame: &[u8],
@@ -146,25 +146,25 @@ pub fn load_in(
     costs: &mut [u16],
     store: &[u8],
     margins: &mut [u16],
-    degrees: &mut [u8; sizes::MOST_CHECKS],
-    columns: &mut [u16; sizes::MOST_EDGES],
-    weights: &mut [u8; sizes::MOST_EDGES],
 ) -> Result<Stage, Refusal>
     ensures { Moves (loading code.now frame.now
         (lending symbols.old costs.old store.now margins.old)) (stage_of result)
         (lending symbols.new costs.new store.now margins.new) }
 {
-    let numbers = codeline::code_tables(code, degrees, columns, weights)?;
+    let mut degrees = [0u8; sizes::MOST_CHECKS];
+    let mut columns = [0u16; sizes::MOST_EDGES];
+    let mut weights = [0u8; sizes::MOST_EDGES];
+    let numbers = codeline::code_tables(code, &mut degrees, &mut columns, &mut weights)?;
     let accepted = Code {
         numbers,
-        degrees,
-        columns,
-        weights,
+        degrees: &degrees,
+        columns: &columns,
+        weights: &weights,
     };
     load_under(&accepted, frame, symbols, costs, store, margins)
 }
 
-// Over the tables and lists of step.
+// Over tables and lists of its own.
 pub fn step_in(
     t: u8,
     code: &[u8],
@@ -173,24 +173,32 @@ pub fn step_in(
     costs: &mut [u16],
     store: &mut [u8],
     margins: &mut [u16],
-    degrees: &mut [u8; sizes::MOST_CHECKS],
-    columns: &mut [u16; sizes::MOST_EDGES],
-    weights: &mut [u8; sizes::MOST_EDGES],
-    arrived: &mut [u8; sizes::MOST_EXPANSION],
-    sent: &mut [u8; sizes::MOST_EXPANSION],
 ) -> Result<Stage, Refusal>
     ensures { Moves (iterating code.now frame.now t
         (lending symbols.old costs.old store.old margins.old)) (stage_of result)
         (lending symbols.new costs.new store.new margins.new) }
 {
-    let numbers = codeline::code_tables(code, degrees, columns, weights)?;
+    let mut degrees = [0u8; sizes::MOST_CHECKS];
+    let mut columns = [0u16; sizes::MOST_EDGES];
+    let mut weights = [0u8; sizes::MOST_EDGES];
+    let mut arrived = [0u8; sizes::MOST_EXPANSION];
+    let mut sent = [0u8; sizes::MOST_EXPANSION];
+    let numbers = codeline::code_tables(code, &mut degrees, &mut columns, &mut weights)?;
     let accepted = Code {
         numbers,
-        degrees,
-        columns,
-        weights,
+        degrees: &degrees,
+        columns: &columns,
+        weights: &weights,
     };
     step_under(
-        &accepted, t, frame, symbols, costs, store, margins, arrived, sent,
+        &accepted,
+        t,
+        frame,
+        symbols,
+        costs,
+        store,
+        margins,
+        &mut arrived,
+        &mut sent,
     )
 }
