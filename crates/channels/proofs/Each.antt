@@ -7,17 +7,14 @@ use lib.ListN.{get_or, set, get_or-map}
 use lib.Seq.{map-set, map-set_same}
 use mathlib.Core.Bool.{true, false}
 use lib.Dec.{eqb}
-use borrow.Author.Rules.{rules}
-use borrow.Author.Tests.{eqb-true, eqb-false, ne_eqb}
-use Rattle.refusal.specs.Numbers.{number_of}
-use Rattle.refusal.specs.declared.Refusal.{Refusal}
+use borrow.Author.Tests.{eqb-true, eqb-false}
 use Rattle.machine.specs.CodeLine.{Code}
 use Rattle.machine.specs.Decoding.{Buffers, lending}
 use Rattle.channels.specs.declared.layout.Layout.{Layout}
 use Rattle.channels.specs.declared.standing.Channel.{Channel}
 use Rattle.channels.specs.declared.standing.Channels.{Channels}
 use Rattle.channels.specs.declared.standing.Status.{Status}
-use Rattle.channels.specs.declared.standing.Status.TheVariants.{Absent, Running, Found, NotFound, Refused}
+use Rattle.channels.specs.declared.standing.Status.TheVariants.{Absent}
 use Rattle.channels.specs.inner.Statuses.{status_number}
 use Rattle.channels.specs.inner.Rounds.{Standing, standing, loaded_to, rounds_at, status_at, count_at, load_at, step_at, loaded_at, serving_at}
 use Rattle.channels.specs.inner.Standing.{standing_of, SameLoans}
@@ -28,18 +25,6 @@ use Rattle.channels.proofs.Moves.{serve_skips, serve_spent, serve_moves, load_mo
 
 abbrev pub none : Channel
 none = record { status = Absent; iterations = 0 }
-
--- no refusal has the number 20
-not_20 : (r : Refusal) → number_of r ≡ 20 → ⊥
-not_20 r = search rules
-
--- 20 is running alone
-pub running_told : (s : Status) → (s ≡ Running → ⊥) → false ≡ eqb (status_number s) 20
-running_told Absent h = refl
-running_told Running h = absurd (h refl)
-running_told Found h = refl
-running_told NotFound h = refl
-running_told (Refused r) h = sym (ne_eqb (number_of r) 20 (not_20 r))
 
 abbrev pub statuses : List Channel → List ℕ
 statuses l = map (λ (c : Channel). status_number c.status) l

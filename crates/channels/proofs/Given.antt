@@ -13,7 +13,7 @@ use Rattle.trellis.proofs.Places.{length-count}
 use Rattle.machine.specs.CodeLine.{good, Code, size, numbers_of, parse}
 use Rattle.machine.specs.Decoding.{Buffers, lending}
 use Rattle.trellis.proofs.Refusals.{Passed}
-use Rattle.machine.proofs.Rooms.{used_high, costs-high}
+use Rattle.machine.proofs.Rooms.{used_high}
 use Rattle.std.specs.Prelude.{Result, Err}
 use Rattle.refusal.specs.Numbers.{number_of}
 use Rattle.refusal.specs.declared.Refusal.{Refusal}
@@ -27,7 +27,7 @@ use Rattle.channels.specs.Channels.{Results, results, refusing, count_tests, tes
 use Rattle.channels.specs.inner.Rounds.{Standing, standing, RoomFor, Asked, Ends, reply_by, status_at, count_at}
 use Rattle.channels.specs.Answers.{Gives}
 use Rattle.channels.specs.inner.Served.{served_by, GivesBy}
-use Rattle.channels.specs.inner.Layouts.{code_for, count_fault, fault_for, FaultRoom, LoadsRoom, run_at, RunRoom}
+use Rattle.channels.specs.inner.Layouts.{code_for, count_fault, fault_for, LoadsRoom, run_at, RunRoom}
 use Rattle.trellis.proofs.Refusals.{refused-by, passed_by, none_applies}
 use Rattle.channels.proofs.Refused.{count_numbered, count_passed, whole_numbered, whole_passed}
 use Rattle.channels.proofs.Ends.{eight-end}
@@ -55,16 +55,9 @@ pub passed_under : (n A : ℕ) (code fs : List ℕ) (b : Buffers) → 1 ≤ n �
 unfolding channels
 passed_under n A code fs b i j k = rw (le-ltb n 1 i, le-ltb 8 n j, ne_eqb A 0 (λ e. omega arith))
 
--- lengths whose multiples fit
-pub fault_room : (z : Layout) (n : ℕ) → n ≤ 8 → FaultRoom n z
-fault_room z n h =
-    let C : Code = code_for z in
-    record {
-      few = h;
-      columns = rw z.columns_is z.code.coded.good.columns-high;
-      costs = rw z.costs_is (costs-high C z.code.coded.good);
-      store = omega (arith, z.store_is, used_high C z.code.coded.good);
-    }
+-- a channel's records, so that eight times their length fits
+pub store_low : (z : Layout) → z.store ≤ 65535
+store_low z = omega (arith, z.store_is, used_high (code_for z) z.code.coded.good)
 
 module _ (z : Layout) (n A : ℕ) (low : 1 ≤ n) (high : n ≤ 8)
     (fs y p s v : List ℕ) (k : ℕ) (e : k ≡ fault_for n z (length fs) (length y) (length p) (length s) (length v)) where

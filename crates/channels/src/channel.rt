@@ -1,4 +1,5 @@
-// One channel in its parts of the buffers: its load and its next iteration.
+// One channel in its parts of the buffers: its load and its next iteration. The buffers come as slices, since of a part that is cut off a
+// struct's field the check knows only the length.
 ghost use Rattle.std.specs.Prelude.{List, ℕ, Ok};
 ghost use Rattle.machine.specs.Decoding.{lending};
 ghost use Rattle.layered.specs.Answers.{stage_of};

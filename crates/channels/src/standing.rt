@@ -43,10 +43,9 @@ impl Status {
         ensures { result ≡ status_number self }
     {
         match self {
-            Status::Absent => 0,
-            Status::Running => 20,
-            Status::Found => 0,
+            Status::Absent | Status::Found => 0,
             Status::NotFound => 1,
+            Status::Running => 20,
             Status::Refused(refusal) => u8::from(refusal),
         }
     }

@@ -110,7 +110,8 @@ impl Channels<'_> {
     }
 }
 
-// Under a code that is read. Nothing is written before the last refusal of the whole call has been tested.
+// Under a code that is read. The four slices go into one struct here, and nothing else touches them: so the check knows what they hold
+// afterwards. Nothing is written before the last refusal of the whole call has been tested.
 fn under_code(
     count: usize,
     allowance: u32,

@@ -1,7 +1,7 @@
 -- What the functions ask and leave: the numbers and lengths that a channel needs, and room for each loop.
 use Rattle.std.specs.Prelude.{◌≡◌, List, ℕ, ◌+◌, ◌-◌, ◌*◌, ◌≤◌, ◌<◌, eqb, length}
 use Rattle.trellis.specs.Refusals.{fault_by}
-use Rattle.trellis.specs.Sizes.{most_symbols, most_expansion, most_costs, most_channels}
+use Rattle.trellis.specs.Sizes.{most_expansion}
 use Rattle.machine.specs.CodeLine.{Code, size}
 use Rattle.machine.specs.Decoding.{Buffers}
 use Rattle.machine.specs.Moments.{Moment}
@@ -18,13 +18,6 @@ count_fault n A = fault_by (count_tests n A)
 -- 12, 2, 3, 4, 19 by the lengths; 0 for none
 unfoldable pub fault_for : ℕ → Layout → ℕ → ℕ → ℕ → ℕ → ℕ → ℕ
 fault_for n z f y c s v = fault_by (whole_tests n z.columns z.costs z.store f y c s v)
-
--- lengths whose multiples fit
-pub record FaultRoom (n : ℕ) (z : Layout) : Type 0 where
-  pub few : n ≤ most_channels
-  pub columns : z.columns ≤ most_symbols
-  pub costs : z.costs ≤ most_costs
-  pub store : z.store ≤ 65535
 
 -- the code of a layout
 abbrev pub code_for : Layout → Code
