@@ -34,39 +34,49 @@ fn beside(f: &[u16], after: &[u16], q: usize, n: usize, t: usize, greatest: bool
     e
 }
 
+// The cells over the columns before a column and after it, each k + 1 counts of q sums.
+#[derive(Clone, Copy)]
+struct Sides<'a> {
+    before: &'a [u16],
+    after: &'a [u16],
+    q: usize,
+    k: usize,
+    greatest: bool,
+    ghost sums: { Sums q },
+    ghost few: { k ≤ 3 },
+    ghost full: { (length before.now ≡ (k + 1) * q) × (length after.now ≡ (k + 1) * q) },
+}
+
 // All counts that are k or less together.
-fn join_at(before: &[u16], after: &[u16], q: usize, k: usize, t: usize, greatest: bool) -> u32
-    requires sums { Sums q }
-    requires t_lt_q { (t < q) × (k ≤ 3) }
-    requires before_len { (length before.now ≡ (k + 1) * q) × (length after.now ≡ (k + 1) * q) }
-    ensures { (result ≡ join_at greatest q k before.now after.now t) × (result ≤ 1024) }
+fn join_at(sides: &Sides<'_>, t: usize) -> u32
+    requires { t < sides.now.q }
+    ensures { (result ≡ join_at sides.now.greatest sides.now.q sides.now.k sides.now.before.now sides.now.after.now t) × (result ≤ 1024) }
 {
+    let q = sides.q;
+    let k = sides.k;
     let mut e = 1024u32;
     for i in 0..k + 1 {
         let a = i * q;
-        e = e.min(beside(&before[a..a + q], after, q, k - i + 1, t, greatest));
+        e = e.min(beside(
+            &sides.before[a..a + q],
+            sides.after,
+            q,
+            k - i + 1,
+            t,
+            sides.greatest,
+        ));
     }
     e
 }
 
 // The costs sent to a column whose shift is s, for each a: S(a), a byte each.
-fn sent_row(
-    before: &[u16],
-    after: &[u16],
-    q: usize,
-    k: usize,
-    s: usize,
-    greatest: bool,
-    out: &mut [u8],
-)
-    requires sums { Sums q }
-    requires s_lt_q { (s < q) × ((length out.old ≡ q) × (k ≤ 3)) }
-    requires before_len { (length before.now ≡ (k + 1) * q) × (length after.now ≡ (k + 1) * q) }
-    requires byte_costs_room { ByteCostsRoom greatest q k before.now after.now s }
-    ensures { out.new ≡ tab (λ a. join_at greatest q k before.now after.now (xor a s)) q }
+fn sent_row(sides: &Sides<'_>, s: usize, out: &mut [u8])
+    requires s_lt_q { (s < sides.now.q) × (length out.old ≡ sides.now.q) }
+    requires byte_costs_room { ByteCostsRoom sides.now.greatest sides.now.q sides.now.k sides.now.before.now sides.now.after.now s }
+    ensures { out.new ≡ tab (λ a. join_at sides.now.greatest sides.now.q sides.now.k sides.now.before.now sides.now.after.now (xor a s)) sides.now.q }
 {
     for (a, cost) in out.iter_mut().enumerate() {
-        *cost = join_at(before, after, q, k, a ^ s, greatest) as u8;
+        *cost = join_at(sides, a ^ s) as u8;
     }
 }
 
@@ -89,14 +99,13 @@ pub fn sent_all(
         let a = n * w;
         let b = (d - 1 - n) * w;
         let x = n * q;
-        sent_row(
-            &before[a..a + w],
-            &after[b..b + w],
+        let sides = Sides {
+            before: &before[a..a + w],
+            after: &after[b..b + w],
             q,
             k,
-            usize::from(s),
             greatest,
-            &mut out[x..x + q],
-        );
+        };
+        sent_row(&sides, usize::from(s), &mut out[x..x + q]);
     }
 }

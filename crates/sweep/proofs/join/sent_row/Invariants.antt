@@ -7,4 +7,4 @@ use Rattle.sweep.specs.inner.Joins.{join_at}
 use Rattle.sweep.proofs.join.sent_row.Given as goal
 
 abbrev pub invariant-loop-a : goal.invariant-loop-a
-invariant-loop-a l = (length l.out ≡ length l.fn.out) × (take l.a l.out ≡ tab (λ a. join_at l.greatest l.q l.k l.before l.after (xor a l.s)) l.a)
+invariant-loop-a l = (length l.out ≡ length l.fn.out) × (take l.a l.out ≡ tab (λ a. join_at l.sides.greatest l.sides.q l.sides.k l.sides.before.now l.sides.after.now (xor a l.s)) l.a)
