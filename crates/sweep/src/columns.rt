@@ -29,6 +29,7 @@ fn products(p: u8, h: u8, row: &mut [u8])
     ensures { row.new ≡ tab (product p h) (2 ^ p) }
 {
     for (x, product) in row.iter_mut().enumerate() {
+        // A symbol is below 64.
         *product = times(p, h, x as u8);
     }
 }

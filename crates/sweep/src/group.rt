@@ -46,6 +46,7 @@ fn pairs(sent: &[u8], q: usize, d: usize, a: usize, e: u8, out: &mut [u8]) -> us
 {
     let mut c = 0;
     for n in 0..d {
+        // d is at most 255.
         c = put_above(out, c, n as u8, sent[n * q + a], e);
     }
     c

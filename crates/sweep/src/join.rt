@@ -76,6 +76,7 @@ fn sent_row(sides: &Sides<'_>, s: usize, out: &mut [u8])
     ensures { out.new ≡ tab (λ a. join_at sides.now.greatest sides.now.q sides.now.k sides.now.before.now sides.now.after.now (xor a s)) sides.now.q }
 {
     for (a, cost) in out.iter_mut().enumerate() {
+        // A cost that is sent is a byte, says `byte_costs_room`.
         *cost = join_at(sides, a ^ s) as u8;
     }
 }

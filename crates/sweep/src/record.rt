@@ -28,6 +28,7 @@ fn term(check: &Check<'_>, n: usize) -> u8
     let q = rules::size(check.first);
     let at = n * q;
     let z = decision::decide(&check.costs[at..at + q]).symbol;
+    // A symbol is below 64.
     columns::times(rules::power(check.first), check.weights[n], z as u8)
 }
 
@@ -46,7 +47,8 @@ fn terms(check: &Check<'_>, out: &mut [u8]) -> u8
     sum
 }
 
-// The shifts, from each h times z and their sum.
+// The shifts, from each h times z and their sum. Written here too: a sweep shares with `check` the tests alone, so that one can test the
+// other.
 fn shift_all(out: &mut [u8], sum: u8)
     ensures { out.new ≡ tab (λ i. xor sum (get_or out.old i 0)) (length out.old) }
 {

@@ -37,6 +37,7 @@ fn layer(column: &Column<'_>, low: &[u16], same: &[u16], greatest: bool, out: &m
 {
     for (t, cost) in out.iter_mut().enumerate() {
         let kept = u32::from(same[t ^ column.decided]);
+        // At most the mark.
         *cost = kept.min(deviation_at(column, low, t, greatest)) as u16;
     }
 }
