@@ -69,7 +69,7 @@ fn term_at(code: &Code<'_>, symbols: &[u8], edge: usize) -> u8
 }
 
 // A check by its number, with its first edge in the tables.
-#[derive(Clone, Copy)]
+#[derive(Clone, Copy, Debug, PartialEq, Eq)]
 pub struct CheckAt {
     pub check: usize,
     pub edge: usize,

@@ -10,7 +10,7 @@ use crate::update;
 use codeline::code::Code;
 
 // The check's number, its first edge in the tables, its record's first byte in the store.
-#[derive(Clone, Copy)]
+#[derive(Clone, Copy, Debug, PartialEq, Eq)]
 pub struct Place {
     pub check: usize,
     pub edge: usize,
