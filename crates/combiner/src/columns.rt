@@ -28,6 +28,7 @@ fn combine_column(first: &[u8], second: &[u8], out: &mut [u8])
     ensures { out.new ≡ combined_column (length first.now) first.now second.now }
 {
     let least = least(first, second);
+    // By index: of a zip over a slice that is written only the length is known.
     for (i, x) in out.iter_mut().enumerate() {
         *x = (both(first[i], second[i]) - least).min(255) as u8;
     }
@@ -38,6 +39,7 @@ pub fn combine_all(first: &[u8], second: &[u8], q: usize, n: usize, out: &mut [u
     requires { (length first.now ≡ n * q) × ((length second.now ≡ n * q) × ((length out.old ≡ n * q) × (0 < q))) }
     ensures { out.new ≡ combined_to q first.now second.now n }
 {
+    // Cut by hand: of the chunks of a slice that is written only the length is known.
     for c in 0..n {
         let at = c * q;
         combine_column(

@@ -41,6 +41,7 @@ fn fill(text: &[u8], out: &mut [u8])
     requires { (all_digits text.now (length text.now) ≡ true) × (length out.old ≡ length text.now / 2) }
     ensures { out.new ≡ line_bytes text.now }
 {
+    // By index: of a zip over a slice that is written only the length is known.
     for (i, x) in out.iter_mut().enumerate() {
         *x = nibble(text[2 * i]) * 16 + nibble(text[2 * i + 1]);
     }

@@ -32,6 +32,7 @@ fn put_all(bytes: &[u8], out: &mut [u8])
     requires { length bytes.now * 2 < length out.old }
     ensures { out.new ≡ over (as_line bytes.now) out.old }
 {
+    // Cut by hand: of the chunks of a slice that is written only the length is known.
     for (i, &b) in bytes.iter().enumerate() {
         let at = i * 2;
         put(b, &mut out[at..at + 2]);
