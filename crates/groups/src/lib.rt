@@ -13,10 +13,9 @@ use rules::Rule;
 pub fn groups(rule: Rule, d: usize, sent: &[u8], out: &mut [u8])
     ensures { out.new ≡ groups_leave rule.p rule.k d sent.now out.old }
 {
-    if !tables::fits(rule, d) {
+    let Some(shape) = tables::shape_of(rule, d) else {
         return;
-    }
-    let shape = tables::shape_of(rule);
+    };
     let n = d * shape.l;
     if sent.len() < n {
         return;

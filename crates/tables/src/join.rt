@@ -10,11 +10,5 @@ pub fn join(shape: Shape, u: &[u8], w: &[u8], e: &mut [u8])
     requires u_len { (length u.now ≡ shape.l) × ((length w.now ≡ shape.l) × (length e.old ≡ shape.l)) }
     ensures { e.new ≡ tab (risen_at shape.greatest shape.q u.now w.now e.old) shape.l }
 {
-    if shape.l == 64 {
-        vjoin::join_64(shape.greatest, u, w, e);
-    } else if shape.l == 32 {
-        vjoin::join_32(shape.greatest, u, w, e);
-    } else {
-        vjoin::join_16(shape.greatest, shape.q, u, w, e);
-    }
+    vjoin::join(shape.greatest, shape.q, u, w, e);
 }

@@ -4,13 +4,13 @@
 mod block;
 mod grow;
 mod join;
-pub mod layout;
+mod layout;
 mod rows;
 
-ghost use Rattle.std.specs.Prelude.{◌≡◌, ◌≤◌};
+ghost use Rattle.std.specs.Prelude.{◌≡◌, is_some, IfSome};
 ghost use Rattle.tables.specs.Calls.{in_range, ShapeFor, sent_leaves};
 
-use crate::layout::Shape;
+pub use crate::layout::Shape;
 use rules::Rule;
 use scalar::sizes;
 
@@ -22,18 +22,21 @@ pub fn fits(rule: Rule, d: usize) -> bool
     (2..=6).contains(&rule.p) && (2..=3).contains(&rule.k) && (2..=sizes::MOST_DEGREE).contains(&d)
 }
 
-// The shape of the tables: at least sixteen rows, for that many are taken at a time.
-pub fn shape_of(rule: Rule) -> Shape
-    requires { ((2 ≤ rule.p) × (rule.p ≤ 6)) × ((2 ≤ rule.k) × (rule.k ≤ 3)) }
-    ensures { ShapeFor rule.p rule.k rule.greatest result }
+// The shape of the tables over d columns, where these fit: at least sixteen rows, for that many are taken at a time.
+pub fn shape_of(rule: Rule, d: usize) -> Option<Shape>
+    ensures fits { is_some result ≡ in_range rule.p rule.k d }
+    ensures shape { IfSome result (ShapeFor rule.p rule.k rule.greatest) }
 {
+    if !fits(rule, d) {
+        return None;
+    }
     let q = 1usize << rule.p;
-    Shape {
+    Some(Shape {
         q,
         l: q.max(16),
         k: usize::from(rule.k),
         greatest: rule.greatest,
-    }
+    })
 }
 
 // The rests of the costs sent to d columns, from the columns' lines: line n and row n start at n times the rows of a table, which are 2
@@ -42,15 +45,11 @@ pub fn shape_of(rule: Rule) -> Shape
 pub fn sent(rule: Rule, d: usize, lines: &[u8], out: &mut [u8])
     ensures { out.new ≡ sent_leaves rule.p rule.k rule.greatest d lines.now out.old }
 {
-    if !fits(rule, d) {
+    let Some(shape) = shape_of(rule, d) else {
         return;
-    }
-    let shape = shape_of(rule);
+    };
     let n = d * shape.l;
-    if lines.len() < n {
-        return;
-    }
-    if out.len() < n {
+    if lines.len() < n || out.len() < n {
         return;
     }
     rows::rows(shape, d, &lines[..n], &mut out[..n]);

@@ -6,4 +6,4 @@ mod parts;
 mod tables;
 
 pub use crate::lanes::better;
-pub use crate::tables::{join_16, join_32, join_64};
+pub use crate::tables::join;

@@ -2,6 +2,7 @@
 ghost use Rattle.std.specs.Prelude.{◌≡◌, ◌%◌, ◌≤◌, length};
 ghost use Rattle.trellis.specs.Lists.{tab};
 ghost use Rattle.vjoin.specs.Lanes.{risen_at};
+ghost use Rattle.vjoin.specs.Joins.{joined};
 
 use crate::lanes::take;
 use crate::parts::{Pair, Quad, four, one, one_eight, one_four, one_twelve, two};
@@ -31,19 +32,6 @@ fn in_16<const G: bool>(q: usize, u: &[u8], w: &[u8], e: &mut [u8])
     one_twelve::<G>(x, y, z).copy_to_slice(e);
 }
 
-// e: the best of e and q rows of u joined with w, of 16 rows each.
-pub fn join_16(greatest: bool, q: usize, u: &[u8], w: &[u8], e: &mut [u8])
-    requires q_value { ((q % 4 ≡ 0) × (4 ≤ q)) × (q ≤ 16) }
-    requires u_len { (length u.now ≡ 16) × ((length w.now ≡ 16) × (length e.old ≡ 16)) }
-    ensures { e.new ≡ tab (risen_at greatest q u.now w.now e.old) 16 }
-{
-    if greatest {
-        in_16::<true>(q, u, w, e);
-    } else {
-        in_16::<false>(q, u, w, e);
-    }
-}
-
 fn in_32<const G: bool>(u: &[u8], w: &[u8], e: &mut [u8])
     requires { (length u.now ≡ 32) × ((length w.now ≡ 32) × (length e.old ≡ 32)) }
     ensures { e.new ≡ tab (risen_at G 32 u.now w.now e.old) 32 }
@@ -63,18 +51,6 @@ fn in_32<const G: bool>(u: &[u8], w: &[u8], e: &mut [u8])
     let r = two::<G>(x, y, z);
     r.a.copy_to_slice(&mut e[0..]);
     r.b.copy_to_slice(&mut e[16..]);
-}
-
-// e: the best of e and the rows of u joined with w, of 32 rows each.
-pub fn join_32(greatest: bool, u: &[u8], w: &[u8], e: &mut [u8])
-    requires { (length u.now ≡ 32) × ((length w.now ≡ 32) × (length e.old ≡ 32)) }
-    ensures { e.new ≡ tab (risen_at greatest 32 u.now w.now e.old) 32 }
-{
-    if greatest {
-        in_32::<true>(u, w, e);
-    } else {
-        in_32::<false>(u, w, e);
-    }
 }
 
 fn in_64<const G: bool>(u: &[u8], w: &[u8], e: &mut [u8])
@@ -118,14 +94,42 @@ fn in_64<const G: bool>(u: &[u8], w: &[u8], e: &mut [u8])
     r.d.copy_to_slice(&mut e[48..]);
 }
 
-// e: the best of e and the rows of u joined with w, of 64 rows each.
-pub fn join_64(greatest: bool, u: &[u8], w: &[u8], e: &mut [u8])
-    requires { (length u.now ≡ 64) × ((length w.now ≡ 64) × (length e.old ≡ 64)) }
-    ensures { e.new ≡ tab (risen_at greatest 64 u.now w.now e.old) 64 }
+// By the number of rows.
+#[tactic(auto, unfolding(crate::specs::Joins::joined, crate::specs::Joins::joinable))]
+fn by_rows<const G: bool>(q: usize, u: &[u8], w: &[u8], e: &mut [u8])
+    ensures { e.new ≡ joined G q u.now w.now e.old }
+{
+    if u.len() != e.len() || w.len() != e.len() {
+        return;
+    }
+    match e.len() {
+        16 => {
+            if q == 4 || q == 8 || q == 12 || q == 16 {
+                in_16::<G>(q, u, w, e);
+            }
+        }
+        32 => {
+            if q == 32 {
+                in_32::<G>(u, w, e);
+            }
+        }
+        64 => {
+            if q == 64 {
+                in_64::<G>(u, w, e);
+            }
+        }
+        _ => {}
+    }
+}
+
+// e: the best of e and q rows of u joined with w. The three have 16 rows, and q is 4, 8, 12 or 16; or q rows, 32 or 64. Nothing changes where
+// they have not.
+pub fn join(greatest: bool, q: usize, u: &[u8], w: &[u8], e: &mut [u8])
+    ensures { e.new ≡ joined greatest q u.now w.now e.old }
 {
     if greatest {
-        in_64::<true>(u, w, e);
+        by_rows::<true>(q, u, w, e);
     } else {
-        in_64::<false>(u, w, e);
+        by_rows::<false>(q, u, w, e);
     }
 }

@@ -16,7 +16,7 @@ block-requires-clause-sent_len c =
       c.requires.le_d.1,
       (
         omega (arith, s.ensures, t.ensures),
-        span_length s.result t.result (c.args.shape.k * 2 + 1) _ _ c.loop-b.out (omega (arith, s.ensures, t.ensures)) c.edge-x.ensures.0 c.edge-y.ensures.0 (omega (arith, c.edge-y.ensures, c.requires.out_len)),
+        span_length s.result t.result (c.args.shape.k * 2 + 1) _ _ c.loop-b.out (omega (arith, s.ensures, t.ensures)) c.edge-x.ensures.value c.edge-y.ensures.value (omega (arith, c.edge-y.ensures.value, c.edge-y.ensures.within, c.requires.out_len)),
       ),
     )
 
@@ -27,7 +27,7 @@ loop-b-preserved c =
     let f = group_of S.l S.k c.args.sent.now c.args.d in
     let v = 16 * c.loop-b.b in
     let e : v + 16 ≡ 16 * (c.loop-b.b + 1) = omega arith in
-    let F = groups_turn f w (group-length S.k S.l c.args.d c.args.sent.now) c.args.out.now c.loop-b.out S.q v c.written-s.result c.written-t.result _ _ (omega arith) c.written-s.ensures c.written-t.ensures c.edge-x.ensures.0 c.edge-y.ensures.0 c.requires.out_len c.loop-b.invariant c.block.ensures in
+    let F = groups_turn f w (group-length S.k S.l c.args.d c.args.sent.now) c.args.out.now c.loop-b.out S.q v c.written-s.result c.written-t.result _ _ (omega arith) c.written-s.ensures c.written-t.ensures c.edge-x.ensures.value c.edge-y.ensures.value c.requires.out_len c.loop-b.invariant c.block.ensures in
     F.1 ∙ ap (λ z. blocks f (min S.q z - 1) ++ drop ((min S.q z - 1) * w) c.args.out.now) e
 
 pub returns : goal.returns

@@ -1,8 +1,7 @@
-use native.Mathlib.Omega.{arith}
+use mathlib.Core.Path.{◌∙◌}
+use Rattle.tables.proofs.Joining.{joined_is}
 use Rattle.tables.proofs.join.join.Goals as goal
 
-pub join_16-requires : goal.join_16-requires
-join_16-requires c =
-    let S = c.args.shape.shaped in
-    let e = S.table.one c.if-shape-eq64.false c.if-shape-eq32.false in
-    record { q_value = ((S.fours, S.four), omega (arith, e, S.within)); u_len = (omega (arith, e), (omega (arith, e), omega (arith, e))) }
+pub returns : goal.returns
+returns c =
+    let r = c.requires.u_len in c.join.ensures ∙ joined_is c.args.shape.shaped c.args.shape.greatest c.args.u.now c.args.w.now c.args.e.now r.0 r.1.0 r.1.1
