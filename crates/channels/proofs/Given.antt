@@ -19,7 +19,7 @@ use Rattle.refusal.specs.Numbers.{number_of}
 use Rattle.refusal.specs.declared.Refusal.{Refusal}
 use Rattle.codeline.specs.declared.answers.Numbers.{Numbers}
 use Rattle.codeline.specs.declared.code.Code.{Code as LentCode}
-use Rattle.codeline.specs.Codes.{code_in}
+use Rattle.codeline.specs.Codes.{lent_code}
 use Rattle.codeline.specs.Answers.{header_numbers}
 use Rattle.codeline.proofs.Answered.{header_refused}
 use Rattle.channels.specs.declared.layout.Layout.{Layout}
@@ -158,7 +158,7 @@ pub line_refused : (s₀ : List ℕ) (h : Result Numbers Refusal) → header_num
 line_refused s₀ h e n A i j l r o fs b = passed_under n A s₀ fs b i j l ∙ ap (λ r. under r n A fs b) (header_refused s₀ h e r o)
 
 -- and one that says a code
-pub line_gives : (c : LentCode) (s₀ : List ℕ) → parse s₀ ≡ good (code_in c) → (n A : ℕ) → 1 ≤ n → n ≤ 8 → 0 < A → (m : ℕ) → m ≡ n → (fs : List ℕ) (b : Buffers)
-    → (x y : ℕ) (p q : List ℕ) (b' : Buffers) → Gives (under (good (code_in c)) m A fs b) x y p q b' → Gives (channels n A s₀ fs b) x y p q b'
+pub line_gives : (c : LentCode) (s₀ : List ℕ) → parse s₀ ≡ good (lent_code c) → (n A : ℕ) → 1 ≤ n → n ≤ 8 → 0 < A → (m : ℕ) → m ≡ n → (fs : List ℕ) (b : Buffers)
+    → (x y : ℕ) (p q : List ℕ) (b' : Buffers) → Gives (under (good (lent_code c)) m A fs b) x y p q b' → Gives (channels n A s₀ fs b) x y p q b'
 line_gives c s₀ e n A i j l m o fs b x y p q b' W =
-    subst (λ (r : Results). Gives r x y p q b') (ap (λ m. under (good (code_in c)) m A fs b) o ∙ sym (passed_under n A s₀ fs b i j l ∙ ap (λ r. under r n A fs b) e)) W
+    subst (λ (r : Results). Gives r x y p q b') (ap (λ m. under (good (lent_code c)) m A fs b) o ∙ sym (passed_under n A s₀ fs b i j l ∙ ap (λ r. under r n A fs b) e)) W

@@ -1,5 +1,4 @@
 // What the call answers.
-use scalar::sizes;
 
 // The call's number, the iterations spent of the allowance, and each channel's status with its iterations; 0 for a channel that there is
 // not, and all 0 but the number where the whole call is refused.

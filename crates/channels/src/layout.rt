@@ -2,7 +2,7 @@
 ghost use Rattle.std.specs.Prelude.{◌≡◌, ◌≤◌, ◌*◌};
 ghost use Rattle.machine.specs.CodeLine.{size};
 ghost use Rattle.machine.specs.Machine.{used};
-ghost use Rattle.codeline.specs.Codes.{code_in};
+ghost use Rattle.codeline.specs.Codes.{lent_code};
 
 use codeline::code::Code;
 
@@ -13,9 +13,9 @@ pub struct Layout<'a> {
     pub columns: usize,
     pub costs: usize,
     pub store: usize,
-    ghost columns_is: { columns ≡ (code_in code).columns },
-    ghost costs_is: { costs ≡ (code_in code).columns * size (code_in code) },
-    ghost store_is: { store ≡ used (code_in code) },
+    ghost columns_is: { columns ≡ (lent_code code).columns },
+    ghost costs_is: { costs ≡ (lent_code code).columns * size (lent_code code) },
+    ghost store_is: { store ≡ used (lent_code code) },
     ghost limit_is_byte: { code.numbers.limit ≤ 255 },
 }
 

@@ -6,7 +6,6 @@ ghost use Rattle.channels.specs.inner.Statuses.{status_number};
 
 use layered::answers::Stage;
 use refusal::Refusal;
-use scalar::sizes;
 
 // How far a channel is; absent, where the call has fewer.
 #[derive(Clone, Copy, Debug, PartialEq, Eq)]

@@ -1,7 +1,7 @@
 // The whole call: its refusals, the code line read once, and the service.
 ghost use Rattle.std.specs.Prelude.{◌≡◌, ◌≤◌, ◌-◌, Err};
 ghost use Rattle.trellis.specs.Sizes.{most_channels};
-ghost use Rattle.refusal.specs.Replies.{fault_of};
+ghost use Rattle.refusal.specs.Replies.{fault_in};
 ghost use Rattle.machine.specs.CodeLine.{good};
 ghost use Rattle.machine.specs.Decoding.{lending};
 ghost use Rattle.channels.specs.Channels.{under, channels};
@@ -15,7 +15,6 @@ use crate::standing::{Channel, Channels, Status};
 use codeline::code::Code;
 use frame::Lengths;
 use refusal::Refusal;
-use scalar::sizes;
 
 // A refusal of the whole call.
 pub fn refused(refusal: Refusal) -> Served
@@ -32,7 +31,7 @@ pub fn refused(refusal: Refusal) -> Served
 // "21, channel count not 1 to 8, before all; 22, A is 0, after 21".
 #[tactic(auto, unfolding(crate::specs::inner::Layouts::count_fault))]
 fn validate_count(count: u8, allowance: u32) -> Result<(), Refusal>
-    ensures { fault_of result ≡ count_fault count allowance }
+    ensures { fault_in result ≡ count_fault count allowance }
 {
     if !(1..=8).contains(&count) {
         return Err(Refusal::ChannelCount);
@@ -52,7 +51,7 @@ fn validate_lengths(
     lent: Lengths,
 ) -> Result<(), Refusal>
     requires { count ≤ most_channels }
-    ensures { fault_of result
+    ensures { fault_in result
         ≡ fault_for count layout.now frames lent.symbols lent.costs lent.store lent.margins }
 {
     let needed = Lengths {

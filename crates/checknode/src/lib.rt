@@ -8,7 +8,7 @@ mod refusals;
 mod send;
 
 ghost use Rattle.std.specs.Prelude.{◌≡◌};
-ghost use Rattle.refusal.specs.Replies.{reply_of, fault_of};
+ghost use Rattle.refusal.specs.Replies.{reply_of, fault_in};
 ghost use Rattle.checknode.specs.Answers.{check_fault, check_reply, check_leaves, messages_reply, messages_leaves, messages_sent};
 
 use accepted::Check;
@@ -17,7 +17,7 @@ use refusal::Refusal;
 // The refusal of a check whose record buffer has `room` bytes: 6, the first byte; 9, degree not 2 to 32; 11, a weight 0 or no element;
 // 12, cost count; 13, a column without a cost of 0; 4, record buffer too short.
 pub fn validate_check(first: u8, weights: &[u8], costs: &[u8], room: usize) -> Result<(), Refusal>
-    ensures { fault_of result ≡ check_fault first weights.now costs.now room }
+    ensures { fault_in result ≡ check_fault first weights.now costs.now room }
 {
     refusals::validate_check(first, weights, costs, room)
 }

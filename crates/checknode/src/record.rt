@@ -12,7 +12,6 @@ ghost use Rattle.checknode.specs.inner.Checks.{record_in, sent_in};
 
 use crate::accepted::Check;
 use crate::{lines, send};
-use scalar::sizes;
 
 // Room for eight lines of sixteen places, which is most of what small fields ask for.
 const TINY: usize = 128;

@@ -3,5 +3,5 @@ use Rattle.machine.specs.CodeLine.{Code}
 use Rattle.codeline.specs.inner.Coding.{code_of}
 use Rattle.codeline.specs.declared.code.Code.{Code as LentCode}
 
-abbrev pub code_in : LentCode → Code
-code_in c = code_of c.numbers c.degrees.now c.columns.now c.weights.now
+abbrev pub lent_code : LentCode → Code
+lent_code c = code_of c.numbers c.degrees.now c.columns.now c.weights.now

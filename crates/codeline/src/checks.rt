@@ -10,7 +10,6 @@ use crate::answers::Numbers;
 use crate::reader::Reader;
 use crate::tables::{Edge, Tables};
 use refusal::Refusal;
-use scalar::sizes;
 
 // "for each edge the column (two bytes, high first, below N, rising within the check) and weight".
 #[tactic(auto, unfolding(machine::specs::CodeLine::read_edge))]

@@ -7,7 +7,6 @@ ghost use Rattle.codeline.specs.inner.Reading.{head_of};
 use crate::answers::Numbers;
 use crate::reader::Reader;
 use refusal::Refusal;
-use scalar::sizes;
 
 // "p", with k in the first byte; "N as two bytes, high first (1 to 256); M (1 to 128); scale g (1 to 16); iteration limit I (1 to 255)";
 // "5 if under six bytes, 6, 7, 8".

@@ -19,7 +19,6 @@ use crate::answers::{Numbers, Summary};
 use crate::reader::Reader;
 use crate::tables::Tables;
 use refusal::Refusal;
-use scalar::sizes;
 
 // The whole line. Where it is refused, the tables may hold anything.
 #[tactic(auto, using(crate::proofs::Parsing::head_refused, crate::proofs::Parsing::not_filled, crate::proofs::Parsing::rest_refused, crate::proofs::Parsing::read_numbers, crate::proofs::Parsing::read_filled))]

@@ -3,7 +3,6 @@ ghost use Rattle.std.specs.Prelude.{◌≡◌, [], ◌∷◌, ◌++◌, ◌+◌,
 ghost use Rattle.trellis.specs.Sizes.{most_edges, most_checks};
 
 use crate::answers::Numbers;
-use scalar::sizes;
 
 // An edge's column and weight.
 #[derive(Clone, Copy, Debug, PartialEq, Eq)]

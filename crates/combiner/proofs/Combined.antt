@@ -47,7 +47,7 @@ use Rattle.refusal.specs.declared.Refusal.TheVariants.{
   SecondFrame,
 }
 use Rattle.refusal.specs.Numbers.{number_of}
-use Rattle.refusal.specs.Replies.{fault_of}
+use Rattle.refusal.specs.Replies.{fault_in}
 use Rattle.std.specs.Result.{is_err}
 use mathlib.Core.Bool.{true, false, true≢false}
 use Rattle.std.specs.Prelude.{Result, Ok, Err}
@@ -114,11 +114,11 @@ number-some ChannelCount e = omega arith
 number-some Allowance e = omega arith
 number-some SecondFrame e = omega arith
 
-pub fault-some : (r : Result Unit Refusal) → is_err r ≡ true → fault_of r ≡ 0 → ⊥
+pub fault-some : (r : Result Unit Refusal) → is_err r ≡ true → fault_in r ≡ 0 → ⊥
 fault-some (Ok u) e = absurd (true≢false (sym e))
 fault-some (Err k) e = number-some k
 
-pub fault_nothing : (r : Result Unit Refusal) → is_err r ≡ false → fault_of r ≡ 0
+pub fault_nothing : (r : Result Unit Refusal) → is_err r ≡ false → fault_in r ≡ 0
 fault_nothing (Ok u) e = refl
 fault_nothing (Err k) e = absurd (true≢false e)
 

@@ -1,6 +1,6 @@
 // Two frames under a code that is read: the refusals in their order, or the combined frame.
 ghost use Rattle.std.specs.Prelude.{◌≡◌};
-ghost use Rattle.refusal.specs.Replies.{reply_of, fault_of};
+ghost use Rattle.refusal.specs.Replies.{reply_of, fault_in};
 ghost use Rattle.machine.specs.CodeLine.{good};
 ghost use Rattle.machine.specs.Combining.{combine_fault, combining_under};
 ghost use Rattle.combiner.specs.inner.Columns.{headed};
@@ -11,7 +11,7 @@ use refusal::Refusal;
 
 // "12 and 13 for the first frame. .. 23, second frame's length wrong or a column of it has no 0, after these; then 2".
 fn validate(numbers: Numbers, first: &[u8], second: &[u8], room: usize) -> Result<(), Refusal>
-    ensures { fault_of result
+    ensures { fault_in result
         ≡ combine_fault (headed numbers.first numbers.columns) first.now second.now room }
 {
     frame::validate_frame(numbers, first)?;

@@ -1,6 +1,6 @@
 // The refusals, and the quotients of the shifts.
 ghost use Rattle.std.specs.Prelude.{◌≡◌};
-ghost use Rattle.refusal.specs.Replies.{fault_of};
+ghost use Rattle.refusal.specs.Replies.{fault_in};
 ghost use Rattle.trellis.specs.Display.{displayed};
 ghost use Rattle.display.specs.Answers.{display_fault};
 ghost use Rattle.display.specs.inner.Showing.{ShowRoom};
@@ -10,7 +10,7 @@ use refusal::Refusal;
 
 // "Both refuse as expansion does; the display's buffer is d bytes, refusal 2".
 pub fn validate(first: u8, weights: &[u8], bytes: &[u8], room: usize) -> Result<(), Refusal>
-    ensures { fault_of result ≡ display_fault first weights.now bytes.now room }
+    ensures { fault_in result ≡ display_fault first weights.now bytes.now room }
 {
     field::validate_weights(first, weights)?;
     if !form::record_ok(first, bytes, weights.len()) {

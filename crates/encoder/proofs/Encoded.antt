@@ -11,7 +11,7 @@ use Rattle.machine.specs.CodeLine.{good, Code, numbers_of, parse}
 use Rattle.machine.specs.Encoding.{encoded, encode_fault, wrote, encoding_under, encoding}
 use Rattle.machine.proofs.Encoding.{more-columns, encode_none}
 use Rattle.codeline.specs.declared.code.Code.{Code as LentCode}
-use Rattle.codeline.specs.Codes.{code_in}
+use Rattle.codeline.specs.Codes.{lent_code}
 use Rattle.codeline.specs.declared.answers.Numbers.{Numbers}
 use Rattle.refusal.specs.declared.Refusal.{Refusal}
 use Rattle.refusal.specs.Numbers.{number_of}
@@ -23,7 +23,7 @@ use Rattle.encoder.specs.inner.Rooms.{FillRoom}
 -- a call under a code that was read, of which n is N
 module _ (K : LentCode) (u out : List ℕ) where
   abbrev C : Code
-  C = code_in K
+  C = lent_code K
 
   pub call_refused : (k : ℕ) → k ≡ encode_fault C u (length out) → (k ≡ 0 → ⊥) → encoding_under (good C) u out ≡ wrote (refusal k) out
   call_refused k o h = rw (← o, ne_eqb k 0 h)

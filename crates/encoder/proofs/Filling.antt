@@ -20,7 +20,7 @@ use Rattle.division.proofs.Quotients.{quotient_is}
 use Rattle.codeline.specs.declared.answers.Numbers.{Numbers}
 use Rattle.codeline.specs.declared.code.Code.{Code as LentCode}
 use Rattle.codeline.specs.Answers.{numbers_in}
-use Rattle.codeline.specs.Codes.{code_in}
+use Rattle.codeline.specs.Codes.{lent_code}
 use Rattle.codeline.specs.inner.Coding.{Coded}
 use Rattle.encoder.specs.inner.Rooms.{OwnRoom, FillRoom}
 
@@ -38,7 +38,7 @@ module _ (K : LentCode) where
   ws = K.weights.now
 
   abbrev C : Code
-  C = code_in K
+  C = lent_code K
 
   abbrev T : Coded k ds cs ws
   T = K.coded

@@ -22,7 +22,7 @@ use Rattle.machine.proofs.Lists.{and_false, all-not}
 use Rattle.machine.proofs.Encoding.{last_own, encodable-last, more-columns}
 use Rattle.codeline.specs.declared.answers.Numbers.{Numbers}
 use Rattle.codeline.specs.declared.code.Code.{Code as LentCode}
-use Rattle.codeline.specs.Codes.{code_in}
+use Rattle.codeline.specs.Codes.{lent_code}
 use Rattle.encoder.proofs.Filling.{counted, last-column}
 
 -- the last column of check m
@@ -55,7 +55,7 @@ module _ (K : LentCode) where
   cs = K.columns.now
 
   abbrev C : Code
-  C = code_in K
+  C = lent_code K
 
   -- the form, where n is N and M the number of checks
   module _ (n M : ℕ) (N : n ≡ k.columns) (e : M ≡ k.checks) where

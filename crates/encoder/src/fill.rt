@@ -4,7 +4,7 @@ ghost use Rattle.trellis.specs.Rules.{power_of};
 ghost use Rattle.machine.specs.CodeLine.{power, check};
 ghost use Rattle.machine.specs.Encoding.{own_symbol, encoded};
 ghost use Rattle.machine.specs.inner.Tables.{term, EdgeRoom};
-ghost use Rattle.codeline.specs.Codes.{code_in};
+ghost use Rattle.codeline.specs.Codes.{lent_code};
 ghost use Rattle.encoder.specs.inner.Rooms.{OwnRoom, FillRoom};
 
 use codeline::code::Code;
@@ -28,7 +28,7 @@ fn term_at(code: &Code<'_>, symbols: &[u8], edge: usize) -> u8
 fn own(code: &Code<'_>, m: usize, at: usize, word: &[u8]) -> u8
     requires { OwnRoom code.now m at word.now }
     ensures { result
-        ≡ own_symbol (power (code_in code.now)) (check (code_in code.now) m) word.now }
+        ≡ own_symbol (power (lent_code code.now)) (check (lent_code code.now) m) word.now }
 {
     let d = usize::from(code.degrees[m]);
     let n = d - 1;
@@ -42,7 +42,7 @@ fn own(code: &Code<'_>, m: usize, at: usize, word: &[u8]) -> u8
 // The symbols of all checks, after the `from` symbols of the message.
 pub fn fill(code: &Code<'_>, from: usize, symbols: &mut [u8])
     requires { FillRoom code.now from symbols.old }
-    ensures { symbols.new ≡ encoded (code_in code.now) (take from symbols.old) }
+    ensures { symbols.new ≡ encoded (lent_code code.now) (take from symbols.old) }
 {
     let mut at = 0;
     for m in 0..usize::from(code.numbers.checks) {

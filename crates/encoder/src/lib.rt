@@ -12,7 +12,6 @@ ghost use Rattle.machine.specs.Encoding.{encoding};
 
 use codeline::code::Code;
 use refusal::Refusal;
-use scalar::sizes;
 
 // Encodes a message of N - M symbols under a code line where N exceeds M and check m, counted from 0, contains column N - M + m and no
 // higher one: N symbols, of which the first are the message and which satisfy every check. The answer is N; what stands after the N

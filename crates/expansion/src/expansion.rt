@@ -9,7 +9,6 @@ ghost use Rattle.expansion.specs.inner.Asks.{ExpandRoom};
 ghost use Rattle.expansion.specs.inner.Transposed.{zero_row, every_at, unpacked, beside_in, value_in, by_symbol, turned};
 ghost use Rattle.expansion.specs.inner.Transposed.{UnpackRoom, ListsRoom, ShiftRoom, TurnRoom};
 
-use scalar::sizes;
 use std::simd::prelude::*;
 
 // Lists over the rows of the largest field: E, and column and S of each pair.

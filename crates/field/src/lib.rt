@@ -8,7 +8,7 @@ mod refusals;
 mod table;
 
 ghost use Rattle.std.specs.Prelude.{◌≡◌};
-ghost use Rattle.refusal.specs.Replies.{reply_of, fault_of};
+ghost use Rattle.refusal.specs.Replies.{reply_of, fault_in};
 ghost use Rattle.field.specs.Answers.{product_reply, weights_fault, rows_leave};
 
 use refusal::Refusal;
@@ -30,7 +30,7 @@ pub fn product(p: u8, a: u8, b: u8) -> Result<u8, Refusal>
 
 // The refusal of first byte and weights: 6, the first byte; 9, degree not 2 to 32; 11, a weight 0 or no element.
 pub fn validate_weights(first: u8, weights: &[u8]) -> Result<(), Refusal>
-    ensures { fault_of result ≡ weights_fault first weights.now }
+    ensures { fault_in result ≡ weights_fault first weights.now }
 {
     refusals::validate_weights(first, weights)
 }

@@ -7,7 +7,6 @@ ghost use Rattle.field.specs.Answers.{row_of, elements_ok, rows_fit};
 ghost use Rattle.field.specs.inner.Asks.{Factor, Factors};
 
 use crate::{field, table};
-use scalar::sizes;
 
 // "it is added where the dropped bit was one".
 fn added(a: u8, x: u8) -> u8

@@ -1,11 +1,10 @@
 // The tests of a first code byte and of weights.
 ghost use Rattle.std.specs.Prelude.{◌≡◌};
-ghost use Rattle.refusal.specs.Replies.{fault_of};
+ghost use Rattle.refusal.specs.Replies.{fault_in};
 ghost use Rattle.field.specs.Answers.{weight_ok, weights_ok, weights_fault};
 
 use crate::field;
 use refusal::Refusal;
-use scalar::sizes;
 
 // A weight is an element other than 0.
 #[tactic(auto, unfolding(crate::specs::Answers::weight_ok))]
@@ -29,7 +28,7 @@ fn weights_ok(q: u8, weights: &[u8]) -> bool
 // 6, 9 or 11, in this order.
 #[tactic(auto, unfolding(crate::specs::Answers::weights_fault))]
 pub fn validate_weights(first: u8, weights: &[u8]) -> Result<(), Refusal>
-    ensures { fault_of result ≡ weights_fault first weights.now }
+    ensures { fault_in result ≡ weights_fault first weights.now }
 {
     if !rules::accepted(first) {
         return Err(Refusal::FirstByte);

@@ -6,7 +6,7 @@ mod columns;
 mod stored;
 
 ghost use Rattle.std.specs.Prelude.{◌≡◌, min, length};
-ghost use Rattle.refusal.specs.Replies.{fault_of as refusal_of};
+ghost use Rattle.refusal.specs.Replies.{fault_in};
 ghost use Rattle.machine.specs.inner.Tables.{bytes_before};
 ghost use Rattle.slices.specs.Copies.{copied_to};
 ghost use Rattle.frame.specs.Answers.{frame_fault_of, room_fault_of, short_fault, fault_of, resume_fault};
@@ -26,7 +26,7 @@ pub struct Lengths {
 // "12, cost count wrong; 13, a column without a cost of 0".
 #[tactic(auto, using(crate::proofs::Frames::zeros_are), unfolding(crate::specs::Answers::frame_fault_of))]
 pub fn validate_frame(numbers: Numbers, frame: &[u8]) -> Result<(), Refusal>
-    ensures { refusal_of result ≡ frame_fault_of numbers.first numbers.columns frame.now }
+    ensures { fault_in result ≡ frame_fault_of numbers.first numbers.columns frame.now }
 {
     let n = usize::from(numbers.columns);
     let q = rules::size(numbers.first);
@@ -57,10 +57,10 @@ pub fn used(numbers: Numbers, degrees: &[u8]) -> usize
 // 2, 3, 4 and 19 for the first buffer that is too short.
 #[tactic(auto, unfolding(crate::specs::Answers::room_fault_of))]
 pub fn validate_room(needed: Lengths, lent: Lengths) -> Result<(), Refusal>
-    ensures each { refusal_of result ≡ short_fault needed lent }
+    ensures each { fault_in result ≡ short_fault needed lent }
 
     // As many margins are needed as symbols: then these are the documents' tests.
-    ensures fault { needed.margins ≡ needed.symbols → refusal_of result
+    ensures fault { needed.margins ≡ needed.symbols → fault_in result
         ≡ room_fault_of needed.symbols needed.costs needed.store lent.symbols lent.costs lent.store lent.margins }
 {
     if lent.symbols < needed.symbols {
@@ -89,7 +89,7 @@ pub fn validate_decode(
     store: &[u8],
     margins: &[u16],
 ) -> Result<(), Refusal>
-    ensures { refusal_of result
+    ensures { fault_in result
         ≡ fault_of numbers degrees.now frame.now (length symbols.now)
         (length costs.now) (length store.now) (length margins.now) }
 {
@@ -132,7 +132,7 @@ pub fn validate_resumed(
     costs: &[u16],
     store: &[u8],
 ) -> Result<(), Refusal>
-    ensures { refusal_of result ≡ resume_fault numbers degrees.now t costs.now store.now }
+    ensures { fault_in result ≡ resume_fault numbers degrees.now t costs.now store.now }
 {
     let n = usize::from(numbers.columns);
     let q = rules::size(numbers.first);

@@ -24,7 +24,7 @@ use Rattle.machine.proofs.EarlyPassing.{next-check, check-small, advancing-start
 use Rattle.machine.proofs.InTables.{columns-length, degree_is, column-part}
 use Rattle.codeline.specs.declared.code.Code.{Code as Tables}
 use Rattle.codeline.specs.Answers.{numbers_in}
-use Rattle.layered.specs.inner.Codes.{code_in}
+use Rattle.codeline.specs.Codes.{lent_code}
 use Rattle.layered.specs.declared.answers.Outcome.TheVariants.{Found, NotFound}
 use Rattle.layered.specs.declared.parity.CheckAt.{CheckAt}
 use Rattle.layered.specs.declared.place.Place.{Place}
@@ -89,7 +89,7 @@ module _ (C : Code) (most u : ℕ) (l l₀ : Lent) (not : settled C l.costs ≡ 
 
 module _ (K : Tables) (P s z : List ℕ) (u : ℕ) (U : Unsettled K u P s z) where
   abbrev C : Code
-  C = code_in K
+  C = lent_code K
 
   many : length C.checks ≡ K.numbers.checks
   many = checks-count K
@@ -172,7 +172,7 @@ module _ (K : Tables) (P s z : List ℕ) (u : ℕ) (U : Unsettled K u P s z) whe
 -- once around the loop
 module _ (K : Tables) (most : ℕ) (l₀ : Lent) where
   abbrev D : Code
-  D = code_in K
+  D = lent_code K
 
   pub going_start : (P s z : List ℕ) → Unsettled K 0 P s z → lent P s ≡ l₀ → Going K most l₀ 0 (record { check = 0; edge = 0; byte = 0 }) (record { check = 0; edge = 0 }) P s z
   unfolding bytes_before
@@ -228,12 +228,12 @@ unfolding stop_lent
 stop_first C zero u l e = sym (rw e)
 stop_first C (suc k) u l e = sym (rw e)
 
-pub first-unsettled : (K : Tables) (P s z A S : List ℕ) → RunRoom K true P s z A S → (y : List ℕ) → y ≡ symbols (code_in K) P
-    → settled (code_in K) P ≡ false → Unsettled K 0 P s y
+pub first-unsettled : (K : Tables) (P s z A S : List ℕ) → RunRoom K true P s z A S → (y : List ℕ) → y ≡ symbols (lent_code K) P
+    → settled (lent_code K) P ≡ false → Unsettled K 0 P s y
 first-unsettled K P s z A S R y d f =
     let r = R.iterate.running in
     record {
-      advancing = advancing-start (code_in K) K.coded.good (lent P s) r.passable.ranged r.passable.room;
+      advancing = advancing-start (lent_code K) K.coded.good (lent P s) r.passable.ranged r.passable.room;
       decided = d;
       unsettled = f;
     }

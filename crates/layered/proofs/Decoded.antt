@@ -31,7 +31,7 @@ use Rattle.refusal.specs.Numbers.{number_of}
 use Rattle.refusal.specs.declared.Refusal.{Refusal}
 use Rattle.codeline.specs.declared.code.Code.{Code as Tables}
 use Rattle.codeline.specs.Answers.{numbers_in, header_numbers}
-use Rattle.layered.specs.inner.Codes.{code_in}
+use Rattle.codeline.specs.Codes.{lent_code}
 use Rattle.codeline.proofs.Answered.{header_refused}
 use Rattle.layered.specs.declared.answers.Outcome.{Outcome}
 use Rattle.layered.specs.declared.answers.Outcome.TheVariants.{Found, NotFound}
@@ -81,7 +81,7 @@ reply_is (NotFound u) l st t l' e = (ap₂ outcome (ap (λ (x : Ended). x.status
 -- a decoding over the tables of a code, of which n is N
 module _ (K : Tables) (n : ℕ) (N : n ≡ K.numbers.columns) where
   abbrev C : Code
-  C = code_in K
+  C = lent_code K
 
   pub used_is : bytes_before K.numbers.first K.degrees.now (min K.numbers.checks (length K.degrees.now)) ≡ used C
   used_is =

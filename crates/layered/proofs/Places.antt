@@ -23,7 +23,7 @@ use Rattle.machine.proofs.Rooms.{used_high}
 use Rattle.machine.proofs.InTables.{count, in_columns, in_weights, check_is, weights-length, same_length, degree_is, column-part, weight-part, place_is}
 use Rattle.codeline.specs.declared.code.Code.{Code as Tables}
 use Rattle.codeline.specs.Answers.{numbers_in}
-use Rattle.layered.specs.inner.Codes.{code_in}
+use Rattle.codeline.specs.Codes.{lent_code}
 use Rattle.layered.specs.inner.Updates.{UpdateRoom}
 use Rattle.layered.specs.declared.place.Place.{Place}
 use Rattle.layered.specs.inner.Places.{Stands, Updatable}
@@ -40,7 +40,7 @@ stands_own first ds m p S =
 
 module _ (K : Tables) (start : Bool) (m : ℕ) (P s : List ℕ) (U : Updatable K start m P s) where
   abbrev C : Code
-  C = code_in K
+  C = lent_code K
 
   abbrev hc : edges_before K.degrees.now K.numbers.checks ≤ length K.columns.now
   hc = K.coded.for_columns

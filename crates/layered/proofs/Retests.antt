@@ -18,7 +18,7 @@ use Rattle.machine.proofs.Ranges.{column-room}
 use Rattle.machine.proofs.InTables.{in_columns, column_in, degree_is}
 use Rattle.codeline.specs.declared.code.Code.{Code as Tables}
 use Rattle.codeline.specs.Answers.{numbers_in}
-use Rattle.layered.specs.inner.Codes.{code_in}
+use Rattle.codeline.specs.Codes.{lent_code}
 use Rattle.layered.specs.declared.parity.CheckAt.{CheckAt}
 use Rattle.layered.specs.declared.place.Place.{Place}
 use Rattle.layered.specs.inner.Parity.{all_hold, ParityRoom, FromTo, FirstNot, SomeNot}
@@ -47,7 +47,7 @@ module _ (K : Tables) (p : Place) (from : CheckAt) (P z : List ℕ) (R : RetestR
   m = p.check
 
   abbrev C : Code
-  C = code_in K
+  C = lent_code K
 
   abbrev hc : edges_before K.degrees.now K.numbers.checks ≤ length K.columns.now
   hc = K.coded.for_columns

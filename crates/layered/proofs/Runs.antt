@@ -14,18 +14,18 @@ use Rattle.machine.proofs.Passing.{updates-before, update_needs, iteration-passa
 use Rattle.machine.proofs.InTables.{count}
 use Rattle.codeline.specs.declared.code.Code.{Code as Tables}
 use Rattle.codeline.specs.Answers.{numbers_in}
-use Rattle.layered.specs.inner.Codes.{code_in}
+use Rattle.codeline.specs.Codes.{lent_code}
 use Rattle.layered.specs.inner.Parity.{SettledRoom}
 use Rattle.layered.specs.inner.Iterations.{Running}
 use Rattle.layered.specs.inner.Places.{Updatable}
 
 -- how many checks the tables say
-pub checks-count : (K : Tables) → length (code_in K).checks ≡ K.numbers.checks
+pub checks-count : (K : Tables) → length (lent_code K).checks ≡ K.numbers.checks
 checks-count K = count (numbers_in K.numbers) K.degrees.now K.columns.now K.weights.now K.coded.for_columns K.coded.for_weights
 
 module _ (K : Tables) (P s : List ℕ) (start : Bool) (R : Running K start P s) where
   abbrev C : Code
-  C = code_in K
+  C = lent_code K
 
   -- before check m of an iteration
   pub update-updatable : (m : ℕ) → m < K.numbers.checks → (l : Lent) → l ≡ upto (update_lent C start) m (lent P s) → Updatable K start m l.costs l.store

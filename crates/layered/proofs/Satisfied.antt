@@ -27,7 +27,7 @@ use Rattle.machine.proofs.Ranges.{column-room}
 use Rattle.machine.proofs.InTables.{count, degree_is, in_columns, in_weights, column_in, weight_in, term_in}
 use Rattle.codeline.specs.declared.code.Code.{Code as Tables}
 use Rattle.codeline.specs.Answers.{numbers_in}
-use Rattle.layered.specs.inner.Codes.{code_in}
+use Rattle.codeline.specs.Codes.{lent_code}
 use Rattle.layered.specs.declared.parity.CheckAt.{CheckAt}
 use Rattle.machine.specs.inner.Tables.{EdgeRoom}
 use Rattle.layered.specs.inner.Parity.{holds_at, all_hold, ParityRoom, FirstNot, SettledRoom}
@@ -78,20 +78,20 @@ module _ (C : Code) (z : List ℕ) where
 
 module _ (K : Tables) where
   -- what the two loops over the columns leave are the machine's
-  pub symbols_are : (P : List ℕ) → tab (λ c. (decide (column_of (size_of K.numbers.first) P c)).symbol) K.numbers.columns ≡ symbols (code_in K) P
+  pub symbols_are : (P : List ℕ) → tab (λ c. (decide (column_of (size_of K.numbers.first) P c)).symbol) K.numbers.columns ≡ symbols (lent_code K) P
   unfolding symbols
   symbols_are P = sym (up_to_tab (λ c. (decide (column_of (size_of K.numbers.first) P c)).symbol) K.numbers.columns)
 
-  pub margins_are : (P : List ℕ) → tab (λ c. (decide (column_of (size_of K.numbers.first) P c)).margin) K.numbers.columns ≡ margins (code_in K) P
+  pub margins_are : (P : List ℕ) → tab (λ c. (decide (column_of (size_of K.numbers.first) P c)).margin) K.numbers.columns ≡ margins (lent_code K) P
   unfolding margins
   margins_are P = sym (up_to_tab (λ c. (decide (column_of (size_of K.numbers.first) P c)).margin) K.numbers.columns)
 
-  pub settled-by : (P : List ℕ) → all_hold (code_in K) (symbols (code_in K) P) ≡ settled (code_in K) P
+  pub settled-by : (P : List ℕ) → all_hold (lent_code K) (symbols (lent_code K) P) ≡ settled (lent_code K) P
   unfolding all_hold settled
   settled-by P = refl
 
   -- after the decisions each edge has its two elements
-  pub decided-room : (P y z : List ℕ) → SettledRoom K P y → z ≡ symbols (code_in K) P → ParityRoom K z
+  pub decided-room : (P y z : List ℕ) → SettledRoom K P y → z ≡ symbols (lent_code K) P → ParityRoom K z
   decided-room P y z S o =
       let e : z ≡ tab (λ c. first_zero (column_of (size_of K.numbers.first) P c)) K.numbers.columns = o ∙ sym (symbols_are P) in
       record {
@@ -104,7 +104,7 @@ module _ (K : Tables) where
   -- at the place that the loops carry
   module _ (z : List ℕ) (R : ParityRoom K z) (m n at d : ℕ) (h : m < K.numbers.checks) (e : at ≡ edges_before K.degrees.now m) (i : d ≡ get_or K.degrees.now m 0) where
     abbrev C : Code
-    C = code_in K
+    C = lent_code K
 
     abbrev hc : edges_before K.degrees.now K.numbers.checks ≤ length K.columns.now
     hc = K.coded.for_columns

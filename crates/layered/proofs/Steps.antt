@@ -26,7 +26,7 @@ use Rattle.refusal.specs.Numbers.{number_of}
 use Rattle.refusal.specs.declared.Refusal.{Refusal}
 use Rattle.codeline.specs.declared.code.Code.{Code as Tables}
 use Rattle.codeline.specs.Answers.{numbers_in, header_numbers}
-use Rattle.layered.specs.inner.Codes.{code_in}
+use Rattle.codeline.specs.Codes.{lent_code}
 use Rattle.codeline.proofs.Answered.{header_refused}
 use Rattle.layered.specs.inner.Iterations.{Running}
 use Rattle.frame.specs.Answers.{fault_of, costs_in, formed_at, records_in, resume_fault}
@@ -57,13 +57,13 @@ module _ (K : Tables) (P s : List ℕ) (start : Bool) (R : Running K start P s) 
 
 -- the test after an iteration
 pub after-room : (K : Tables) (P s z v A S : List ℕ) (start : Bool) → StepRoom K start P s z v A S → (P' s' z' v' : List ℕ)
-    → lent P' s' ≡ iteration_lent (code_in K) start (lent P s) → length z' ≡ length z → length v' ≡ length v → TestRoom K P' z' v'
+    → lent P' s' ≡ iteration_lent (lent_code K) start (lent P s) → length z' ≡ length z → length v' ≡ length v → TestRoom K P' z' v'
 after-room K P s z v A S start R P' s' z' v' e i j =
     tested_room K P' s' false (iteration-running K P s start R.iterate.running P' s' e) z' v' (i ∙ R.symbols) (j ∙ R.margins)
 
 module _ (K : Tables) (n : ℕ) (N : n ≡ K.numbers.columns) where
   abbrev C : Code
-  C = code_in K
+  C = lent_code K
 
   abbrev hc : edges_before K.degrees.now K.numbers.checks ≤ length K.columns.now
   hc = K.coded.for_columns

@@ -1,6 +1,5 @@
 -- What the loops leave and what the functions that another crate cannot call ask, in the shape of the code.
 pub mod Buffers
-pub mod Codes
 pub mod Columns
 pub mod Parity
 pub mod Updates

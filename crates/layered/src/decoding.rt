@@ -7,7 +7,7 @@ ghost use Rattle.machine.specs.Lent.{lent};
 ghost use Rattle.machine.specs.Decoding.{lending, Leaves};
 ghost use Rattle.layered.specs.Answers.{answer_reply};
 ghost use Rattle.layered.specs.inner.Buffers.{lent_in, RunIn, SameLoans, SameScratch};
-ghost use Rattle.layered.specs.inner.Codes.{code_in};
+ghost use Rattle.codeline.specs.Codes.{lent_code};
 ghost use Rattle.layered.specs.inner.Iterations.{ended_in, RunRoom};
 ghost use Rattle.layered.specs.inner.Calls.{run_lent, decoding_of, called, WorkRoom};
 
@@ -17,7 +17,6 @@ use crate::parity;
 use crate::schedule::Schedule;
 use codeline::code::Code;
 use refusal::Refusal;
-use scalar::sizes;
 
 // The run of a schedule, with the margins of its last decisions.
 fn run_to_margins<S: Schedule>(
@@ -30,10 +29,10 @@ fn run_to_margins<S: Schedule>(
     ensures loans { SameLoans b.old b.new }
     ensures scratch { SameScratch room.old room.new }
     ensures ends { ended_in result (lent_in b.new)
-        ≡ run_lent S.early code.now.numbers (code_in code.now)
+        ≡ run_lent S.early code.now.numbers (lent_code code.now)
         (lent_in b.old) }
-    ensures symbols_then { b.new.symbols.now ≡ symbols_of (code_in code.now) b.new.costs.now }
-    ensures margins_then { b.new.margins.now ≡ margins_of (code_in code.now) b.new.costs.now }
+    ensures symbols_then { b.new.symbols.now ≡ symbols_of (lent_code code.now) b.new.costs.now }
+    ensures margins_then { b.new.margins.now ≡ margins_of (lent_code code.now) b.new.costs.now }
 {
     let o = S::run(code, b, room);
     // Lent before the other field: beside a lent one none is read.
@@ -55,10 +54,10 @@ fn run_over<S: Schedule>(
     requires { RunRoom code.now true costs.old store.old symbols.old arrived.old sent.old
         × (length margins.old ≡ code.now.numbers.columns) }
     ensures ends { ended_in result (lent costs.new store.new)
-        ≡ run_lent S.early code.now.numbers (code_in code.now)
+        ≡ run_lent S.early code.now.numbers (lent_code code.now)
         (lent costs.old store.old) }
-    ensures symbols_then { symbols.new ≡ symbols_of (code_in code.now) costs.new }
-    ensures margins_then { margins.new ≡ margins_of (code_in code.now) costs.new }
+    ensures symbols_then { symbols.new ≡ symbols_of (lent_code code.now) costs.new }
+    ensures margins_then { margins.new ≡ margins_of (lent_code code.now) costs.new }
 {
     let mut b = DecodeBuffers {
         symbols,
@@ -83,7 +82,7 @@ fn under_code<S: Schedule>(
 ) -> Result<Outcome, Refusal>
     requires { WorkRoom arrived.old sent.old }
     ensures { Leaves
-        (decoding_of S.early (code_in code.now)
+        (decoding_of S.early (lent_code code.now)
         frame.now (lending symbols.old costs.old store.old margins.old))
         (answer_reply result)
         (lending symbols.new costs.new store.new margins.new) }

@@ -7,7 +7,7 @@ ghost use Rattle.machine.specs.CodeLine.{column_of};
 ghost use Rattle.machine.specs.Machine.{symbols as symbols_of};
 ghost use Rattle.machine.specs.inner.LentEarly.{stop_lent};
 ghost use Rattle.layered.specs.inner.Buffers.{lent_in, RunIn, SameLoans, SameScratch};
-ghost use Rattle.layered.specs.inner.Codes.{code_in};
+ghost use Rattle.codeline.specs.Codes.{lent_code};
 ghost use Rattle.layered.specs.inner.Parity.{ParityRoom, FromTo, SomeNot};
 ghost use Rattle.layered.specs.inner.Iterations.{ended_in};
 ghost use Rattle.layered.specs.inner.Early.{decided_again, AgainRoom, RetestRoom, Retested, GoRoom};
@@ -53,7 +53,7 @@ fn decide_again(costs: &[u16], q: usize, columns: &[u16], symbols: &mut [u8]) ->
 // The test from a check on that the symbols did not satisfy before: a check that they do not satisfy, found behind it or else before it.
 fn unsatisfied_from(code: &Code<'_>, from: CheckAt, symbols: &[u8]) -> Option<CheckAt>
     requires { ParityRoom code.now symbols.now × FromTo code.now from code.now.numbers.checks }
-    ensures { SomeNot (code_in code.now) code.now.degrees.now symbols.now result }
+    ensures { SomeNot (lent_code code.now) code.now.degrees.now symbols.now result }
 {
     let count = usize::from(code.numbers.checks);
     let first = CheckAt { check: 0, edge: 0 };
@@ -73,8 +73,8 @@ fn tested_again(
     symbols: &mut [u8],
 ) -> Option<CheckAt>
     requires { RetestRoom code.now here from costs.now symbols.old }
-    ensures test { Retested (code_in code.now) code.now.degrees.now costs.now result }
-    ensures symbols_then { symbols.new ≡ symbols_of (code_in code.now) costs.now }
+    ensures test { Retested (lent_code code.now) code.now.degrees.now costs.now result }
+    ensures symbols_then { symbols.new ≡ symbols_of (lent_code code.now) costs.now }
 {
     let m = here.check;
     let at = here.edge;
@@ -93,8 +93,8 @@ fn go_on(code: &Code<'_>, most: u16, b: &mut DecodeBuffers<'_>, room: &mut Scrat
     ensures loans { SameLoans b.old b.new }
     ensures scratch { SameScratch room.old room.new }
     ensures ends { ended_in result (lent_in b.new)
-        ≡ stop_lent (code_in code.now) most 0 (lent_in b.old) }
-    ensures symbols_then { b.new.symbols.now ≡ symbols_of (code_in code.now) b.new.costs.now }
+        ≡ stop_lent (lent_code code.now) most 0 (lent_in b.old) }
+    ensures symbols_then { b.new.symbols.now ≡ symbols_of (lent_code code.now) b.new.costs.now }
 {
     let count = usize::from(code.numbers.checks);
     let mut here = Place {
@@ -134,8 +134,8 @@ pub fn run(code: &Code<'_>, b: &mut DecodeBuffers<'_>, room: &mut Scratch<'_>) -
     ensures loans { SameLoans b.old b.new }
     ensures scratch { SameScratch room.old room.new }
     ensures ends { ended_in result (lent_in b.new)
-        ≡ stop_lent (code_in code.now) (code.now.numbers.checks * code.now.numbers.limit) 0 (lent_in b.old) }
-    ensures symbols_then { b.new.symbols.now ≡ symbols_of (code_in code.now) b.new.costs.now }
+        ≡ stop_lent (lent_code code.now) (code.now.numbers.checks * code.now.numbers.limit) 0 (lent_in b.old) }
+    ensures symbols_then { b.new.symbols.now ≡ symbols_of (lent_code code.now) b.new.costs.now }
 {
     // Lent before the other field: beside a lent one none is read.
     let costs = &mut *b.costs;

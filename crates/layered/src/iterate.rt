@@ -3,7 +3,7 @@ ghost use Rattle.std.specs.Prelude.{◌≡◌, true};
 ghost use Rattle.machine.specs.Machine.{symbols as symbols_of};
 ghost use Rattle.machine.specs.Lent.{lent, iteration_lent, go_lent};
 ghost use Rattle.layered.specs.inner.Buffers.{lent_in, RunIn, SameLoans, SameScratch};
-ghost use Rattle.layered.specs.inner.Codes.{code_in};
+ghost use Rattle.codeline.specs.Codes.{lent_code};
 ghost use Rattle.layered.specs.inner.Iterations.{ended_in, IterateRoom};
 
 use crate::answers::Outcome;
@@ -23,7 +23,7 @@ pub fn iterate(
     requires { IterateRoom code.now start costs.old store.old room.old.arrived.now room.old.sent.now }
     ensures scratch { SameScratch room.old room.new }
     ensures buffers { lent costs.new store.new
-        ≡ iteration_lent (code_in code.now) start (lent costs.old store.old) }
+        ≡ iteration_lent (lent_code code.now) start (lent costs.old store.old) }
 {
     let count = usize::from(code.numbers.checks);
     let mut here = Place {
@@ -43,8 +43,8 @@ pub fn run(code: &Code<'_>, b: &mut DecodeBuffers<'_>, room: &mut Scratch<'_>) -
     ensures loans { SameLoans b.old b.new }
     ensures scratch { SameScratch room.old room.new }
     ensures ends { ended_in result (lent_in b.new)
-        ≡ go_lent (code_in code.now) code.now.numbers.limit 0 (lent_in b.old) }
-    ensures symbols_then { b.new.symbols.now ≡ symbols_of (code_in code.now) b.new.costs.now }
+        ≡ go_lent (lent_code code.now) code.now.numbers.limit 0 (lent_in b.old) }
+    ensures symbols_then { b.new.symbols.now ≡ symbols_of (lent_code code.now) b.new.costs.now }
 {
     let limit = u16::from(code.numbers.limit);
     let mut t: u16 = 0;

@@ -8,7 +8,7 @@ ghost use Rattle.trellis.specs.Sizes.{most_size};
 ghost use Rattle.machine.specs.inner.Tables.{term};
 ghost use Rattle.machine.specs.CodeLine.{column_of};
 ghost use Rattle.machine.specs.Machine.{settled as settled_of, symbols as symbols_of};
-ghost use Rattle.layered.specs.inner.Codes.{code_in};
+ghost use Rattle.codeline.specs.Codes.{lent_code};
 ghost use Rattle.machine.specs.inner.Tables.{EdgeRoom};
 ghost use Rattle.layered.specs.inner.Parity.{all_hold, ParityRoom, FromTo, FirstNot, SettledRoom};
 
@@ -79,7 +79,7 @@ pub struct CheckAt {
 // at once, by the label.
 pub fn unsatisfied(code: &Code<'_>, from: CheckAt, to: usize, symbols: &[u8]) -> Option<CheckAt>
     requires { ParityRoom code.now symbols.now × FromTo code.now from to }
-    ensures { FirstNot (code_in code.now) code.now.degrees.now symbols.now from.check to result }
+    ensures { FirstNot (lent_code code.now) code.now.degrees.now symbols.now from.check to result }
 {
     let mut m = from.check;
     let mut at = from.edge;
@@ -108,7 +108,7 @@ pub fn unsatisfied(code: &Code<'_>, from: CheckAt, to: usize, symbols: &[u8]) ->
 // Whether the symbols satisfy every check.
 fn holds(code: &Code<'_>, symbols: &[u8]) -> bool
     requires { ParityRoom code.now symbols.now }
-    ensures { result ≡ all_hold (code_in code.now) symbols.now }
+    ensures { result ≡ all_hold (lent_code code.now) symbols.now }
 {
     let count = usize::from(code.numbers.checks);
     let from = CheckAt { check: 0, edge: 0 };
@@ -118,8 +118,8 @@ fn holds(code: &Code<'_>, symbols: &[u8]) -> bool
 // The decisions into the symbol buffer, and whether they satisfy every check.
 pub fn settled(code: &Code<'_>, costs: &[u16], symbols: &mut [u8]) -> bool
     requires { SettledRoom code.now costs.now symbols.old }
-    ensures test { result ≡ settled_of (code_in code.now) costs.now }
-    ensures symbols_then { symbols.new ≡ symbols_of (code_in code.now) costs.now }
+    ensures test { result ≡ settled_of (lent_code code.now) costs.now }
+    ensures symbols_then { symbols.new ≡ symbols_of (lent_code code.now) costs.now }
 {
     decisions(costs, rules::size(code.numbers.first), symbols);
     holds(code, symbols)

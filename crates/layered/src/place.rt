@@ -2,7 +2,7 @@
 ghost use Rattle.std.specs.Prelude.{◌≡◌, ◌+◌};
 ghost use Rattle.machine.specs.Lent.{lent, update_lent};
 ghost use Rattle.layered.specs.inner.Buffers.{SameScratch};
-ghost use Rattle.layered.specs.inner.Codes.{code_in};
+ghost use Rattle.codeline.specs.Codes.{lent_code};
 ghost use Rattle.layered.specs.inner.Places.{Stands, Around, PlaceRoom};
 
 use crate::buffers::Scratch;
@@ -29,7 +29,7 @@ pub fn update_at(
     requires { PlaceRoom code.now start here costs.old store.old room.old.arrived.now room.old.sent.now }
     ensures scratch { SameScratch room.old room.new }
     ensures buffers { lent costs.new store.new
-        ≡ update_lent (code_in code.now) start here.check (lent costs.old store.old) }
+        ≡ update_lent (lent_code code.now) start here.check (lent costs.old store.old) }
     ensures next { Stands code.now.numbers.first code.now.degrees.now (here.check + 1) result }
 {
     let m = here.check;

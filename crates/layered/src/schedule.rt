@@ -2,7 +2,7 @@
 ghost use Rattle.std.specs.Prelude.{◌≡◌, Bool, true, false};
 ghost use Rattle.machine.specs.Machine.{symbols as symbols_of};
 ghost use Rattle.layered.specs.inner.Buffers.{lent_in, RunIn, SameLoans, SameScratch};
-ghost use Rattle.layered.specs.inner.Codes.{code_in};
+ghost use Rattle.codeline.specs.Codes.{lent_code};
 ghost use Rattle.layered.specs.inner.Iterations.{ended_in};
 ghost use Rattle.layered.specs.inner.Calls.{run_lent};
 
@@ -21,9 +21,9 @@ pub trait Schedule {
         ensures loans { SameLoans b.old b.new }
         ensures scratch { SameScratch room.old room.new }
         ensures ends { ended_in result (lent_in b.new)
-            ≡ run_lent early code.now.numbers (code_in code.now)
+            ≡ run_lent early code.now.numbers (lent_code code.now)
             (lent_in b.old) }
-        ensures symbols_then { b.new.symbols.now ≡ symbols_of (code_in code.now) b.new.costs.now };
+        ensures symbols_then { b.new.symbols.now ≡ symbols_of (lent_code code.now) b.new.costs.now };
 }
 
 pub struct WholeIterations;

@@ -6,7 +6,7 @@ ghost use Rattle.machine.specs.Lent.{lent, iteration_lent};
 ghost use Rattle.machine.specs.Decoding.{lending};
 ghost use Rattle.machine.specs.Moments.{Moves, loading, iterating};
 ghost use Rattle.layered.specs.inner.Calls.{WorkRoom};
-ghost use Rattle.layered.specs.inner.Codes.{code_in};
+ghost use Rattle.codeline.specs.Codes.{lent_code};
 ghost use Rattle.layered.specs.Answers.{stage_of};
 ghost use Rattle.layered.specs.inner.Stages.{stage_after, loading_of, iterating_of, TestRoom, StepRoom};
 
@@ -15,7 +15,6 @@ use crate::buffers::Scratch;
 use crate::{iterate, parity};
 use codeline::code::Code;
 use refusal::Refusal;
-use scalar::sizes;
 
 // "2 if the test holds, else 3 if t is I or more, else 1".
 pub fn stage_after(found: bool, t: u16, limit: u8) -> Stage
@@ -33,9 +32,9 @@ pub fn stage_after(found: bool, t: u16, limit: u8) -> Stage
 // The decisions with their margins, and whether they satisfy every check.
 pub fn tested(code: &Code<'_>, costs: &[u16], symbols: &mut [u8], margins: &mut [u16]) -> bool
     requires { TestRoom code.now costs.now symbols.old margins.old }
-    ensures test { result ≡ settled (code_in code.now) costs.now }
-    ensures symbols_then { symbols.new ≡ symbols_of (code_in code.now) costs.now }
-    ensures margins_then { margins.new ≡ margins_of (code_in code.now) costs.now }
+    ensures test { result ≡ settled (lent_code code.now) costs.now }
+    ensures symbols_then { symbols.new ≡ symbols_of (lent_code code.now) costs.now }
+    ensures margins_then { margins.new ≡ margins_of (lent_code code.now) costs.now }
 {
     parity::margins(costs, rules::size(code.numbers.first), margins);
     parity::settled(code, costs, symbols)
@@ -53,11 +52,11 @@ pub fn iterated(
     sent: &mut [u8],
 ) -> bool
     requires { StepRoom code.now start costs.old store.old symbols.old margins.old arrived.old sent.old }
-    ensures test { result ≡ settled (code_in code.now) costs.new }
+    ensures test { result ≡ settled (lent_code code.now) costs.new }
     ensures buffers { lent costs.new store.new
-        ≡ iteration_lent (code_in code.now) start (lent costs.old store.old) }
-    ensures symbols_then { symbols.new ≡ symbols_of (code_in code.now) costs.new }
-    ensures margins_then { margins.new ≡ margins_of (code_in code.now) costs.new }
+        ≡ iteration_lent (lent_code code.now) start (lent costs.old store.old) }
+    ensures symbols_then { symbols.new ≡ symbols_of (lent_code code.now) costs.new }
+    ensures margins_then { margins.new ≡ margins_of (lent_code code.now) costs.new }
 {
     let mut room = Scratch { arrived, sent };
     iterate::iterate(code, start, costs, store, &mut room);
@@ -74,7 +73,7 @@ fn load_under(
     margins: &mut [u16],
 ) -> Result<Stage, Refusal>
     ensures { Moves
-        (loading_of (code_in code.now) frame.now (lending symbols.old costs.old store.now margins.old))
+        (loading_of (lent_code code.now) frame.now (lending symbols.old costs.old store.now margins.old))
         (stage_of result)
         (lending symbols.new costs.new store.now margins.new) }
 {
@@ -109,7 +108,7 @@ fn step_under(
 ) -> Result<Stage, Refusal>
     requires { WorkRoom arrived.old sent.old }
     ensures { Moves
-        (iterating_of (code_in code.now) frame.now t (lending symbols.old costs.old store.old margins.old))
+        (iterating_of (lent_code code.now) frame.now t (lending symbols.old costs.old store.old margins.old))
         (stage_of result)
         (lending symbols.new costs.new store.new margins.new) }
 {

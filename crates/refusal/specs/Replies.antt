@@ -10,6 +10,6 @@ reply_of (Ok n) = accepted n
 reply_of (Err r) = refusal (number_of r)
 
 -- "the number of the first refusal, 0 for none"
-abbrev pub fault_of : Result Unit Refusal → ℕ
-fault_of (Ok _) = 0
-fault_of (Err r) = number_of r
+abbrev pub fault_in : Result Unit Refusal → ℕ
+fault_in (Ok _) = 0
+fault_in (Err r) = number_of r

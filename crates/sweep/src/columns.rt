@@ -12,7 +12,6 @@ ghost use Rattle.sweep.specs.inner.Cells.{move_cost, Sized, step_for, step_colum
 use crate::step::Column;
 use crate::{cells, step};
 use checknode::accepted::Check;
-use scalar::sizes;
 
 // A product of two elements, which is not refused.
 pub fn times(p: u8, a: u8, b: u8) -> u8

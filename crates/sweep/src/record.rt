@@ -13,7 +13,6 @@ ghost use Rattle.sweep.specs.inner.Cells.{terms_of, Swept};
 use crate::columns::Direction;
 use crate::{cells, columns, group, join};
 use checknode::accepted::Check;
-use scalar::sizes;
 
 // Costs of one column, for each count of deviations and each partial sum, and of a sweep over all columns.
 const MOST_CELLS: usize = (sizes::MOST_DEVIATIONS + 1) * sizes::MOST_SIZE;

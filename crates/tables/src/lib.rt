@@ -12,7 +12,6 @@ ghost use Rattle.tables.specs.Calls.{in_range, ShapeFor, sent_leaves};
 
 pub use crate::layout::Shape;
 use rules::Rule;
-use scalar::sizes;
 
 // Whether p is 2 to 6, k 2 to 3 and d 2 to 32.
 #[tactic(auto, unfolding(crate::specs::Calls::in_range))]

@@ -6,7 +6,6 @@ ghost use Rattle.text.specs.inner.Held.{held_in, kept_of, put_at, to_newline, Ke
 
 use crate::line_end;
 use crate::state::State;
-use scalar::sizes;
 
 // "Lines end in byte 0A": the place of the first one.
 fn newline(bytes: &[u8]) -> Option<usize>

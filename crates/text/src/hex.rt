@@ -1,11 +1,10 @@
 // A line of text: hexadecimal digits, two a byte.
 ghost use Rattle.std.specs.Prelude.{◌≡◌, true, ◌/◌, ◌<◌, length};
-ghost use Rattle.refusal.specs.Replies.{reply_of, fault_of};
+ghost use Rattle.refusal.specs.Replies.{reply_of, fault_in};
 ghost use Rattle.machine.specs.Line.{is_digit, digit, line_bytes, line_reply, line_leaves};
 ghost use Rattle.text.specs.inner.Digits.{digit_answer, digits_fault, all_digits};
 
 use refusal::Refusal;
-use scalar::sizes;
 
 // "hexadecimal digits 0-9 and A-F"; "14, .. another byte".
 fn value(b: u8) -> Result<u8, Refusal>
@@ -20,7 +19,7 @@ fn value(b: u8) -> Result<u8, Refusal>
 
 // Whether each byte is a digit.
 fn validate(text: &[u8]) -> Result<(), Refusal>
-    ensures { fault_of result ≡ digits_fault text.now (length text.now) }
+    ensures { fault_in result ≡ digits_fault text.now (length text.now) }
 {
     for &b in text {
         value(b)?;

@@ -17,7 +17,6 @@ ghost use Rattle.text.specs.inner.Held.{held_in, kept_of, put_at, fed_held, clos
 
 use crate::state::State;
 use refusal::Refusal;
-use scalar::sizes;
 
 // The bytes of a line of text. "Line: 15, 14, 2."; nothing is written before the last of these is tested.
 pub fn line(text: &[u8], out: &mut [u8]) -> Result<usize, Refusal>

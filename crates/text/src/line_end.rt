@@ -9,7 +9,6 @@ ghost use Rattle.text.specs.inner.Held.{held_in, kept_of, put_at, code_bytes, ac
 
 use crate::state::State;
 use crate::{hex, print};
-use scalar::sizes;
 
 // Puts a row into the output.
 fn put(row: &[u8], out: &mut [u8], full: usize) -> usize

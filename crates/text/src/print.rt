@@ -8,7 +8,6 @@ ghost use Rattle.text.specs.inner.Lines.{as_line, over};
 use crate::hex;
 use layered::answers::Outcome;
 use refusal::Refusal;
-use scalar::sizes;
 
 // "hexadecimal digits 0-9 and A-F".
 fn digit(n: u8) -> u8

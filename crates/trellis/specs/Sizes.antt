@@ -1,4 +1,4 @@
--- The most that an accepted code has of each thing (SPEC 4). The code's constants are those of scalar, module sizes.
+-- The most that an accepted code has of each thing (SPEC 4). The code's constants are those of the crate sizes.
 use Rattle.std.specs.Prelude.{ℕ}
 
 -- checks of a code, edges of all its checks, and of one

@@ -6,7 +6,7 @@ use Rattle.machine.specs.CodeLine.{Code, size}
 use Rattle.machine.specs.Decoding.{Buffers}
 use Rattle.machine.specs.Moments.{Moment}
 use Rattle.machine.specs.inner.InRange.{Passable}
-use Rattle.codeline.specs.Codes.{code_in}
+use Rattle.codeline.specs.Codes.{lent_code}
 use Rattle.channels.specs.declared.layout.Layout.{Layout}
 use Rattle.channels.specs.Channels.{own_of, count_tests, whole_tests}
 use Rattle.channels.specs.inner.Rounds.{Standing, Rooms, Serves, lent_in, status_of, patch_at, loaded_to, rounds_at}
@@ -21,7 +21,7 @@ fault_for n z f y c s v = fault_by (whole_tests n z.columns z.costs z.store f y 
 
 -- the code of a layout
 abbrev pub code_for : Layout → Code
-code_for z = code_in z.code
+code_for z = lent_code z.code
 
 -- what one channel's load or iteration leaves: its status, and its parts of the buffers
 pub record Puts (C : Code) (c : ℕ) (b : Buffers) (m : Moment) (status : ℕ) (b' : Buffers) : Type 0 where

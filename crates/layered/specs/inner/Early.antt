@@ -12,7 +12,7 @@ use Rattle.machine.specs.inner.LentEarly.{stop_lent}
 use Rattle.machine.specs.inner.Tables.{edges_before, table_at}
 use Rattle.machine.specs.inner.InRange.{Advancing}
 use Rattle.codeline.specs.declared.code.Code.{Code as Tables}
-use Rattle.layered.specs.inner.Codes.{code_in}
+use Rattle.codeline.specs.Codes.{lent_code}
 use Rattle.layered.specs.declared.parity.CheckAt.{CheckAt}
 use Rattle.layered.specs.declared.place.Place.{Place}
 use Rattle.layered.specs.inner.Parity.{EdgeOf, SettledRoom}
@@ -36,11 +36,11 @@ pub record RetestRoom (K : Tables) (p : Place) (from : CheckAt) (P z : List ℕ)
   pub from_edge : EdgeOf K.degrees.now from
   pub from_inside : from.check < K.numbers.checks
   pub old : List ℕ
-  pub decided : z ≡ symbols (code_in K) old
-  pub unsettled : settled (code_in K) old ≡ false
+  pub decided : z ≡ symbols (lent_code K) old
+  pub unsettled : settled (lent_code K) old ≡ false
   pub again : decided_again (size_of K.numbers.first) P (table_at K.degrees.now K.columns.now p.check) (length (table_at K.degrees.now K.columns.now p.check))
-      (symbols (code_in K) old)
-      ≡ symbols (code_in K) P
+      (symbols (lent_code K) old)
+      ≡ symbols (lent_code K) P
 
 -- r is a check, and the decisions of P do not satisfy every one
 pub record RetestedAt (C : Code) (ds P : List ℕ) (r : CheckAt) : Type 0 where
@@ -55,9 +55,9 @@ Retested C ds P None = settled C P ≡ true
 
 -- after u updates, which have not satisfied every check: the symbols are the decisions
 pub record Unsettled (K : Tables) (u : ℕ) (P store z : List ℕ) : Type 0 where
-  pub advancing : Advancing (code_in K) K.coded.good u (lent P store)
-  pub decided : z ≡ symbols (code_in K) P
-  pub unsettled : settled (code_in K) P ≡ false
+  pub advancing : Advancing (lent_code K) K.coded.good u (lent P store)
+  pub decided : z ≡ symbols (lent_code K) P
+  pub unsettled : settled (lent_code K) P ≡ false
 
 -- room to go on from there: two lists to work in
 pub record GoRoom (K : Tables) (P store z A S : List ℕ) : Type 0 where
@@ -75,4 +75,4 @@ pub record Going (K : Tables) (most : ℕ) (l₀ : Lent) (u : ℕ) (here : Place
   pub from_edge : EdgeOf K.degrees.now from
   pub from_inside : from.check < K.numbers.checks
   pub unsettled : Unsettled K u P store z
-  pub left : stop_lent (code_in K) (most - u) u (lent P store) ≡ stop_lent (code_in K) most 0 l₀
+  pub left : stop_lent (lent_code K) (most - u) u (lent P store) ≡ stop_lent (lent_code K) most 0 l₀

@@ -5,7 +5,7 @@ use Rattle.machine.specs.Machine.{found, not_found}
 use Rattle.machine.specs.Lent.{Lent, lent, Ended, ended}
 use Rattle.machine.specs.inner.InRange.{Passable}
 use Rattle.codeline.specs.declared.code.Code.{Code as Tables}
-use Rattle.layered.specs.inner.Codes.{code_in}
+use Rattle.codeline.specs.Codes.{lent_code}
 use Rattle.layered.specs.declared.answers.Outcome.{Outcome}
 use Rattle.layered.specs.declared.answers.Outcome.TheVariants.{Found, NotFound}
 
@@ -16,7 +16,7 @@ ended_in (NotFound t) l = ended not_found t l
 
 -- costs in range, and room for the records; but in the first iteration each stored record is of accepted form
 pub record Running (K : Tables) (start : Bool) (P store : List ℕ) : Type 0 where
-  pub passable : Passable (code_in K) K.coded.good start (lent P store)
+  pub passable : Passable (lent_code K) K.coded.good start (lent P store)
 
 -- room to work in: two lists for the largest check's columns
 pub record IterateRoom (K : Tables) (start : Bool) (P store A S : List ℕ) : Type 0 where

@@ -7,7 +7,7 @@ use Rattle.machine.specs.Machine.{satisfied}
 use Rattle.machine.specs.inner.Tables.{edges_before}
 use Rattle.machine.specs.inner.InRange.{Ranged}
 use Rattle.codeline.specs.declared.code.Code.{Code as Tables}
-use Rattle.layered.specs.inner.Codes.{code_in}
+use Rattle.codeline.specs.Codes.{lent_code}
 use Rattle.layered.specs.declared.parity.CheckAt.{CheckAt}
 
 -- the symbols z satisfy check m; every check
@@ -57,5 +57,5 @@ SomeNot C ds z None = all_hold C z ≡ true
 
 -- before the decisions: costs in range, and room for a symbol of each column
 pub record SettledRoom (K : Tables) (P z : List ℕ) : Type 0 where
-  pub ranged : Ranged (code_in K) P
+  pub ranged : Ranged (lent_code K) P
   pub symbols : length z ≡ K.numbers.columns

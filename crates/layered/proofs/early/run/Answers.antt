@@ -1,7 +1,7 @@
 -- The first test, then the updates from decisions that do not satisfy every check.
 use mathlib.Core.Path.{refl, ap, ◌∙◌, sym}
 use Prim.Native.Nat.{◌*◌}
-use Rattle.layered.specs.inner.Codes.{code_in}
+use Rattle.codeline.specs.Codes.{lent_code}
 use Rattle.machine.specs.Lent.{lent}
 use Rattle.machine.specs.inner.LentEarly.{stop_lent}
 use native.Mathlib.Omega.{arith}
@@ -16,7 +16,7 @@ settled-requires c =
 pub returns-then-settled : goal.returns-then-settled
 returns-then-settled c =
     record {
-      ends = stop_first (code_in c.args.code.now) (c.args.code.now.numbers.checks * c.args.code.now.numbers.limit) 0 (lent c.args.b.now.costs.now c.args.b.now.store.now) (sym c.settled.ensures.test ∙ c.if-settled.true);
+      ends = stop_first (lent_code c.args.code.now) (c.args.code.now.numbers.checks * c.args.code.now.numbers.limit) 0 (lent c.args.b.now.costs.now c.args.b.now.store.now) (sym c.settled.ensures.test ∙ c.if-settled.true);
       symbols_then = c.settled.ensures.symbols_then;
       loans = record { symbols = refl; costs = refl; store = refl; margins = refl; symbols_length = omega (arith, c.settled.auto); costs_length = refl; store_length = refl; margins_length = refl };
       scratch = own-scratch;
@@ -29,7 +29,7 @@ go_on-requires c =
 pub returns : goal.returns
 returns c =
     record {
-      ends = c.go_on.ensures.ends ∙ ap (λ n. stop_lent (code_in c.args.code.now) n 0 (lent c.args.b.now.costs.now c.args.b.now.store.now)) c.most_updates-most.ensures;
+      ends = c.go_on.ensures.ends ∙ ap (λ n. stop_lent (lent_code c.args.code.now) n 0 (lent c.args.b.now.costs.now c.args.b.now.store.now)) c.most_updates-most.ensures;
       symbols_then = c.go_on.ensures.symbols_then;
       loans = same-loans record { symbols = refl; costs = refl; store = refl; margins = refl; symbols_length = omega (arith, c.settled.auto); costs_length = refl; store_length = refl; margins_length = refl } c.go_on.ensures.loans;
       scratch = c.go_on.ensures.scratch;

@@ -1,6 +1,6 @@
 use mathlib.Core.Path.{refl}
 use native.Mathlib.Omega.{arith}
-use Rattle.layered.specs.inner.Codes.{code_in}
+use Rattle.codeline.specs.Codes.{lent_code}
 use Rattle.machine.specs.Lent.{lent}
 use Rattle.machine.specs.inner.Tables.{bytes_before}
 use Rattle.layered.proofs.Places.{stands_own}
@@ -23,11 +23,11 @@ loop-here-smaller c =
 
 pub loop-here-preserved : goal.loop-here-preserved
 loop-here-preserved c =
-    let e = c.update_at-here.ensures.next.check_is in (omega (arith, e), (stands_own c.args.code.now.numbers.first c.args.code.now.degrees.now _ _ c.update_at-here.ensures.next, (updates-more (code_in c.args.code.now) c.args.start _ _ _ c.loop-here.here.check _ e c.loop-here.invariant.1.1.0 c.update_at-here.ensures.buffers, (omega (arith, c.update_at-here.auto, c.loop-here.invariant.1.1.1.0), (omega (arith, c.update_at-here.auto, c.loop-here.invariant.1.1.1.1.0), same-scratch c.loop-here.invariant.1.1.1.1.1 c.update_at-here.ensures.scratch)))))
+    let e = c.update_at-here.ensures.next.check_is in (omega (arith, e), (stands_own c.args.code.now.numbers.first c.args.code.now.degrees.now _ _ c.update_at-here.ensures.next, (updates-more (lent_code c.args.code.now) c.args.start _ _ _ c.loop-here.here.check _ e c.loop-here.invariant.1.1.0 c.update_at-here.ensures.buffers, (omega (arith, c.update_at-here.auto, c.loop-here.invariant.1.1.1.0), (omega (arith, c.update_at-here.auto, c.loop-here.invariant.1.1.1.1.0), same-scratch c.loop-here.invariant.1.1.1.1.1 c.update_at-here.ensures.scratch)))))
 
 pub returns : goal.returns
 returns c =
     record {
       scratch = c.loop-here.invariant.1.1.1.1.1;
-      buffers = iteration-done (code_in c.args.code.now) c.args.start (lent c.args.costs.now c.args.store.now) _ c.loop-here.here.check (omega (arith, c.from-count.ensures, checks-count c.args.code.now)) c.loop-here.invariant.1.1.0;
+      buffers = iteration-done (lent_code c.args.code.now) c.args.start (lent c.args.costs.now c.args.store.now) _ c.loop-here.here.check (omega (arith, c.from-count.ensures, checks-count c.args.code.now)) c.loop-here.invariant.1.1.0;
     }

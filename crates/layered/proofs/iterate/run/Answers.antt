@@ -2,7 +2,7 @@ use mathlib.Core.Path.{◌≡◌, ◌∙◌}
 use Prim.Native.Nat.{◌-◌}
 use native.Mathlib.Omega.{arith}
 use lib.Dec.{eqb}
-use Rattle.layered.specs.inner.Codes.{code_in}
+use Rattle.codeline.specs.Codes.{lent_code}
 use Rattle.machine.specs.Lent.{lent}
 use Rattle.layered.proofs.Iterations.{run_found, run_end, run_more}
 use Rattle.layered.proofs.Loans.{own-loans, own-scratch, same-scratch}
@@ -20,7 +20,7 @@ settled-requires c =
 pub returns-then-settled : goal.returns-then-settled
 returns-then-settled c =
     record {
-      ends = run_found (code_in c.args.code.now) c.args.code.now.numbers.limit c.loop-limit.t (lent c.loop-limit.b.costs.now c.loop-limit.b.store.now) (lent c.args.b.now.costs.now c.args.b.now.store.now) c.settled.result c.settled.ensures.test c.loop-limit.invariant.1.1.0 c.if-settled.true;
+      ends = run_found (lent_code c.args.code.now) c.args.code.now.numbers.limit c.loop-limit.t (lent c.loop-limit.b.costs.now c.loop-limit.b.store.now) (lent c.args.b.now.costs.now c.args.b.now.store.now) c.settled.result c.settled.ensures.test c.loop-limit.invariant.1.1.0 c.if-settled.true;
       symbols_then = c.settled.ensures.symbols_then;
       loans = record { symbols = c.loop-limit.invariant.1.1.1.0.symbols; costs = c.loop-limit.invariant.1.1.1.0.costs; store = c.loop-limit.invariant.1.1.1.0.store; margins = c.loop-limit.invariant.1.1.1.0.margins; symbols_length = omega (arith, c.settled.auto, c.loop-limit.invariant.1.1.1.0.symbols_length); costs_length = c.loop-limit.invariant.1.1.1.0.costs_length; store_length = c.loop-limit.invariant.1.1.1.0.store_length; margins_length = c.loop-limit.invariant.1.1.1.0.margins_length };
       scratch = c.loop-limit.invariant.1.1.1.1;
@@ -29,7 +29,7 @@ returns-then-settled c =
 pub returns-then-t-limit : goal.returns-then-t-limit
 returns-then-t-limit c =
     record {
-      ends = run_end (code_in c.args.code.now) c.args.code.now.numbers.limit c.loop-limit.t (lent c.loop-limit.b.costs.now c.loop-limit.b.store.now) (lent c.args.b.now.costs.now c.args.b.now.store.now) c.settled.result c.settled.ensures.test c.loop-limit.invariant.1.1.0 c.if-settled.false (c.if-t-limit.true ∙ c.from-limit.ensures);
+      ends = run_end (lent_code c.args.code.now) c.args.code.now.numbers.limit c.loop-limit.t (lent c.loop-limit.b.costs.now c.loop-limit.b.store.now) (lent c.args.b.now.costs.now c.args.b.now.store.now) c.settled.result c.settled.ensures.test c.loop-limit.invariant.1.1.0 c.if-settled.false (c.if-t-limit.true ∙ c.from-limit.ensures);
       symbols_then = c.settled.ensures.symbols_then;
       loans = record { symbols = c.loop-limit.invariant.1.1.1.0.symbols; costs = c.loop-limit.invariant.1.1.1.0.costs; store = c.loop-limit.invariant.1.1.1.0.store; margins = c.loop-limit.invariant.1.1.1.0.margins; symbols_length = omega (arith, c.settled.auto, c.loop-limit.invariant.1.1.1.0.symbols_length); costs_length = c.loop-limit.invariant.1.1.1.0.costs_length; store_length = c.loop-limit.invariant.1.1.1.0.store_length; margins_length = c.loop-limit.invariant.1.1.1.0.margins_length };
       scratch = c.loop-limit.invariant.1.1.1.1;
@@ -49,4 +49,4 @@ loop-limit-smaller c =
 
 pub loop-limit-preserved : goal.loop-limit-preserved
 loop-limit-preserved c =
-    (omega (arith, c.loop-limit.invariant.0, c.if-t-limit.false, c.from-limit.ensures), (next-running c.args.code.now c.loop-limit.b.costs.now c.loop-limit.b.store.now (eqb c.loop-limit.t 0) c.loop-limit.invariant.1.0 _ _ c.loop-limit.t c.iterate.ensures.buffers, (run_more (code_in c.args.code.now) c.args.code.now.numbers.limit c.loop-limit.t (lent c.loop-limit.b.costs.now c.loop-limit.b.store.now) (lent c.args.b.now.costs.now c.args.b.now.store.now) c.settled.result c.settled.ensures.test c.loop-limit.invariant.1.1.0 c.if-settled.false (omega (arith, c.loop-limit.invariant.0, c.if-t-limit.false, c.from-limit.ensures)) _ c.iterate.ensures.buffers, (record { symbols = c.loop-limit.invariant.1.1.1.0.symbols; costs = c.loop-limit.invariant.1.1.1.0.costs; store = c.loop-limit.invariant.1.1.1.0.store; margins = c.loop-limit.invariant.1.1.1.0.margins; symbols_length = omega (arith, c.settled.auto, c.loop-limit.invariant.1.1.1.0.symbols_length); costs_length = omega (arith, c.iterate.auto, c.loop-limit.invariant.1.1.1.0.costs_length); store_length = omega (arith, c.iterate.auto, c.loop-limit.invariant.1.1.1.0.store_length); margins_length = c.loop-limit.invariant.1.1.1.0.margins_length }, same-scratch c.loop-limit.invariant.1.1.1.1 c.iterate.ensures.scratch))))
+    (omega (arith, c.loop-limit.invariant.0, c.if-t-limit.false, c.from-limit.ensures), (next-running c.args.code.now c.loop-limit.b.costs.now c.loop-limit.b.store.now (eqb c.loop-limit.t 0) c.loop-limit.invariant.1.0 _ _ c.loop-limit.t c.iterate.ensures.buffers, (run_more (lent_code c.args.code.now) c.args.code.now.numbers.limit c.loop-limit.t (lent c.loop-limit.b.costs.now c.loop-limit.b.store.now) (lent c.args.b.now.costs.now c.args.b.now.store.now) c.settled.result c.settled.ensures.test c.loop-limit.invariant.1.1.0 c.if-settled.false (omega (arith, c.loop-limit.invariant.0, c.if-t-limit.false, c.from-limit.ensures)) _ c.iterate.ensures.buffers, (record { symbols = c.loop-limit.invariant.1.1.1.0.symbols; costs = c.loop-limit.invariant.1.1.1.0.costs; store = c.loop-limit.invariant.1.1.1.0.store; margins = c.loop-limit.invariant.1.1.1.0.margins; symbols_length = omega (arith, c.settled.auto, c.loop-limit.invariant.1.1.1.0.symbols_length); costs_length = omega (arith, c.iterate.auto, c.loop-limit.invariant.1.1.1.0.costs_length); store_length = omega (arith, c.iterate.auto, c.loop-limit.invariant.1.1.1.0.store_length); margins_length = c.loop-limit.invariant.1.1.1.0.margins_length }, same-scratch c.loop-limit.invariant.1.1.1.1 c.iterate.ensures.scratch))))

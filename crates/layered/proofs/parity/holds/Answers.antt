@@ -1,7 +1,7 @@
 -- No check that is not satisfied, of all.
 use mathlib.Core.Path.{refl, ◌∙◌, sym}
 use native.Mathlib.Omega.{arith}
-use Rattle.layered.specs.inner.Codes.{code_in}
+use Rattle.codeline.specs.Codes.{lent_code}
 use Rattle.layered.proofs.Satisfied.{first-not-all}
 use Rattle.layered.proofs.Runs.{checks-count}
 use Rattle.layered.proofs.parity.holds.Goals as goal
@@ -12,4 +12,4 @@ unsatisfied-requires c =
 
 pub returns : goal.returns
 returns c =
-    first-not-all (code_in c.args.code.now) c.args.symbols.now c.args.code.now.degrees.now c.unsatisfied.result c.is_none.result c.is_none.ensures c.from-count.result (c.from-count.ensures ∙ sym (checks-count c.args.code.now)) c.unsatisfied.ensures
+    first-not-all (lent_code c.args.code.now) c.args.symbols.now c.args.code.now.degrees.now c.unsatisfied.result c.is_none.result c.is_none.ensures c.from-count.result (c.from-count.ensures ∙ sym (checks-count c.args.code.now)) c.unsatisfied.ensures

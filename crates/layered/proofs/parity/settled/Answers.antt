@@ -2,7 +2,7 @@
 use mathlib.Core.Path.{◌≡◌, ap, ap₂, ◌∙◌}
 use Prim.Native.Nat.{◌*◌}
 use native.Mathlib.Omega.{arith}
-use Rattle.layered.specs.inner.Codes.{code_in}
+use Rattle.codeline.specs.Codes.{lent_code}
 use Rattle.trellis.specs.Lists.{tab}
 use Rattle.trellis.specs.Check.{decide}
 use Rattle.trellis.specs.Rules.{power_of, size_of}
@@ -23,6 +23,6 @@ holds-requires c =
 pub returns : goal.returns
 returns c =
     record {
-      test = c.holds.ensures ∙ ap (all_hold (code_in c.args.code.now)) (c.decisions.ensures ∙ ap₂ (λ q n. tab (λ c₁. (decide (column_of q c.args.costs.now c₁)).symbol) n) c.size.ensures.0 c.requires.symbols ∙ symbols_are c.args.code.now c.args.costs.now) ∙ settled-by c.args.code.now c.args.costs.now;
+      test = c.holds.ensures ∙ ap (all_hold (lent_code c.args.code.now)) (c.decisions.ensures ∙ ap₂ (λ q n. tab (λ c₁. (decide (column_of q c.args.costs.now c₁)).symbol) n) c.size.ensures.0 c.requires.symbols ∙ symbols_are c.args.code.now c.args.costs.now) ∙ settled-by c.args.code.now c.args.costs.now;
       symbols_then = (c.decisions.ensures ∙ ap₂ (λ q n. tab (λ c₁. (decide (column_of q c.args.costs.now c₁)).symbol) n) c.size.ensures.0 c.requires.symbols ∙ symbols_are c.args.code.now c.args.costs.now);
     }

@@ -1,7 +1,7 @@
 use mathlib.Core.Path.{refl}
 use Prim.Native.Nat.{◌<◌}
 use native.Mathlib.Omega.{arith}
-use Rattle.layered.specs.inner.Codes.{code_in}
+use Rattle.codeline.specs.Codes.{lent_code}
 use Rattle.machine.proofs.Places.{before_more}
 use Rattle.layered.proofs.Satisfied.{degree, edge-room, edges-end, sum_more, sum-holds, sum-not, between_more}
 use Rattle.layered.proofs.parity.unsatisfied.Goals as goal
@@ -49,7 +49,7 @@ checks-smaller c =
 
 pub checks-preserved : goal.checks-preserved
 checks-preserved c =
-    let h = (let h : c.checks.m < c.args.code.now.numbers.checks = omega (arith, c.requires.1.inside, c.checks.invariant) in h) in (omega (arith, c.checks.invariant), (omega (arith, c.checks.invariant), (before_more c.args.code.now.degrees.now c.checks.m c.checks.at c.from-d.result c.checks.invariant.1.1.0 c.from-d.ensures, between_more (code_in c.args.code.now) c.args.symbols.now c.args.from.check c.checks.m c.checks.invariant.1.1.1 (sum-holds (code_in c.args.code.now) c.args.symbols.now c.checks.m c.from-d.result c.loop-n.n c.loop-n.sum (degree c.args.code.now c.args.symbols.now c.requires.0 c.checks.m c.loop-n.n c.checks.at c.from-d.result h c.checks.invariant.1.1.0 c.from-d.ensures) c.if-n-d.true c.loop-n.invariant.1 c.if-sum-ne0.false))))
+    let h = (let h : c.checks.m < c.args.code.now.numbers.checks = omega (arith, c.requires.1.inside, c.checks.invariant) in h) in (omega (arith, c.checks.invariant), (omega (arith, c.checks.invariant), (before_more c.args.code.now.degrees.now c.checks.m c.checks.at c.from-d.result c.checks.invariant.1.1.0 c.from-d.ensures, between_more (lent_code c.args.code.now) c.args.symbols.now c.args.from.check c.checks.m c.checks.invariant.1.1.1 (sum-holds (lent_code c.args.code.now) c.args.symbols.now c.checks.m c.from-d.result c.loop-n.n c.loop-n.sum (degree c.args.code.now c.args.symbols.now c.requires.0 c.checks.m c.loop-n.n c.checks.at c.from-d.result h c.checks.invariant.1.1.0 c.from-d.ensures) c.if-n-d.true c.loop-n.invariant.1 c.if-sum-ne0.false))))
 
 pub returns-then-m-to : goal.returns-then-m-to
 returns-then-m-to c =
@@ -63,5 +63,5 @@ returns-then-sum-ne0 c =
       low = c.checks.invariant.0;
       high = omega (arith, c.checks.invariant);
       before_it = c.checks.invariant.1.1.1;
-      not_it = sum-not (code_in c.args.code.now) c.args.symbols.now c.checks.m c.from-d.result c.loop-n.n c.loop-n.sum (degree c.args.code.now c.args.symbols.now c.requires.0 c.checks.m c.loop-n.n c.checks.at c.from-d.result h c.checks.invariant.1.1.0 c.from-d.ensures) c.if-n-d.true c.loop-n.invariant.1 c.if-sum-ne0.true;
+      not_it = sum-not (lent_code c.args.code.now) c.args.symbols.now c.checks.m c.from-d.result c.loop-n.n c.loop-n.sum (degree c.args.code.now c.args.symbols.now c.requires.0 c.checks.m c.loop-n.n c.checks.at c.from-d.result h c.checks.invariant.1.1.0 c.from-d.ensures) c.if-n-d.true c.loop-n.invariant.1 c.if-sum-ne0.true;
     }

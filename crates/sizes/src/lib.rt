@@ -1,5 +1,7 @@
 // The most that an accepted code has of each thing, and the lengths that serve the largest code. What include/petsivola.h has too bears its
 // name there, after PETSIVOLA_.
+#![tactic(auto)]
+
 pub const MOST_CHECKS: usize = 128;
 
 pub const MOST_EDGES: usize = 1024;
