@@ -8,7 +8,7 @@ ghost use Rattle.trellis.specs.Sizes.{most_degree, most_expansion};
 ghost use Rattle.field.specs.Answers.{row_of};
 ghost use Rattle.checknode.specs.inner.Asks.{shifts_of};
 ghost use Rattle.checknode.specs.inner.Lines.{PartsRoom, Rests};
-ghost use Rattle.checknode.specs.inner.Checks.{record_in, sent_in};
+ghost use Rattle.checknode.specs.inner.Checks.{record_in, all_sent_in};
 
 use crate::accepted::Check;
 use crate::{lines, send};
@@ -114,7 +114,7 @@ fn messages_with(
     requires out_len { length out.old ≡ record_length (rule_for check.now.first) (length check.now.weights.now) }
     requires sent_len { length sent.old ≡ length check.now.weights.now * size_of check.now.first }
     ensures out_then { out.new ≡ record_in check.now }
-    ensures sent_then { sent.new ≡ sent_in check.now }
+    ensures sent_then { sent.new ≡ all_sent_in check.now }
 {
     record_with(check, rows, lines, rests, out);
     let d = check.weights.len();
@@ -128,7 +128,7 @@ fn messages_in<const ROOM: usize>(check: &Check<'_>, out: &mut [u8], sent: &mut 
     requires out_len { length out.old ≡ record_length (rule_for check.now.first) (length check.now.weights.now) }
     requires sent_len { length sent.old ≡ length check.now.weights.now * size_of check.now.first }
     ensures out_then { out.new ≡ record_in check.now }
-    ensures sent_then { sent.new ≡ sent_in check.now }
+    ensures sent_then { sent.new ≡ all_sent_in check.now }
 {
     let d = check.weights.len();
     let a = d * rules::size(check.first);
@@ -151,7 +151,7 @@ pub fn messages(check: &Check<'_>, out: &mut [u8], sent: &mut [u8])
     requires out_len { length out.old ≡ record_length (rule_for check.now.first) (length check.now.weights.now) }
     requires sent_len { length sent.old ≡ length check.now.weights.now * size_of check.now.first }
     ensures out_then { out.new ≡ record_in check.now }
-    ensures sent_then { sent.new ≡ sent_in check.now }
+    ensures sent_then { sent.new ≡ all_sent_in check.now }
 {
     let n = check.weights.len() * side(check);
     if n <= TINY {

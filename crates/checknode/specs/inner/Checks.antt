@@ -10,5 +10,5 @@ abbrev pub record_in : Check → List ℕ
 record_in c = record_of (rule_for c.first) (columns_of (size_of c.first) c.weights.now c.costs.now)
 
 -- its sent costs
-abbrev pub sent_in : Check → List ℕ
-sent_in c = all_sent (rule_for c.first) (columns_of (size_of c.first) c.weights.now c.costs.now)
+abbrev pub all_sent_in : Check → List ℕ
+all_sent_in c = all_sent (rule_for c.first) (columns_of (size_of c.first) c.weights.now c.costs.now)
