@@ -1,5 +1,5 @@
-// Runs the cases of the bench table, SPEC 11.2, with degrees from 2 on, through the public calls and prints what they answer, a line
-// each; the file stdout beside src/ holds what is expected.
+//! Runs the cases of the bench table, SPEC 11.2, with degrees from 2 on, through the public calls and prints what they answer, a line
+//! each; the file stdout beside src/ holds what is expected.
 #![tactic(auto)]
 
 use refusal::Refusal;

@@ -1,7 +1,7 @@
-// What the call answers.
+//! What the call answers.
 
-// The call's number, the iterations spent of the allowance, and each channel's status with its iterations; 0 for a channel that there is
-// not, and all 0 but the number where the whole call is refused.
+/// The call's number, the iterations spent of the allowance, and each channel's status with its iterations; 0 for a channel that there is
+/// not, and all 0 but the number where the whole call is refused.
 #[repr(C)]
 #[derive(Clone, Copy, Debug, PartialEq, Eq)]
 pub struct Served {

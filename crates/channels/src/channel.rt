@@ -1,5 +1,5 @@
-// One channel in its parts of the buffers: its load and its next iteration. The buffers come as slices, since of a part that is cut off a
-// struct's field the check knows only the length.
+//! One channel in its parts of the buffers: its load and its next iteration. The buffers come as slices, since of a part that is cut off a
+//! struct's field the check knows only the length.
 ghost use Rattle.std.specs.Prelude.{List, ℕ, Ok};
 ghost use Rattle.machine.specs.Decoding.{lending};
 ghost use Rattle.layered.specs.Answers.{stage_of};
@@ -11,8 +11,8 @@ use layered::answers::Stage;
 use layered::stages;
 use refusal::Refusal;
 
-// "Only 13 is a channel's own: its parts of the buffers are unchanged"; else the frame becomes its costs and is tested. Whatever the
-// store holds, it stays.
+/// "Only 13 is a channel's own: its parts of the buffers are unchanged"; else the frame becomes its costs and is tested. Whatever the
+/// store holds, it stays.
 pub fn load_at(
     c: usize,
     layout: &Layout<'_>,
@@ -43,7 +43,7 @@ pub fn load_at(
     Ok(stages::stage_after(found, 0, layout.code.numbers.limit))
 }
 
-// Its next iteration, after t.
+/// Its next iteration, after t.
 pub fn step_at(
     c: usize,
     t: u8,

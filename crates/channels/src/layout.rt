@@ -1,4 +1,4 @@
-// How one channel's parts of the buffers lie: their lengths, under a code.
+//! How one channel's parts of the buffers lie: their lengths, under a code.
 ghost use Rattle.std.specs.Prelude.{◌≡◌, ◌≤◌, ◌*◌};
 ghost use Rattle.machine.specs.CodeLine.{size};
 ghost use Rattle.machine.specs.Machine.{used};
@@ -6,7 +6,7 @@ ghost use Rattle.codeline.specs.Codes.{lent_code};
 
 use codeline::code::Code;
 
-// A code, and the lengths of a channel's parts under it: N, N times q, and the M record lengths added up.
+/// A code, and the lengths of a channel's parts under it: N, N times q, and the M record lengths added up.
 #[derive(Clone, Copy)]
 pub struct Layout<'a> {
     pub code: Code<'a>,
@@ -19,7 +19,7 @@ pub struct Layout<'a> {
     ghost limit_is_byte: { code.numbers.limit ≤ 255 },
 }
 
-// The lengths of one channel's parts.
+/// The lengths of one channel's parts.
 pub fn layout_of<'a>(code: &Code<'a>) -> Layout<'a>
     ensures { result.code ≡ code.now }
 {

@@ -1,4 +1,4 @@
-// One check layer, eight channels: up to eight frames under one code line, with one allowance of iterations for all.
+//! One check layer, eight channels: up to eight frames under one code line, with one allowance of iterations for all.
 #![tactic(auto)]
 
 pub mod answers;
@@ -14,10 +14,10 @@ ghost use Rattle.channels.specs.Answers.{Gives};
 
 use crate::answers::Served;
 
-// Decodes `count` frames, which stand end to end in `frames`; what channel c receives stands in the c-th part of each buffer. The
-// channels are served by number in turn, one iteration each, until every one is finished or the allowance is spent. A channel's status is
-// 0 found, 1 not found, 13 refused, or 20 spent: still running when nothing was left. Refused as a whole: 21, count not 1 to 8; 22, no
-// allowance; the code line's 5 to 11; 12, cost count; 2, 3, 4, 19, a buffer shorter than the count times one channel's part.
+/// Decodes `count` frames, which stand end to end in `frames`; what channel c receives stands in the c-th part of each buffer. The
+/// channels are served by number in turn, one iteration each, until every one is finished or the allowance is spent. A channel's status is
+/// 0 found, 1 not found, 13 refused, or 20 spent: still running when nothing was left. Refused as a whole: 21, count not 1 to 8; 22, no
+/// allowance; the code line's 5 to 11; 12, cost count; 2, 3, 4, 19, a buffer shorter than the count times one channel's part.
 pub fn decode_channels(
     count: u8,
     allowance: u32,

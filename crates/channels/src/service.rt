@@ -1,4 +1,4 @@
-// The channels in turn: all loaded, then rounds in which each that is running gets one iteration.
+//! The channels in turn: all loaded, then rounds in which each that is running gets one iteration.
 ghost use Rattle.std.specs.Prelude.{◌≡◌};
 ghost use Rattle.channels.specs.inner.Rounds.{serving_at, loaded_to, round_at, rounds_at};
 ghost use Rattle.channels.specs.inner.Standing.{standing_of, SameLoans};
@@ -9,7 +9,7 @@ use crate::layout::Layout;
 use crate::standing::{Channel, Channels, Status};
 
 impl Channels<'_> {
-    // Every channel is loaded, by number.
+    /// Every channel is loaded, by number.
     pub fn load(&mut self, count: usize, layout: &Layout<'_>, frames: &[u8])
         requires { LoadsRoom count layout.now frames.now (standing_of self.old) }
         ensures loans { SameLoans self.old self.new }
@@ -65,7 +65,7 @@ impl Channels<'_> {
         }
     }
 
-    // Rounds until one serves nobody: every channel is finished, or nothing is left.
+    /// Rounds until one serves nobody: every channel is finished, or nothing is left.
     pub fn rounds(&mut self, count: usize, layout: &Layout<'_>, arrived: &mut [u8], sent: &mut [u8])
         requires { RoundRoom count layout.now (standing_of self.old) arrived.old sent.old }
         ensures loans { SameLoans self.old self.new }

@@ -1,4 +1,4 @@
-// Where the channels of a call stand.
+//! Where the channels of a call stand.
 ghost use Rattle.std.specs.Prelude.{◌≡◌, eqb};
 ghost use Rattle.layered.specs.Answers.{stage_of};
 ghost use Rattle.channels.specs.inner.Rounds.{status_of};
@@ -7,7 +7,7 @@ ghost use Rattle.channels.specs.inner.Statuses.{status_number};
 use layered::answers::Stage;
 use refusal::Refusal;
 
-// How far a channel is; absent, where the call has fewer.
+/// How far a channel is; absent, where the call has fewer.
 #[derive(Clone, Copy, Debug, PartialEq, Eq)]
 pub enum Status {
     Absent,
@@ -18,7 +18,7 @@ pub enum Status {
 }
 
 impl Status {
-    // That of a load or an iteration.
+    /// That of a load or an iteration.
     #[tactic(auto, unfolding(crate::specs::inner::Rounds::status_of))]
     pub fn of(stage: Result<Stage, Refusal>) -> Status
         ensures { status_number result ≡ status_of (stage_of stage) }
@@ -37,7 +37,7 @@ impl Status {
         matches!(self, Status::Running)
     }
 
-    // 20 while running: of a channel that is so at the end, the allowance is spent.
+    /// 20 while running: of a channel that is so at the end, the allowance is spent.
     pub fn number(self) -> u8
         ensures { result ≡ status_number self }
     {
@@ -50,14 +50,14 @@ impl Status {
     }
 }
 
-// A channel's status, and the iterations that it had.
+/// A channel's status, and the iterations that it had.
 #[derive(Clone, Copy, Debug, PartialEq, Eq)]
 pub struct Channel {
     pub status: Status,
     pub iterations: u8,
 }
 
-// Each channel, what is left of the allowance, and the lent buffers.
+/// Each channel, what is left of the allowance, and the lent buffers.
 #[derive(Drop)]
 pub struct Channels<'a> {
     pub each: [Channel; sizes::MOST_CHANNELS],

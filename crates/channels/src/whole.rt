@@ -1,4 +1,4 @@
-// The whole call: its refusals, the code line read once, and the service.
+//! The whole call: its refusals, the code line read once, and the service.
 ghost use Rattle.std.specs.Prelude.{◌≡◌, ◌≤◌, ◌-◌, Err};
 ghost use Rattle.trellis.specs.Sizes.{most_channels};
 ghost use Rattle.refusal.specs.Replies.{fault_in};
@@ -16,7 +16,7 @@ use codeline::code::Code;
 use frame::Lengths;
 use refusal::Refusal;
 
-// A refusal of the whole call.
+/// A refusal of the whole call.
 pub fn refused(refusal: Refusal) -> Served
     ensures { result ≡ served_by (Err refusal) }
 {
@@ -150,7 +150,7 @@ fn under_code(
     Ok(channels.run(count, layout, frames))
 }
 
-// The whole call.
+/// The whole call.
 pub fn decode(
     count: u8,
     allowance: u32,

@@ -1,8 +1,8 @@
-// A check that was tested.
+//! A check that was tested.
 ghost use Rattle.std.specs.Prelude.{ℕ, ◌<◌, get_or};
 ghost use Rattle.trellis.specs.Ready.{Ready};
 
-// A check that none of its tests refuses: its first code byte, its d weights, and its d times q costs, column by column.
+/// A check that none of its tests refuses: its first code byte, its d weights, and its d times q costs, column by column.
 #[derive(Clone, Copy)]
 pub struct Check<'a> {
     pub first: u8,

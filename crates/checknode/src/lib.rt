@@ -1,4 +1,4 @@
-// One check: the packed record of a check's messages, alone and beside the messages.
+//! One check: the packed record of a check's messages, alone and beside the messages.
 #![tactic(auto)]
 
 pub mod accepted;
@@ -14,16 +14,16 @@ ghost use Rattle.checknode.specs.Answers.{check_fault, check_reply, check_leaves
 use accepted::Check;
 use refusal::Refusal;
 
-// The refusal of a check whose record buffer has `room` bytes: 6, the first byte; 9, degree not 2 to 32; 11, a weight 0 or no element;
-// 12, cost count; 13, a column without a cost of 0; 4, record buffer too short.
+/// The refusal of a check whose record buffer has `room` bytes: 6, the first byte; 9, degree not 2 to 32; 11, a weight 0 or no element;
+/// 12, cost count; 13, a column without a cost of 0; 4, record buffer too short.
 pub fn validate_check(first: u8, weights: &[u8], costs: &[u8], room: usize) -> Result<(), Refusal>
     ensures { fault_in result ≡ check_fault first weights.now costs.now room }
 {
     refusals::validate_check(first, weights, costs, room)
 }
 
-// The record of a check: from the first code byte, d weights and d times q costs, column by column, d + (1 + 2k)(q - 1) bytes. Refused as
-// `validate_check` says.
+/// The record of a check: from the first code byte, d weights and d times q costs, column by column, d + (1 + 2k)(q - 1) bytes. Refused as
+/// `validate_check` says.
 pub fn check(first: u8, weights: &[u8], costs: &[u8], out: &mut [u8]) -> Result<usize, Refusal>
     ensures reply { reply_of result ≡ check_reply first weights.now costs.now out.old }
     ensures out_then { out.new ≡ check_leaves first weights.now costs.now out.old }
@@ -39,8 +39,8 @@ pub fn check(first: u8, weights: &[u8], costs: &[u8], out: &mut [u8]) -> Result<
     Ok(n)
 }
 
-// The record of a check and, in a second buffer, its sent costs: d times q bytes, column by column, each column by x. Refused as a check
-// is; last 2, the second buffer too short. The answer is how many bytes the record has, as of a check.
+/// The record of a check and, in a second buffer, its sent costs: d times q bytes, column by column, each column by x. Refused as a check
+/// is; last 2, the second buffer too short. The answer is how many bytes the record has, as of a check.
 pub fn messages(
     first: u8,
     weights: &[u8],

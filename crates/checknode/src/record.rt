@@ -1,5 +1,5 @@
-// The record of an accepted check, and its sent costs. Lines and tables are worked out in what is left of 255: a choice starts with
-// 255, and each deviation takes its cost off, so that two costs are never added.
+//! The record of an accepted check, and its sent costs. Lines and tables are worked out in what is left of 255: a choice starts with
+//! 255, and each deviation takes its cost off, so that two costs are never added.
 ghost use Rattle.std.specs.Prelude.{◌≡◌, ◌*◌, ◌≤◌, max, length};
 ghost use Rattle.trellis.specs.Lists.{tab, blocks};
 ghost use Rattle.trellis.specs.Record.{record_length};
@@ -16,7 +16,7 @@ use crate::{lines, send};
 // Room for eight lines of sixteen places, which is most of what small fields ask for.
 const TINY: usize = 128;
 
-// The length of a record of degree d.
+/// The length of a record of degree d.
 pub fn record_bytes(first: u8, d: usize) -> usize
     requires { d ≤ most_degree }
     ensures { result ≡ record_length (rule_for first) d }
@@ -86,7 +86,7 @@ fn record_in<const ROOM: usize>(check: &Check<'_>, out: &mut [u8])
     record_with(check, &mut rows[..a], &mut lines[..b], &mut rests[..b], out);
 }
 
-// The record, in the least room that is enough.
+/// The record, in the least room that is enough.
 pub fn record(check: &Check<'_>, out: &mut [u8])
     requires out_len { length out.old ≡ record_length (rule_for check.now.first) (length check.now.weights.now) }
     ensures { out.new ≡ record_in check.now }
@@ -146,7 +146,7 @@ fn messages_in<const ROOM: usize>(check: &Check<'_>, out: &mut [u8], sent: &mut 
     );
 }
 
-// The record and the sent costs, in the least room that is enough.
+/// The record and the sent costs, in the least room that is enough.
 pub fn messages(check: &Check<'_>, out: &mut [u8], sent: &mut [u8])
     requires out_len { length out.old ≡ record_length (rule_for check.now.first) (length check.now.weights.now) }
     requires sent_len { length sent.old ≡ length check.now.weights.now * size_of check.now.first }

@@ -1,4 +1,4 @@
-// The checks of a code line, read front to back, each field once, into tables.
+//! The checks of a code line, read front to back, each field once, into tables.
 ghost use Rattle.std.specs.Prelude.{◌≡◌, [], ◌+◌, ◌*◌, ◌≤◌, length, get_or, OnOk, IfOk};
 ghost use Rattle.trellis.specs.Rules.{size_of};
 ghost use Rattle.trellis.specs.Sizes.{most_edges, most_checks};
@@ -82,7 +82,7 @@ fn check(line: &mut Reader<'_>, n: usize, q: usize, tables: &mut Tables) -> Resu
     Ok(degree)
 }
 
-// "Then M checks"; "last 5 for bytes left over".
+/// "Then M checks"; "last 5 for bytes left over".
 #[tactic(auto, using(crate::proofs::Parsing::checks_bad, crate::proofs::Parsing::checks_more, crate::proofs::Parsing::checks_done, crate::proofs::Parsing::checks_over))]
 pub fn checks(line: &mut Reader<'_>, numbers: Numbers, tables: &mut Tables) -> Result<(), Refusal>
     requires room { numbers.checks ≤ most_checks }

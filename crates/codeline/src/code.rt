@@ -1,9 +1,9 @@
-// A code that was read: its numbers, and its tables, lent.
+//! A code that was read: its numbers, and its tables, lent.
 ghost use Rattle.codeline.specs.inner.Coding.{Coded};
 
 use crate::answers::Numbers;
 
-// The numbers of an accepted line and the tables of its checks; what the tables hold behind these is anything.
+/// The numbers of an accepted line and the tables of its checks; what the tables hold behind these is anything.
 #[derive(Clone, Copy, Debug, PartialEq, Eq)]
 pub struct Code<'a> {
     pub numbers: Numbers,

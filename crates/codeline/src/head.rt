@@ -1,4 +1,4 @@
-// The numbers of a code line before its checks.
+//! The numbers of a code line before its checks.
 ghost use Rattle.std.specs.Prelude.{◌≡◌, ◌≤◌, OnOk, IfOk};
 ghost use Rattle.trellis.specs.Sizes.{most_checks};
 ghost use Rattle.codeline.specs.Answers.{header_numbers};
@@ -8,8 +8,8 @@ use crate::answers::Numbers;
 use crate::reader::Reader;
 use refusal::Refusal;
 
-// "p", with k in the first byte; "N as two bytes, high first (1 to 256); M (1 to 128); scale g (1 to 16); iteration limit I (1 to 255)";
-// "5 if under six bytes, 6, 7, 8".
+/// "p", with k in the first byte; "N as two bytes, high first (1 to 256); M (1 to 128); scale g (1 to 16); iteration limit I (1 to 255)";
+/// "5 if under six bytes, 6, 7, 8".
 #[tactic(auto, unfolding(crate::specs::inner::Reading::head_of))]
 pub fn head(line: &mut Reader<'_>) -> Result<Numbers, Refusal>
     requires { line.old.at ≡ 0 }

@@ -1,4 +1,4 @@
-// What a code line says to whoever lends the buffers.
+//! What a code line says to whoever lends the buffers.
 ghost use Rattle.std.specs.Prelude.{◌≡◌, ◌+◌, ◌-◌, ◌*◌, ◌/◌, ◌≤◌};
 ghost use Rattle.trellis.specs.Record.{group_length};
 ghost use Rattle.trellis.specs.Rules.{size_of, rule_for};
@@ -22,7 +22,7 @@ pub fn refused(refusal: Refusal) -> Summary
     }
 }
 
-// The bytes of the records of so many checks. The line's length tells the edges: six bytes, one for each check, three for each edge.
+/// The bytes of the records of so many checks. The line's length tells the edges: six bytes, one for each check, three for each edge.
 pub fn store_length(first: u8, checks: u8, length: usize) -> u32
     requires { (6 + checks ≤ length) × ((length ≤ 3206) × (group_length (rule_for first) * (size_of first - 1) ≤ 441)) }
     ensures { result ≡ (length - 6 - checks) / 3 + checks * (group_length (rule_for first) * (size_of first - 1)) }

@@ -1,4 +1,4 @@
-// The code line: its numbers, and its checks in tables.
+//! The code line: its numbers, and its checks in tables.
 #![tactic(auto)]
 
 pub mod answers;
@@ -34,14 +34,14 @@ fn read(code: &[u8], tables: &mut Tables) -> Result<Numbers, Refusal>
     Ok(numbers)
 }
 
-// The numbers of a code line, whose checks are read too.
+/// The numbers of a code line, whose checks are read too.
 pub fn code_line(code: &[u8]) -> Result<Numbers, Refusal>
     ensures { header_numbers result ≡ numbers_of (parse code.now) }
 {
     read(code, &mut Tables::new())
 }
 
-// All 0 but the number where the line is refused.
+/// All 0 but the number where the line is refused.
 pub fn describe(code: &[u8]) -> Summary
     ensures { Tells (summary_of (parse code.now)) result }
 {
@@ -59,9 +59,9 @@ pub fn describe(code: &[u8]) -> Summary
     }
 }
 
-// The same for whoever goes on with the checks: the degrees, and all columns and weights end to end, in tables that have room for the
-// largest code. A line may be refused at its end, so it is read into tables of the call's own, and these are handed over where it is
-// accepted.
+/// The same for whoever goes on with the checks: the degrees, and all columns and weights end to end, in tables that have room for the
+/// largest code. A line may be refused at its end, so it is read into tables of the call's own, and these are handed over where it is
+/// accepted.
 #[tactic(auto, using(crate::proofs::Answered::refused_left, crate::proofs::Answered::degrees_left, crate::proofs::Answered::columns_left, crate::proofs::Answered::weights_left))]
 pub fn code_tables(
     code: &[u8],

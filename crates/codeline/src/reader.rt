@@ -1,5 +1,5 @@
-// "The line is read front to back, each field once": a reader holds the code line and a place in it, and each read moves it behind the field.
-// SPEC 4.2, 4.6.
+//! "The line is read front to back, each field once": a reader holds the code line and a place in it, and each read moves it behind the field.
+//! SPEC 4.2, 4.6.
 ghost use Rattle.std.specs.Prelude.{◌≡◌, ◌+◌, ◌-◌, ◌<◌, ◌≤◌, length, get_or};
 ghost use Rattle.machine.specs.CodeLine.{word_at};
 
@@ -11,7 +11,7 @@ pub struct Reader<'a> {
 }
 
 impl<'a> Reader<'a> {
-    // At the front of a line.
+    /// At the front of a line.
     pub fn new(src: &'a [u8]) -> Reader<'a>
         ensures src { result.src ≡ src.entry }
         ensures at { result.at ≡ 0 }
@@ -19,7 +19,7 @@ impl<'a> Reader<'a> {
         Reader { src, at: 0 }
     }
 
-    // How many bytes are left.
+    /// How many bytes are left.
     pub fn left(&self) -> usize
         ensures { result ≡ length self.now.src.now - self.now.at }
     {
@@ -37,7 +37,7 @@ impl<'a> Reader<'a> {
         byte
     }
 
-    // "Two bytes, high first".
+    /// "Two bytes, high first".
     pub fn word(&mut self) -> u16
         requires { self.old.at + 1 < length self.old.src.now }
         ensures value { result ≡ word_at self.old.src.now self.old.at }

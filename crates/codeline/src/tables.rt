@@ -1,17 +1,17 @@
-// The checks of a code line in tables: the degrees, and all columns and weights end to end.
+//! The checks of a code line in tables: the degrees, and all columns and weights end to end.
 ghost use Rattle.std.specs.Prelude.{◌≡◌, [], ◌∷◌, ◌++◌, ◌+◌, ◌<◌, ◌≤◌, take, drop};
 ghost use Rattle.trellis.specs.Sizes.{most_edges, most_checks};
 
 use crate::answers::Numbers;
 
-// An edge's column and weight.
+/// An edge's column and weight.
 #[derive(Clone, Copy, Debug, PartialEq, Eq)]
 pub struct Edge {
     pub column: u16,
     pub weight: u8,
 }
 
-// Room for the largest code, and how many edges were put so far. Behind these the tables hold anything.
+/// Room for the largest code, and how many edges were put so far. Behind these the tables hold anything.
 #[derive(Clone, Copy, Debug, PartialEq, Eq)]
 pub struct Tables {
     pub degrees: [u8; sizes::MOST_CHECKS],
@@ -35,7 +35,7 @@ impl Tables {
         }
     }
 
-    // One edge behind the others.
+    /// One edge behind the others.
     pub fn push(&mut self, edge: Edge)
         requires { self.old.edges < most_edges }
         ensures columns { columns_of self.new ≡ columns_of self.old ++ (edge.column ∷ []) }
@@ -48,7 +48,7 @@ impl Tables {
         self.edges += 1;
     }
 
-    // What was read of an accepted line, in front of what the lent tables hold: three, as the public call takes them.
+    /// What was read of an accepted line, in front of what the lent tables hold: three, as the public call takes them.
     pub fn hand_over(
         &self,
         numbers: Numbers,

@@ -10,6 +10,7 @@ use lib.Seq.{take_all}
 use borrow.Rule.Slice.PartMut.{put_mid}
 use lib.Pow.{pow_pos}
 use borrow.Author.Tests.{eq-eqb, ne_eqb, lt-ltb, le-ltb}
+use Rattle.refusal.proofs.Numbers.{some_number}
 use Rattle.trellis.specs.Lists.{up_to, smallest, tab, part}
 use Rattle.trellis.specs.Rules.{size_of}
 use Rattle.trellis.specs.Reply.{accepted, refusal}
@@ -90,33 +91,9 @@ column_next f g out x q c k some room fits i t =
     let y : x ≡ at c = (rw b at i) ∙ ap (λ n. combined_column n (column_of q f c) (column_of q g c)) l in
     block_next at c q k out x fits (ap length y ∙ length-combined q some (column_of q f c) (column_of q g c)) y t
 
--- no refusal's number is 0
-pub number-some : (r : Refusal) → number_of r ≡ 0 → ⊥
-number-some OutputTooShort e = omega arith
-number-some CostsTooShort e = omega arith
-number-some StoreTooShort e = omega arith
-number-some CodeLength e = omega arith
-number-some FirstByte e = omega arith
-number-some Counts e = omega arith
-number-some ScaleOrLimit e = omega arith
-number-some Degree e = omega arith
-number-some Column e = omega arith
-number-some Weight e = omega arith
-number-some CostCount e = omega arith
-number-some NoZeroCost e = omega arith
-number-some Digit e = omega arith
-number-some LineTooLong e = omega arith
-number-some RecordForm e = omega arith
-number-some NotEncodable e = omega arith
-number-some Message e = omega arith
-number-some MarginsTooShort e = omega arith
-number-some ChannelCount e = omega arith
-number-some Allowance e = omega arith
-number-some SecondFrame e = omega arith
-
 pub fault-some : (r : Result Unit Refusal) → is_err r ≡ true → fault_in r ≡ 0 → ⊥
 fault-some (Ok u) e = absurd (true≢false (sym e))
-fault-some (Err k) e = number-some k
+fault-some (Err k) e = some_number k
 
 pub fault_nothing : (r : Result Unit Refusal) → is_err r ≡ false → fault_in r ≡ 0
 fault_nothing (Ok u) e = refl

@@ -1,4 +1,4 @@
-// The columns of two frames: the two costs of a symbol, their least over a column, the column, all columns.
+//! The columns of two frames: the two costs of a symbol, their least over a column, the column, all columns.
 ghost use Rattle.std.specs.Prelude.{◌≡◌, ◌+◌, ◌*◌, ◌≤◌, ◌<◌, length};
 ghost use Rattle.machine.specs.Combining.{combined_column, combined_to};
 ghost use Rattle.combiner.specs.inner.Columns.{least_both};
@@ -34,7 +34,7 @@ fn combine_column(first: &[u8], second: &[u8], out: &mut [u8])
     }
 }
 
-// Every column of two frames of n times q costs.
+/// Every column of two frames of n times q costs.
 pub fn combine_all(first: &[u8], second: &[u8], q: usize, n: usize, out: &mut [u8])
     requires { (length first.now ≡ n * q) × ((length second.now ≡ n * q) × ((length out.old ≡ n * q) × (0 < q))) }
     ensures { out.new ≡ combined_to q first.now second.now n }

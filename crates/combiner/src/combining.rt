@@ -1,4 +1,4 @@
-// Two frames under a code that is read: the refusals in their order, or the combined frame.
+//! Two frames under a code that is read: the refusals in their order, or the combined frame.
 ghost use Rattle.std.specs.Prelude.{◌≡◌};
 ghost use Rattle.refusal.specs.Replies.{reply_of, fault_in};
 ghost use Rattle.machine.specs.CodeLine.{good};
@@ -24,7 +24,7 @@ fn validate(numbers: Numbers, first: &[u8], second: &[u8], room: usize) -> Resul
     Ok(())
 }
 
-// Nothing is written before the last refusal has been tested.
+/// Nothing is written before the last refusal has been tested.
 pub fn under_code(
     numbers: Numbers,
     first: &[u8],

@@ -1,6 +1,6 @@
-// What a decision is.
+//! What a decision is.
 
-// The symbol and its margin.
+/// The symbol and its margin.
 #[derive(Clone, Copy, Debug, PartialEq, Eq)]
 pub struct Decision {
     pub symbol: usize,

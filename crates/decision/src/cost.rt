@@ -1,4 +1,4 @@
-// A number that a symbol costs: of one byte, as a frame and a check have it, or of two, as the machine has it.
+//! A number that a symbol costs: of one byte, as a frame and a check have it, or of two, as the machine has it.
 ghost use Rattle.std.specs.Prelude.{◌≡◌, ◌≤◌, ℕ, min, eqb, refl};
 
 pub trait Cost: Copy {

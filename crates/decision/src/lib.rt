@@ -1,5 +1,5 @@
-// The hard decision of a column of costs: "the smallest symbol of cost 0", with its margin. Without a cost of 0 it is the number of costs,
-// with margin 0. The search yields by `break`.
+//! The hard decision of a column of costs: "the smallest symbol of cost 0", with its margin. Without a cost of 0 it is the number of costs,
+//! with margin 0. The search yields by `break`.
 #![tactic(auto)]
 
 pub mod answers;
@@ -13,7 +13,7 @@ use crate::answers::Decision;
 pub use crate::cost::Cost;
 use crate::margin::margin_at;
 
-// Of costs of one byte, as a frame and a check have them, or of two, as the machine has them.
+/// Of costs of one byte, as a frame and a check have them, or of two, as the machine has them.
 pub fn decide<C: Cost>(costs: &[C]) -> Decision
     ensures { Decides (map C.value costs.now) result }
 {

@@ -1,4 +1,4 @@
-// The margin of a decision: the least cost of the other symbols.
+//! The margin of a decision: the least cost of the other symbols.
 ghost use Rattle.std.specs.Prelude.{◌≡◌, ◌<◌, map, eqb, length};
 ghost use Rattle.trellis.specs.Lists.{pick};
 ghost use Rattle.trellis.specs.Check.{first_zero, margin_of};
@@ -27,7 +27,7 @@ fn least_but<C: Cost>(costs: &[C], z: usize) -> C
     least
 }
 
-// What the other symbols cost above symbol z, the first of cost 0; nothing where there is no other.
+/// What the other symbols cost above symbol z, the first of cost 0; nothing where there is no other.
 pub fn margin_at<C: Cost>(costs: &[C], z: usize) -> u16
     requires zero { z ≡ first_zero (map C.value costs.now) }
     requires inside { z < length costs.now }

@@ -1,4 +1,4 @@
-// The refusals, and the quotients of the shifts.
+//! The refusals, and the quotients of the shifts.
 ghost use Rattle.std.specs.Prelude.{◌≡◌};
 ghost use Rattle.refusal.specs.Replies.{fault_in};
 ghost use Rattle.trellis.specs.Display.{displayed};
@@ -8,7 +8,7 @@ ghost use Rattle.display.specs.inner.Showing.{ShowRoom};
 use expansion::form;
 use refusal::Refusal;
 
-// "Both refuse as expansion does; the display's buffer is d bytes, refusal 2".
+/// "Both refuse as expansion does; the display's buffer is d bytes, refusal 2".
 pub fn validate(first: u8, weights: &[u8], bytes: &[u8], room: usize) -> Result<(), Refusal>
     ensures { fault_in result ≡ display_fault first weights.now bytes.now room }
 {
@@ -22,7 +22,7 @@ pub fn validate(first: u8, weights: &[u8], bytes: &[u8], room: usize) -> Result<
     Ok(())
 }
 
-// "the shifts alone, divided by the weights": the first d bytes of the record are all that is read.
+/// "the shifts alone, divided by the weights": the first d bytes of the record are all that is read.
 pub fn show(p: u8, weights: &[u8], bytes: &[u8], out: &mut [u8])
     requires { ShowRoom p weights.now bytes.now out.old }
     ensures { out.new ≡ displayed p weights.now bytes.now }

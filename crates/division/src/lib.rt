@@ -1,5 +1,5 @@
-// Division in the field: a product with the inverse, which is read from a table. `times` and `divide` are total, so that every crate above
-// can call them with what it has.
+//! Division in the field: a product with the inverse, which is read from a table. `times` and `divide` are total, so that every crate above
+//! can call them with what it has.
 #![tactic(auto)]
 
 ghost use Rattle.std.specs.Prelude.{◌≡◌, ◌^◌, ◌≤◌, ◌<◌, T};
@@ -60,14 +60,14 @@ fn inverse(p: u8, h: u8) -> u8
     table[size(p) + usize::from(h)]
 }
 
-// A product; 0 where the public product refuses it.
+/// A product; 0 where the public product refuses it.
 pub fn times(p: u8, a: u8, b: u8) -> u8
     ensures { result ≡ (product_reply p a b).value }
 {
     field::product(p, a, b).unwrap_or(0)
 }
 
-// s divided by h: the element that times h is s; 0 where p is no field's, h is 0 or no element, or s is no element.
+/// s divided by h: the element that times h is s; 0 where p is no field's, h is 0 or no element, or s is no element.
 pub fn divide(p: u8, h: u8, s: u8) -> u8
     ensures { result ≡ quotient_or p h s }
 {

@@ -1,4 +1,4 @@
-// Encoding under a code: the refusals in their order, or the message and the symbols of the checks.
+//! Encoding under a code: the refusals in their order, or the message and the symbols of the checks.
 ghost use Rattle.std.specs.Prelude.{◌≡◌};
 ghost use Rattle.refusal.specs.Replies.{reply_of, fault_in};
 ghost use Rattle.machine.specs.CodeLine.{good};
@@ -30,7 +30,7 @@ fn validate(code: &Code<'_>, message: &[u8], room: usize) -> Result<(), Refusal>
     Ok(())
 }
 
-// Nothing is written before the last refusal has been tested.
+/// Nothing is written before the last refusal has been tested.
 pub fn under_code(code: &Code<'_>, message: &[u8], symbols: &mut [u8]) -> Result<usize, Refusal>
     ensures reply { reply_of result
         ≡ (encoding_under (good (lent_code code.now)) message.now symbols.old).reply }

@@ -1,4 +1,4 @@
-// The symbols after the message, one for each check, from the symbols before it.
+//! The symbols after the message, one for each check, from the symbols before it.
 ghost use Rattle.std.specs.Prelude.{◌≡◌, take};
 ghost use Rattle.trellis.specs.Rules.{power_of};
 ghost use Rattle.machine.specs.CodeLine.{power, check};
@@ -39,7 +39,7 @@ fn own(code: &Code<'_>, m: usize, at: usize, word: &[u8]) -> u8
     division::divide(rules::power(code.numbers.first), code.weights[at + n], sum)
 }
 
-// The symbols of all checks, after the `from` symbols of the message.
+/// The symbols of all checks, after the `from` symbols of the message.
 pub fn fill(code: &Code<'_>, from: usize, symbols: &mut [u8])
     requires { FillRoom code.now from symbols.old }
     ensures { symbols.new ≡ encoded (lent_code code.now) (take from symbols.old) }

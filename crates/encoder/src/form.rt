@@ -1,11 +1,11 @@
-// The form of a code line that encoding needs, refusal 17.
+//! The form of a code line that encoding needs, refusal 17.
 ghost use Rattle.std.specs.Prelude.{◌≡◌};
 ghost use Rattle.machine.specs.Encoding.{encodable};
 ghost use Rattle.codeline.specs.Codes.{lent_code};
 
 use codeline::code::Code;
 
-// "N exceeds M and check m, counted from 0, contains column N - M + m and no higher one": columns rise, so it is the last.
+/// "N exceeds M and check m, counted from 0, contains column N - M + m and no higher one": columns rise, so it is the last.
 pub fn formed(code: &Code<'_>) -> bool
     ensures { result ≡ encodable (lent_code code.now) }
 {

@@ -1,4 +1,4 @@
-// Encoding: "Given an accepted code line and N - M message symbols, write the N symbols."
+//! Encoding: "Given an accepted code line and N - M message symbols, write the N symbols."
 #![tactic(auto)]
 
 mod encoding;
@@ -13,10 +13,10 @@ ghost use Rattle.machine.specs.Encoding.{encoding};
 use codeline::code::Code;
 use refusal::Refusal;
 
-// Encodes a message of N - M symbols under a code line where N exceeds M and check m, counted from 0, contains column N - M + m and no
-// higher one: N symbols, of which the first are the message and which satisfy every check. The answer is N; what stands after the N
-// symbols stays. Refused: the code line's 5 to 11; 17, the line lacks this form; 18, message length, or a symbol not below q; 2, symbol
-// buffer too short.
+/// Encodes a message of N - M symbols under a code line where N exceeds M and check m, counted from 0, contains column N - M + m and no
+/// higher one: N symbols, of which the first are the message and which satisfy every check. The answer is N; what stands after the N
+/// symbols stays. Refused: the code line's 5 to 11; 17, the line lacks this form; 18, message length, or a symbol not below q; 2, symbol
+/// buffer too short.
 pub fn encode(code: &[u8], message: &[u8], symbols: &mut [u8]) -> Result<usize, Refusal>
     ensures reply { reply_of result ≡ (encoding code.now message.now symbols.old).reply }
     ensures symbols_then { symbols.new ≡ (encoding code.now message.now symbols.old).out }

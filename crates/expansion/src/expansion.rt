@@ -1,5 +1,5 @@
-// The expansion of a record. Its groups are unpacked once into lists over the rows a: E, then column and S of each pair. A column goes
-// through the lists, with no jump that depends on what they hold, and takes the place of its products.
+//! The expansion of a record. Its groups are unpacked once into lists over the rows a: E, then column and S of each pair. A column goes
+//! through the lists, with no jump that depends on what they hold, and takes the place of its products.
 ghost use Rattle.std.specs.Prelude.{◌≡◌, cond, ℕ, ◌+◌, ◌-◌, ◌*◌, ◌≤◌, ◌<◌, eqb, length, take, get_or};
 ghost use Rattle.trellis.specs.Lists.{tab, blocks};
 ghost use Rattle.trellis.specs.Record.{expansion};
@@ -138,8 +138,8 @@ fn in_room(d: usize, q: usize, k: usize, r: &[u8], t: &mut [u8], out: &mut [u8])
     Lists { bytes: t, q, k }.columns(d, r, out);
 }
 
-// The expansion, with the room that it takes: a group has at most three pairs. The products go straight into out, and each column is then
-// turned in place.
+/// The expansion, with the room that it takes: a group has at most three pairs. The products go straight into out, and each column is then
+/// turned in place.
 pub fn expand_in(first: u8, q: usize, weights: &[u8], r: &[u8], out: &mut [u8])
     requires expand_room { ExpandRoom (power_of first) (most_of first) weights.now r.now }
     requires q_le_most_size { (q ≤ most_size) × ((q ≡ size_of first) × (length out.old ≡ length weights.now * size_of first)) }

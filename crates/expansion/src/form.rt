@@ -1,4 +1,4 @@
-// The form of an accepted record.
+//! The form of an accepted record.
 ghost use Rattle.std.specs.Prelude.{◌≡◌, ◌+◌, ◌*◌, ◌≤◌, ltb, length, get_or};
 ghost use Rattle.trellis.specs.Lists.{all_to};
 ghost use Rattle.trellis.specs.Record.{pair_tests, pairs_ok, record_ok};
@@ -60,7 +60,7 @@ fn shifts_ok(r: &[u8], d: usize, q: usize) -> bool
     ok
 }
 
-// Whether these bytes are a record of degree d of accepted form. The length first: d shifts, and the bytes of the groups.
+/// Whether these bytes are a record of degree d of accepted form. The length first: d shifts, and the bytes of the groups.
 pub fn record_ok(first: u8, r: &[u8], d: usize) -> bool
     ensures { result ≡ record_ok (rule_for first) d r.now }
 {

@@ -51,10 +51,6 @@ pub no_fault : (first : ℕ) (ws : List ℕ) → weights_fault first ws ≡ 0 �
 unfolding weights_fault
 no_fault first ws e = weights_passed first ws (none_applies (weight_tests first ws) (numbered first ws) e)
 
--- no refusal has the number 0
-pub some_number : (r : Refusal) → number_of r ≢ 0
-some_number r = search rules
-
 -- a refusal by its number, and none
 pub fault_case : {A : Type 0} (first : ℕ) (ws : List ℕ) (bad : ℕ → A) (rest : A) {k : ℕ} → k ≡ weights_fault first ws → k ≢ 0 → bad k ≡ weight_cases first ws bad rest
 unfolding weights_fault

@@ -1,9 +1,9 @@
-// The field's arithmetic: q, doubling, the product by its recurrence. No function here calls itself.
+//! The field's arithmetic: q, doubling, the product by its recurrence. No function here calls itself.
 ghost use Rattle.std.specs.Prelude.{◌≡◌, ◌≤◌, ◌<◌, ◌^◌};
 ghost use Rattle.trellis.specs.Field.{polynomial, doubled, product};
 ghost use Rattle.trellis.specs.Sizes.{most_size};
 
-// q = 2 ^ p.
+/// q = 2 ^ p.
 pub fn size(p: u8) -> u8
     requires { (2 ≤ p) × (p ≤ 6) }
     ensures { (result ≡ 2 ^ p) × ((4 ≤ result) × (result ≤ most_size)) }
@@ -25,7 +25,7 @@ fn reducer(p: u8) -> u8
     }
 }
 
-// "doubled by a shift and reduced by the polynomial": where the top bit, bit p, is set.
+/// "doubled by a shift and reduced by the polynomial": where the top bit, bit p, is set.
 pub fn double(p: u8, a: u8) -> u8
     requires { (2 ≤ p) × ((p ≤ 6) × (a < 2 ^ p)) }
     ensures { (result ≡ doubled p a) × (result < 2 ^ p) }
@@ -35,8 +35,8 @@ pub fn double(p: u8, a: u8) -> u8
     if (s >> p) % 2 == 1 { s ^ r } else { s }
 }
 
-// "The product follows its own recurrence, halving the second factor each time", as a loop: each turn adds the first factor where the
-// dropped bit is one, and doubles it for the next.
+/// "The product follows its own recurrence, halving the second factor each time", as a loop: each turn adds the first factor where the
+/// dropped bit is one, and doubles it for the next.
 pub fn times(p: u8, a: u8, b: u8) -> u8
     requires { (2 ≤ p) × ((p ≤ 6) × ((a < 2 ^ p) × (b < 2 ^ p))) }
     ensures { result ≡ product p a b }

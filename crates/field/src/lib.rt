@@ -1,5 +1,5 @@
-// The field of 2 ^ p elements: the product of two, the products of weights with every symbol, and the tests of a first code byte and
-// weights.
+//! The field of 2 ^ p elements: the product of two, the products of weights with every symbol, and the tests of a first code byte and
+//! weights.
 #![tactic(auto)]
 
 mod field;
@@ -13,7 +13,7 @@ ghost use Rattle.field.specs.Answers.{product_reply, weights_fault, rows_leave};
 
 use refusal::Refusal;
 
-// The product of two elements of the field of 2 ^ p. Refused: 6, p not 2 to 6; 11, a or b no element.
+/// The product of two elements of the field of 2 ^ p. Refused: 6, p not 2 to 6; 11, a or b no element.
 #[tactic(auto, unfolding(crate::specs::Answers::product_reply))]
 pub fn product(p: u8, a: u8, b: u8) -> Result<u8, Refusal>
     ensures { reply_of result ≡ product_reply p a b }
@@ -28,15 +28,15 @@ pub fn product(p: u8, a: u8, b: u8) -> Result<u8, Refusal>
     Ok(field::times(p, a, b))
 }
 
-// The refusal of first byte and weights: 6, the first byte; 9, degree not 2 to 32; 11, a weight 0 or no element.
+/// The refusal of first byte and weights: 6, the first byte; 9, degree not 2 to 32; 11, a weight 0 or no element.
 pub fn validate_weights(first: u8, weights: &[u8]) -> Result<(), Refusal>
     ensures { fault_in result ≡ weights_fault first weights.now }
 {
     refusals::validate_weights(first, weights)
 }
 
-// The products of each weight with every symbol, 2 ^ p bytes a weight, end to end. Nothing changes where p is not 2 to 6, where there
-// are more than 32 weights, where a weight is no element, or where out has another length than these products.
+/// The products of each weight with every symbol, 2 ^ p bytes a weight, end to end. Nothing changes where p is not 2 to 6, where there
+/// are more than 32 weights, where a weight is no element, or where out has another length than these products.
 #[tactic(auto, unfolding(crate::specs::Answers::rows_leave))]
 pub fn rows(p: u8, weights: &[u8], out: &mut [u8])
     ensures { out.new ≡ rows_leave p weights.now out.old }

@@ -1,4 +1,4 @@
-// The products of weights with every symbol, and whether there is room for them.
+//! The products of weights with every symbol, and whether there is room for them.
 ghost use Rattle.std.specs.Prelude.{◌≡◌, cond, [], ◌∷◌, ◌*◌, ◌%◌, ◌^◌, ◌≤◌, eqb, length};
 ghost use Rattle.trellis.specs.Lists.{tab, blocks};
 ghost use Rattle.trellis.specs.Field.{xor, product};
@@ -90,7 +90,7 @@ fn each_row(p: u8, q: usize, weights: &[u8], out: &mut [u8])
     }
 }
 
-// From the table where it is taken, else each row by itself.
+/// From the table where it is taken, else each row by itself.
 pub fn fill(p: u8, weights: &[u8], out: &mut [u8])
     requires factors { Factors p weights.now }
     requires out_len { length out.old ≡ length weights.now * 2 ^ p }
@@ -114,7 +114,7 @@ fn elements_ok(q: u8, weights: &[u8]) -> bool
     ok
 }
 
-// Whether p and the weights are in range, and their products have `room` bytes.
+/// Whether p and the weights are in range, and their products have `room` bytes.
 #[tactic(auto, unfolding(crate::specs::Answers::rows_fit))]
 pub fn rows_fit(p: u8, weights: &[u8], room: usize) -> bool
     ensures { result ≡ rows_fit p weights.now room }

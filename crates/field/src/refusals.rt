@@ -1,4 +1,4 @@
-// The tests of a first code byte and of weights.
+//! The tests of a first code byte and of weights.
 ghost use Rattle.std.specs.Prelude.{◌≡◌};
 ghost use Rattle.refusal.specs.Replies.{fault_in};
 ghost use Rattle.field.specs.Answers.{weight_ok, weights_ok, weights_fault};
@@ -25,7 +25,7 @@ fn weights_ok(q: u8, weights: &[u8]) -> bool
     ok
 }
 
-// 6, 9 or 11, in this order.
+/// 6, 9 or 11, in this order.
 #[tactic(auto, unfolding(crate::specs::Answers::weights_fault))]
 pub fn validate_weights(first: u8, weights: &[u8]) -> Result<(), Refusal>
     ensures { fault_in result ≡ weights_fault first weights.now }

@@ -1,4 +1,4 @@
-// "For p = 6 the product also stands as a constant table of 4,096 numbers that agrees with the recurrence at each pair."
+//! "For p = 6 the product also stands as a constant table of 4,096 numbers that agrees with the recurrence at each pair."
 ghost use Rattle.std.specs.Prelude.{◌≡◌, true, ◌*◌, ◌<◌, length};
 ghost use Rattle.trellis.specs.Lists.{tab, blocks};
 ghost use Rattle.trellis.specs.Field.{product};
@@ -265,14 +265,14 @@ const PRODUCTS: [u8; 4096] = [
     29, 34, 25, 38, 36, 27, 17, 46, 44, 19, 40, 23, 21, 42, // 63 times 63
 ];
 
-// The whole table, taken once a call and handed on as a slice: a constant is copied to the stack wherever it is indexed or handed on.
+/// The whole table, taken once a call and handed on as a slice: a constant is copied to the stack wherever it is indexed or handed on.
 pub fn products() -> [u8; 4096]
     ensures { result ≡ product_table }
 {
     PRODUCTS
 }
 
-// Whether the table is taken for d weights: to be read it is copied, once a call.
+/// Whether the table is taken for d weights: to be read it is copied, once a call.
 pub fn taken(p: u8, d: usize) -> bool
     ensures { result ≡ true → p ≡ 6 }
 {
@@ -289,7 +289,7 @@ fn row_from(table: &[u8], h: u8, out: &mut [u8])
     out.copy_from_slice(&table[base..base + 64]);
 }
 
-// The rows of all weights, each a row of the table.
+/// The rows of all weights, each a row of the table.
 pub fn rows_from(table: &[u8], weights: &[u8], out: &mut [u8])
     requires table_value { table.now ≡ product_table }
     requires factors { Factors 6 weights.now }

@@ -11,6 +11,7 @@ use lib.Dec.{eqb, ltb}
 use borrow.Author.Rules.{rules}
 use borrow.Author.Tests.{eqb-true, eq-eqb, ne_eqb}
 use lib.ListN.{length, take, drop, get_or}
+use Rattle.refusal.proofs.Numbers.{some_number}
 use Rattle.std.specs.List.{list_all, range_with_len}
 use Rattle.std.proofs.lemmas.List.{take-map, drop-map, map-id}
 use Rattle.std.proofs.lemmas.List.Folds.{list_all_more}
@@ -80,10 +81,6 @@ fault_by_lem : (k : Numbers) (ds f : List ℕ) (y c s v : ℕ)
     (frame_fault_of k.first k.columns f)
 unfolding fault_of frame_fault_of room_fault_of
 fault_by_lem k ds f y c s v = decode_parts (size_of k.first) k.columns (bytes_before k.first ds (min k.checks (length ds))) f y c s v
-
--- no refusal has the number 0
-some_number : (r : Refusal) → number_of r ≢ 0
-some_number r = search rules
 
 module _ (k : Numbers) (ds f : List ℕ) (y c s v : ℕ) where
   pub decode_refused : (r : Refusal) → number_of r ≡ frame_fault_of k.first k.columns f → number_of r ≡ fault_of k ds f y c s v

@@ -1,5 +1,5 @@
-// A frame under a code: its tests, those of the buffers, its costs in the cost buffer, and the tests of costs and records from which an
-// iteration goes on.
+//! A frame under a code: its tests, those of the buffers, its costs in the cost buffer, and the tests of costs and records from which an
+//! iteration goes on.
 #![tactic(auto)]
 
 mod columns;
@@ -14,7 +14,7 @@ ghost use Rattle.frame.specs.Answers.{frame_fault_of, room_fault_of, short_fault
 use codeline::answers::Numbers;
 use refusal::Refusal;
 
-// How many elements the symbol buffer, the cost buffer, the store and the margin buffer have, or need.
+/// How many elements the symbol buffer, the cost buffer, the store and the margin buffer have, or need.
 #[derive(Clone, Copy, Debug, PartialEq, Eq)]
 pub struct Lengths {
     pub symbols: usize,
@@ -23,7 +23,7 @@ pub struct Lengths {
     pub margins: usize,
 }
 
-// "12, cost count wrong; 13, a column without a cost of 0".
+/// "12, cost count wrong; 13, a column without a cost of 0".
 #[tactic(auto, using(crate::proofs::Frames::zeros_are), unfolding(crate::specs::Answers::frame_fault_of))]
 pub fn validate_frame(numbers: Numbers, frame: &[u8]) -> Result<(), Refusal>
     ensures { fault_in result ≡ frame_fault_of numbers.first numbers.columns frame.now }
@@ -39,7 +39,7 @@ pub fn validate_frame(numbers: Numbers, frame: &[u8]) -> Result<(), Refusal>
     Ok(())
 }
 
-// "as many bytes as the M record lengths add up to": of the first M of these degrees.
+/// "as many bytes as the M record lengths add up to": of the first M of these degrees.
 #[tactic(auto, using(crate::proofs::Resuming::groups_small, crate::proofs::Resuming::bytes_none, crate::proofs::Resuming::place_more))]
 pub fn used(numbers: Numbers, degrees: &[u8]) -> usize
     ensures { result
@@ -54,7 +54,7 @@ pub fn used(numbers: Numbers, degrees: &[u8]) -> usize
     sum
 }
 
-// 2, 3, 4 and 19 for the first buffer that is too short.
+/// 2, 3, 4 and 19 for the first buffer that is too short.
 #[tactic(auto, unfolding(crate::specs::Answers::room_fault_of))]
 pub fn validate_room(needed: Lengths, lent: Lengths) -> Result<(), Refusal>
     ensures each { fault_in result ≡ short_fault needed lent }
@@ -78,7 +78,7 @@ pub fn validate_room(needed: Lengths, lent: Lengths) -> Result<(), Refusal>
     Ok(())
 }
 
-// "Decode: code, 12, 13, 2, 3, 4.", 19: what comes after the code. Slices as the public calls have them, since what is tested is what they lend.
+/// "Decode: code, 12, 13, 2, 3, 4.", 19: what comes after the code. Slices as the public calls have them, since what is tested is what they lend.
 #[tactic(auto, using(crate::proofs::Frames::decode_refused, crate::proofs::Frames::decode_room))]
 pub fn validate_decode(
     numbers: Numbers,
@@ -110,7 +110,7 @@ pub fn validate_decode(
     validate_room(needed, lent)
 }
 
-// "Start: P is the frame". Nothing changes where the two have other lengths.
+/// "Start: P is the frame". Nothing changes where the two have other lengths.
 pub fn copy(frame: &[u8], costs: &mut [u16])
     ensures { costs.new ≡ copied_to frame.now costs.old }
 {
@@ -123,7 +123,7 @@ pub fn copy(frame: &[u8], costs: &mut [u16])
     }
 }
 
-// "then 13 for a cost above 510, or a column without a 0, in the cost buffer's used part, then, if t is not 0, 16 for each stored record".
+/// "then 13 for a cost above 510, or a column without a 0, in the cost buffer's used part, then, if t is not 0, 16 for each stored record".
 #[tactic(auto, using(crate::proofs::Resuming::records_taken), unfolding(crate::specs::Answers::resume_fault))]
 pub fn validate_resumed(
     numbers: Numbers,

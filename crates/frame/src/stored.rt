@@ -1,4 +1,4 @@
-// Lent costs and records from which an iteration goes on: the costs of a column, and the form of each record.
+//! Lent costs and records from which an iteration goes on: the costs of a column, and the form of each record.
 ghost use Rattle.std.specs.Prelude.{◌≡◌, ◌≤◌, length};
 ghost use Rattle.trellis.specs.Lists.{all_to};
 ghost use Rattle.frame.specs.Answers.{costs_in, formed_at, records_in};
@@ -6,7 +6,7 @@ ghost use Rattle.frame.specs.Answers.{costs_in, formed_at, records_in};
 use crate::columns;
 use expansion::form;
 
-// n columns of q costs, without "a cost above 510, or a column without a 0".
+/// n columns of q costs, without "a cost above 510, or a column without a 0".
 #[tactic(auto, using(crate::proofs::Resuming::low_are, crate::proofs::Frames::zeros_are), unfolding(crate::specs::Answers::costs_in))]
 pub fn costs_ok(costs: &[u16], q: usize, n: usize) -> bool
     requires { (n ≤ 65535) × (q ≤ 32768) }
@@ -36,7 +36,7 @@ fn store_ok(first: u8, degrees: &[u8], store: &[u8]) -> bool
     true
 }
 
-// At t = 0 there is no record to test.
+/// At t = 0 there is no record to test.
 #[tactic(auto, unfolding(crate::specs::Answers::records_in))]
 pub fn records_ok(first: u8, t: u8, degrees: &[u8], store: &[u8]) -> bool
     ensures { result ≡ records_in first degrees.now (length degrees.now) t store.now }

@@ -1,6 +1,6 @@
-// What a decoding works over. Made by a literal of whole slices, in the function that has cut them.
+//! What a decoding works over. Made by a literal of whole slices, in the function that has cut them.
 
-// The buffers that a call is lent: for the decisions, the costs, the records and the margins.
+/// The buffers that a call is lent: for the decisions, the costs, the records and the margins.
 #[derive(Drop)]
 pub struct DecodeBuffers<'a> {
     pub symbols: &'a mut [u8],
@@ -9,7 +9,7 @@ pub struct DecodeBuffers<'a> {
     pub margins: &'a mut [u16],
 }
 
-// Room for a check's arriving and sent costs.
+/// Room for a check's arriving and sent costs.
 #[derive(Drop)]
 pub struct Scratch<'a> {
     pub arrived: &'a mut [u8],

@@ -1,4 +1,4 @@
-// The columns of one update: Q of each column of a check from P and the old expansion, and P again from Q and the new expansion.
+//! The columns of one update: Q of each column of a check from P and the old expansion, and P again from Q and the new expansion.
 ghost use Rattle.std.specs.Prelude.{◌≡◌, map, ◌+◌, ◌-◌, ◌≤◌, ◌<◌, length};
 ghost use Rattle.machine.specs.Machine.{scaled, incoming, outgoing};
 ghost use Rattle.machine.specs.inner.InRange.{Below};
@@ -39,7 +39,7 @@ fn incoming_column(costs: &[u16], old: &[u8], g: u16, out: &mut [u8])
     }
 }
 
-// Q of every column of a check, end to end.
+/// Q of every column of a check, end to end.
 pub fn gather(costs: &[u16], cols: &[u16], old: &[u8], g: u16, q: usize, out: &mut [u8])
     requires { GatherRoom costs.now cols.now old.now g q out.old }
     ensures { out.new
@@ -90,7 +90,7 @@ fn outgoing_column(qs: &[u8], new: &[u8], g: u16, costs: &mut [u16])
     }
 }
 
-// The new P of every column of a check.
+/// The new P of every column of a check.
 pub fn scatter(qs: &[u8], new: &[u8], cols: &[u16], g: u16, q: usize, costs: &mut [u16])
     requires { ScatterRoom qs.now new.now cols.now g q costs.old }
     ensures { costs.new

@@ -1,4 +1,4 @@
-// Decoding: the code is read, then its refusals, or the run of a schedule.
+//! Decoding: the code is read, then its refusals, or the run of a schedule.
 ghost use Rattle.std.specs.Prelude.{◌≡◌, true, ◌≤◌, length};
 ghost use Rattle.trellis.specs.Sizes.{most_symbols};
 ghost use Rattle.machine.specs.CodeLine.{parse, numbers_of, columns_read};
@@ -111,7 +111,7 @@ fn under_code<S: Schedule>(
     Ok(o)
 }
 
-// Over tables and lists of its own.
+/// Over tables and lists of its own.
 pub fn decode_in<S: Schedule>(
     code: &[u8],
     frame: &[u8],

@@ -1,5 +1,5 @@
-// Stopping inside an iteration: the checks are updated one after the other, and after each update its columns are decided again and the
-// test is made where a symbol changed, from a check on that was not satisfied at the last test.
+//! Stopping inside an iteration: the checks are updated one after the other, and after each update its columns are decided again and the
+//! test is made where a symbol changed, from a check on that was not satisfied at the last test.
 ghost use Rattle.std.specs.Prelude.{◌≡◌, true, false, ◌+◌, ◌*◌, ◌≤◌, ◌<◌, length, set};
 ghost use Rattle.trellis.specs.Check.{decide as decide_of};
 ghost use Rattle.trellis.specs.Sizes.{most_size};
@@ -128,7 +128,7 @@ fn most_updates(numbers: Numbers) -> u16
     u16::from(numbers.checks) * u16::from(numbers.limit)
 }
 
-// The machine on the costs in `costs`, "tested at the start and after each check update".
+/// The machine on the costs in `costs`, "tested at the start and after each check update".
 pub fn run(code: &Code<'_>, b: &mut DecodeBuffers<'_>, room: &mut Scratch<'_>) -> Outcome
     requires { RunIn code.now b.old room.old }
     ensures loans { SameLoans b.old b.new }

@@ -1,4 +1,4 @@
-// One iteration and the run, over the lent buffers and the tables of a code.
+//! One iteration and the run, over the lent buffers and the tables of a code.
 ghost use Rattle.std.specs.Prelude.{◌≡◌, true};
 ghost use Rattle.machine.specs.Machine.{symbols as symbols_of};
 ghost use Rattle.machine.specs.Lent.{lent, iteration_lent, go_lent};
@@ -12,7 +12,7 @@ use crate::place::Place;
 use crate::{parity, place};
 use codeline::code::Code;
 
-// "An iteration .. takes the checks in code order."
+/// "An iteration .. takes the checks in code order."
 pub fn iterate(
     code: &Code<'_>,
     start: bool,
@@ -37,7 +37,7 @@ pub fn iterate(
     }
 }
 
-// The machine on the costs in `costs`: "all checks satisfied means found. Otherwise, if t = I, not found."
+/// The machine on the costs in `costs`: "all checks satisfied means found. Otherwise, if t = I, not found."
 pub fn run(code: &Code<'_>, b: &mut DecodeBuffers<'_>, room: &mut Scratch<'_>) -> Outcome
     requires { RunIn code.now b.old room.old }
     ensures loans { SameLoans b.old b.new }

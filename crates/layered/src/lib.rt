@@ -1,4 +1,4 @@
-// Above the check layer and the code line: the layered decoder.
+//! Above the check layer and the code line: the layered decoder.
 #![tactic(auto)]
 
 pub mod answers;
@@ -25,9 +25,9 @@ use crate::answers::{Counted, Outcome, Stage};
 use crate::schedule::{EachUpdate, WholeIterations};
 use refusal::Refusal;
 
-// Decodes a frame of N times q costs under a code line: found or not found with the iterations made, the decisions in `symbols`, the
-// costs P in `costs`, the records in `store`, the decisions' margins in `margins`. Refused: the code line's 5 to 11; 12, cost count; 13,
-// a column without a cost of 0; 2, 3, 4, 19, symbol buffer, cost buffer, store, margin buffer too short.
+/// Decodes a frame of N times q costs under a code line: found or not found with the iterations made, the decisions in `symbols`, the
+/// costs P in `costs`, the records in `store`, the decisions' margins in `margins`. Refused: the code line's 5 to 11; 12, cost count; 13,
+/// a column without a cost of 0; 2, 3, 4, 19, symbol buffer, cost buffer, store, margin buffer too short.
 pub fn decode(
     code: &[u8],
     frame: &[u8],
@@ -43,7 +43,7 @@ pub fn decode(
     decode_counted(code, frame, symbols, costs, store, margins).answer
 }
 
-// The same call for whoever goes on with the N symbols.
+/// The same call for whoever goes on with the N symbols.
 pub fn decode_counted(
     code: &[u8],
     frame: &[u8],
@@ -60,9 +60,9 @@ pub fn decode_counted(
     decoding::decode_in::<WholeIterations>(code, frame, symbols, costs, store, margins)
 }
 
-// Decodes a frame as decode does, but stops "as soon as the decisions satisfy all checks, tested at the start and after each check
-// update": found or not found with the check updates made. Symbols, margins, costs and the records of updated checks are those of that
-// moment; checks not yet updated keep the old bytes of their place in the store. Refuses as decode does.
+/// Decodes a frame as decode does, but stops "as soon as the decisions satisfy all checks, tested at the start and after each check
+/// update": found or not found with the check updates made. Symbols, margins, costs and the records of updated checks are those of that
+/// moment; checks not yet updated keep the old bytes of their place in the store. Refuses as decode does.
 pub fn decode_early(
     code: &[u8],
     frame: &[u8],
@@ -78,8 +78,8 @@ pub fn decode_early(
     decoding::decode_in::<EachUpdate>(code, frame, symbols, costs, store, margins).answer
 }
 
-// Loads a frame and runs the first test: the buffers hold the first decisions with their margins and the frame as costs; the store is only
-// asked for its length. Refuses as decode does.
+/// Loads a frame and runs the first test: the buffers hold the first decisions with their margins and the frame as costs; the store is only
+/// asked for its length. Refuses as decode does.
 pub fn load(
     code: &[u8],
     frame: &[u8],
@@ -95,8 +95,8 @@ pub fn load(
     stages::load_in(code, frame, symbols, costs, store, margins)
 }
 
-// One iteration after t of them, which goes on from the lent costs and records, whoever wrote them. Refused: as decode, then 13, a cost
-// above 510 or a column without a 0 in the cost buffer, then, if t is not 0, 16, a stored record that is not of accepted form.
+/// One iteration after t of them, which goes on from the lent costs and records, whoever wrote them. Refused: as decode, then 13, a cost
+/// above 510 or a column without a 0 in the cost buffer, then, if t is not 0, 16, a stored record that is not of accepted form.
 pub fn step(
     t: u8,
     code: &[u8],

@@ -1,4 +1,4 @@
-// The decisions with their margins, and whether they satisfy every check.
+//! The decisions with their margins, and whether they satisfy every check.
 ghost use Rattle.std.specs.Prelude.{◌≡◌, ◌+◌, ◌*◌, ◌^◌, ◌≤◌, ◌<◌, length};
 ghost use Rattle.trellis.specs.Lists.{tab};
 ghost use Rattle.trellis.specs.Check.{decide as decide_of};
@@ -15,7 +15,7 @@ ghost use Rattle.layered.specs.inner.Parity.{all_hold, ParityRoom, FromTo, First
 use codeline::code::Code;
 use decision::answers::Decision;
 
-// The decision of column c of q costs.
+/// The decision of column c of q costs.
 pub fn decided(costs: &[u16], q: usize, c: usize) -> Decision
     requires { c * q + q ≤ length costs.now }
     ensures symbol { (result.symbol ≡ (decide_of (column_of q costs.now c)).symbol) × (result.symbol ≤ q) }
@@ -36,7 +36,7 @@ fn decisions(costs: &[u16], q: usize, symbols: &mut [u8])
     }
 }
 
-// The margin of each column.
+/// The margin of each column.
 pub fn margins(costs: &[u16], q: usize, margins: &mut [u16])
     requires { length margins.old * q ≤ length costs.now }
     ensures { margins.new
@@ -68,15 +68,15 @@ fn term_at(code: &Code<'_>, symbols: &[u8], edge: usize) -> u8
     )
 }
 
-// A check by its number, with its first edge in the tables.
+/// A check by its number, with its first edge in the tables.
 #[derive(Clone, Copy, Debug, PartialEq, Eq)]
 pub struct CheckAt {
     pub check: usize,
     pub edge: usize,
 }
 
-// The first check from `from` on and before `to` that the symbols do not satisfy, "the sum of h_n times x_n is 0". Both loops are left
-// at once, by the label.
+/// The first check from `from` on and before `to` that the symbols do not satisfy, "the sum of h_n times x_n is 0". Both loops are left
+/// at once, by the label.
 pub fn unsatisfied(code: &Code<'_>, from: CheckAt, to: usize, symbols: &[u8]) -> Option<CheckAt>
     requires { ParityRoom code.now symbols.now × FromTo code.now from to }
     ensures { FirstNot (lent_code code.now) code.now.degrees.now symbols.now from.check to result }
@@ -115,7 +115,7 @@ fn holds(code: &Code<'_>, symbols: &[u8]) -> bool
     unsatisfied(code, from, count, symbols).is_none()
 }
 
-// The decisions into the symbol buffer, and whether they satisfy every check.
+/// The decisions into the symbol buffer, and whether they satisfy every check.
 pub fn settled(code: &Code<'_>, costs: &[u16], symbols: &mut [u8]) -> bool
     requires { SettledRoom code.now costs.now symbols.old }
     ensures test { result ≡ settled_of (lent_code code.now) costs.now }

@@ -1,4 +1,4 @@
-// A check in the tables and the store: where it stands, one update of it, and the check behind it.
+//! A check in the tables and the store: where it stands, one update of it, and the check behind it.
 ghost use Rattle.std.specs.Prelude.{◌≡◌, ◌+◌};
 ghost use Rattle.machine.specs.Lent.{lent, update_lent};
 ghost use Rattle.layered.specs.inner.Buffers.{SameScratch};
@@ -9,7 +9,7 @@ use crate::buffers::Scratch;
 use crate::update;
 use codeline::code::Code;
 
-// The check's number, its first edge in the tables, its record's first byte in the store.
+/// The check's number, its first edge in the tables, its record's first byte in the store.
 #[derive(Clone, Copy, Debug, PartialEq, Eq)]
 pub struct Place {
     pub check: usize,
@@ -17,7 +17,7 @@ pub struct Place {
     pub byte: usize,
 }
 
-// One update of the check that stands here; answers where the next one stands.
+/// One update of the check that stands here; answers where the next one stands.
 pub fn update_at(
     code: &Code<'_>,
     start: bool,
@@ -58,7 +58,7 @@ pub fn update_at(
     }
 }
 
-// Behind the last of so many checks the first comes again.
+/// Behind the last of so many checks the first comes again.
 pub fn around(here: Place, count: usize) -> Place
     ensures { Around count here result }
 {

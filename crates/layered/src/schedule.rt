@@ -1,4 +1,4 @@
-// When a decoding tests its decisions: at the start, and then after each iteration or after each check update.
+//! When a decoding tests its decisions: at the start, and then after each iteration or after each check update.
 ghost use Rattle.std.specs.Prelude.{◌≡◌, Bool, true, false};
 ghost use Rattle.machine.specs.Machine.{symbols as symbols_of};
 ghost use Rattle.layered.specs.inner.Buffers.{lent_in, RunIn, SameLoans, SameScratch};

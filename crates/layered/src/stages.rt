@@ -1,5 +1,5 @@
-// A load and one iteration: decoding's refusals, then the first test, or the iteration from the lent costs and records and the test after
-// it.
+//! A load and one iteration: decoding's refusals, then the first test, or the iteration from the lent costs and records and the test after
+//! it.
 ghost use Rattle.std.specs.Prelude.{◌≡◌, Ok};
 ghost use Rattle.machine.specs.Machine.{settled, symbols as symbols_of, margins as margins_of};
 ghost use Rattle.machine.specs.Lent.{lent, iteration_lent};
@@ -16,7 +16,7 @@ use crate::{iterate, parity};
 use codeline::code::Code;
 use refusal::Refusal;
 
-// "2 if the test holds, else 3 if t is I or more, else 1".
+/// "2 if the test holds, else 3 if t is I or more, else 1".
 pub fn stage_after(found: bool, t: u16, limit: u8) -> Stage
     ensures { stage_of (Ok result) ≡ stage_after found t limit }
 {
@@ -29,7 +29,7 @@ pub fn stage_after(found: bool, t: u16, limit: u8) -> Stage
     Stage::Running
 }
 
-// The decisions with their margins, and whether they satisfy every check.
+/// The decisions with their margins, and whether they satisfy every check.
 pub fn tested(code: &Code<'_>, costs: &[u16], symbols: &mut [u8], margins: &mut [u16]) -> bool
     requires { TestRoom code.now costs.now symbols.old margins.old }
     ensures test { result ≡ settled (lent_code code.now) costs.now }
@@ -40,7 +40,7 @@ pub fn tested(code: &Code<'_>, costs: &[u16], symbols: &mut [u8], margins: &mut 
     parity::settled(code, costs, symbols)
 }
 
-// One iteration, and the test after it.
+/// One iteration, and the test after it.
 pub fn iterated(
     code: &Code<'_>,
     start: bool,
@@ -137,7 +137,7 @@ fn step_under(
     Ok(stage_after(found, u16::from(t) + 1, code.numbers.limit))
 }
 
-// Over tables of its own.
+/// Over tables of its own.
 pub fn load_in(
     code: &[u8],
     frame: &[u8],
@@ -163,7 +163,7 @@ pub fn load_in(
     load_under(&accepted, frame, symbols, costs, store, margins)
 }
 
-// Over tables and lists of its own.
+/// Over tables and lists of its own.
 pub fn step_in(
     t: u8,
     code: &[u8],

@@ -1,4 +1,4 @@
-// One update of a check: Q from the costs and the old record, the new record, and the costs again.
+//! One update of a check: Q from the costs and the old record, the new record, and the costs again.
 ghost use Rattle.std.specs.Prelude.{◌≡◌};
 ghost use Rattle.trellis.specs.Check.{all_sent};
 ghost use Rattle.trellis.specs.Record.{record_of};
@@ -33,7 +33,7 @@ fn send(first: u8, weights: &[u8], costs: &[u8], bytes: &mut [u8], out: &mut [u8
     checknode::messages(first, weights, costs, bytes, out).unwrap();
 }
 
-// "This is one update of the check", whose record stands in `bytes`; `arrived` and `sent` are room to work in.
+/// "This is one update of the check", whose record stands in `bytes`; `arrived` and `sent` are room to work in.
 pub fn update(
     numbers: Numbers,
     start: bool,

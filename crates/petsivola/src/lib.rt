@@ -1,5 +1,5 @@
-// The public calls for C and Rust, with what each answers packed in a number: include/petsivola.h has each with its parameters. The crate
-// petsivola_c exports them to C.
+//! The public calls for C and Rust, with what each answers packed in a number: include/petsivola.h has each with its parameters. The crate
+//! petsivola_c exports them to C.
 #![tactic(auto)]
 
 ghost use Rattle.std.specs.Prelude.{◌≡◌, ◌≤◌};
@@ -191,7 +191,7 @@ pub fn petsivola_window_read(window: Registers, address: u8) -> u8
     window::read(window, address)
 }
 
-// 1 where the interrupt is raised, else 0.
+/// 1 where the interrupt is raised, else 0.
 pub fn petsivola_window_interrupt(window: Registers) -> u8
     ensures { result ≡ pick (interrupt (bytes_of window)) 1 0 }
 {

@@ -1,5 +1,5 @@
-// The fifteen calls of include/petsivola.h: each is the call of the same name in the crate petsivola, with its promises. A slice is a
-// pointer and a length.
+//! The fifteen calls of include/petsivola.h: each is the call of the same name in the crate petsivola, with its promises. A slice is a
+//! pointer and a length.
 #![tactic(auto)]
 
 ghost use Rattle.std.specs.Prelude.{◌≡◌};
@@ -169,7 +169,7 @@ pub extern "C" fn petsivola_window_read(window: Registers, address: u8) -> u8
     petsivola::petsivola_window_read(window, address)
 }
 
-// 1 where the interrupt is raised, else 0.
+/// 1 where the interrupt is raised, else 0.
 #[unsafe(no_mangle)]
 pub extern "C" fn petsivola_window_interrupt(window: Registers) -> u8
     ensures { result ≡ pick (interrupt (bytes_of window)) 1 0 }

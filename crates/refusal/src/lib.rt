@@ -1,4 +1,4 @@
-// Why a call is refused. "A refusal returns its number": each has the number that C, a register and a printed line give. SPEC 8.
+//! Why a call is refused. "A refusal returns its number": each has the number that C, a register and a printed line give. SPEC 8.
 #![tactic(auto)]
 
 ghost use Rattle.std.specs.Prelude.{◌≡◌};

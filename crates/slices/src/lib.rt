@@ -1,4 +1,4 @@
-// Copies of slices. Each is total: nothing changes where the two have other lengths.
+//! Copies of slices. Each is total: nothing changes where the two have other lengths.
 #![tactic(auto)]
 
 ghost use Rattle.std.specs.Prelude.{◌≡◌};

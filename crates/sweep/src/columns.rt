@@ -1,4 +1,4 @@
-// A sweep over the columns, from the first to the last or from the last to the first.
+//! A sweep over the columns, from the first to the last or from the last to the first.
 ghost use Rattle.std.specs.Prelude.{◌≡◌, ◌*◌, ◌^◌, ◌≤◌, ◌<◌, length};
 ghost use Rattle.trellis.specs.Lists.{tab};
 ghost use Rattle.trellis.specs.Field.{product};
@@ -13,7 +13,7 @@ use crate::step::Column;
 use crate::{cells, step};
 use checknode::accepted::Check;
 
-// A product of two elements, which is not refused.
+/// A product of two elements, which is not refused.
 pub fn times(p: u8, a: u8, b: u8) -> u8
     requires { (2 ≤ p) × ((p ≤ 6) × ((a < 2 ^ p) × (b < 2 ^ p))) }
     ensures { result ≡ product p a b }
@@ -93,7 +93,7 @@ fn turn(check: &Check<'_>, n: usize, cells: &[u16], out: &mut [u16])
     );
 }
 
-// From the first column on, or from the last.
+/// From the first column on, or from the last.
 #[derive(Clone, Copy, Debug, PartialEq, Eq)]
 pub enum Direction {
     Forward,
@@ -111,8 +111,8 @@ fn order(direction: Direction, d: usize, i: usize) -> usize
     }
 }
 
-// A sweep: part 0 of the table is kept over no column, and each part after it over one column more. The last column of the order is left
-// out, for no column comes after it. A part is copied before the next is worked out: one slice cannot be read and written at once.
+/// A sweep: part 0 of the table is kept over no column, and each part after it over one column more. The last column of the order is left
+/// out, for no column comes after it. A part is copied before the next is worked out: one slice cannot be read and written at once.
 pub fn fill(check: &Check<'_>, direction: Direction, cells: &mut [u16], table: &mut [u16])
     requires cells_len { (length cells.old ≡ cell_count check.now.first) × (length table.old ≡ length check.now.weights.now * cell_count check.now.first) }
     ensures { table.new ≡ table_of check.now.first (is_back direction) check.now.weights.now check.now.costs.now }

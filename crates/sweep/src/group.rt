@@ -1,4 +1,4 @@
-// The bytes of each a, from the sent costs of all columns: E, and the columns above it.
+//! The bytes of each a, from the sent costs of all columns: E, and the columns above it.
 ghost use Rattle.std.specs.Prelude.{◌≡◌, ◌+◌, ◌-◌, ◌*◌, ◌≤◌, ◌<◌, ltb, length, set};
 ghost use Rattle.trellis.specs.Lists.{pick, blocks};
 ghost use Rattle.sweep.specs.inner.Groups.{lowest_to, sent_of, pair_above, pair_count, pairs_over, unused_pair, group_by, PairsRoom};
@@ -77,7 +77,7 @@ fn group(sent: &[u8], q: usize, d: usize, k: usize, a: usize, out: &mut [u8])
     pads(&mut out[b..n], k - c);
 }
 
-// The bytes of each a from 1 on.
+/// The bytes of each a from 1 on.
 pub fn groups(sent: &[u8], q: usize, d: usize, k: usize, out: &mut [u8])
     requires sent_len { (length sent.now ≡ d * q) × ((d ≤ 255) × ((k ≤ 3) × (0 < q))) }
     requires pairs_room { PairsRoom k d q sent.now }

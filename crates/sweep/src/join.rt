@@ -1,4 +1,4 @@
-// The sweeps before and after a column, joined.
+//! The sweeps before and after a column, joined.
 ghost use Rattle.std.specs.Prelude.{◌≡◌, ◌+◌, ◌*◌, ◌≤◌, ◌<◌, length};
 ghost use Rattle.trellis.specs.Lists.{tab};
 ghost use Rattle.trellis.specs.Field.{xor};
@@ -81,7 +81,7 @@ fn sent_row(sides: &Sides<'_>, s: usize, out: &mut [u8])
     }
 }
 
-// "joins the two sweeps for column n", for each n: the costs sent to it.
+/// "joins the two sweeps for column n", for each n: the costs sent to it.
 pub fn sent_all(
     before: &[u16],
     after: &[u16],

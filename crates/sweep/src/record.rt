@@ -1,4 +1,4 @@
-// The record of an accepted check: the shifts, both sweeps, the sent costs, and from these the bytes of each a.
+//! The record of an accepted check: the shifts, both sweeps, the sent costs, and from these the bytes of each a.
 ghost use Rattle.std.specs.Prelude.{◌≡◌, ◌*◌, ◌≤◌, ◌<◌, length, get_or};
 ghost use Rattle.trellis.specs.Lists.{tab};
 ghost use Rattle.trellis.specs.Field.{xor};
@@ -112,7 +112,7 @@ fn record_with(
     record_from(check, before, after, sent, out);
 }
 
-// The record, with the room that it takes.
+/// The record, with the room that it takes.
 pub fn record_in(check: &Check<'_>, out: &mut [u8])
     requires out_len { length out.old ≡ record_length (rule_for check.now.first) (length check.now.weights.now) }
     ensures { out.new ≡ record_in check.now }

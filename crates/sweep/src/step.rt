@@ -1,4 +1,4 @@
-// One column more: the costs kept over some columns become those over these and one more.
+//! One column more: the costs kept over some columns become those over these and one more.
 ghost use Rattle.std.specs.Prelude.{◌≡◌, cond, ◌+◌, ◌*◌, ◌≤◌, ◌<◌, eqb, length, get_or, set};
 ghost use Rattle.trellis.specs.Lists.{tab};
 ghost use Rattle.trellis.specs.Field.{xor};
@@ -7,7 +7,7 @@ ghost use Rattle.sweep.specs.inner.Cells.{Sums, Steps, move_cost, deviation_at, 
 
 use crate::cells;
 
-// A column as a sweep takes it: the products of its weight with each symbol, the cost of a deviation to each, and its decision's product.
+/// A column as a sweep takes it: the products of its weight with each symbol, the cost of a deviation to each, and its decision's product.
 #[derive(Clone, Copy)]
 pub struct Column<'a> {
     pub products: &'a [u8],
@@ -61,7 +61,7 @@ fn move_cost(x: usize, z: usize, cost: u8) -> u16
     if x == z { 1024 } else { u16::from(cost) }
 }
 
-// The costs of the column's deviations.
+/// The costs of the column's deviations.
 pub fn move_costs(costs: &[u8], z: usize, out: &mut [u16])
     requires { length costs.now ≡ length out.old }
     ensures { out.new ≡ tab (move_cost costs.now z) (length out.old) }
@@ -86,7 +86,7 @@ fn count(column: &Column<'_>, cells: &[u16], j: usize, greatest: bool, out: &mut
     layer(column, &cells[b - q..b], &cells[b..b + q], greatest, out);
 }
 
-// The costs of each count up to k.
+/// The costs of each count up to k.
 pub fn step(column: &Column<'_>, cells: &[u16], k: usize, greatest: bool, out: &mut [u16])
     requires k_few { k ≤ 3 }
     requires cells_len { (length cells.now ≡ (k + 1) * length column.now.products.now) × (length out.old ≡ (k + 1) * length column.now.products.now) }
@@ -99,7 +99,7 @@ pub fn step(column: &Column<'_>, cells: &[u16], k: usize, greatest: bool, out: &
     }
 }
 
-// No column yet: one choice, with no deviation, sum 0 and cost 0.
+/// No column yet: one choice, with no deviation, sum 0 and cost 0.
 pub fn begin(out: &mut [u16])
     requires { 0 < length out.old }
     ensures { out.new ≡ set (tab (λ i. mark) (length out.old)) 0 0 }

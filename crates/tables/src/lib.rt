@@ -1,4 +1,4 @@
-// The engine of one check: tables of rests over the columns before and after each one, sixteen rows at a time.
+//! The engine of one check: tables of rests over the columns before and after each one, sixteen rows at a time.
 #![tactic(auto)]
 
 mod block;
@@ -13,7 +13,7 @@ ghost use Rattle.tables.specs.Calls.{in_range, ShapeFor, sent_leaves};
 pub use crate::layout::Shape;
 use rules::Rule;
 
-// Whether p is 2 to 6, k 2 to 3 and d 2 to 32.
+/// Whether p is 2 to 6, k 2 to 3 and d 2 to 32.
 #[tactic(auto, unfolding(crate::specs::Calls::in_range))]
 pub fn fits(rule: Rule, d: usize) -> bool
     ensures { result ≡ in_range rule.p rule.k d }
@@ -21,7 +21,7 @@ pub fn fits(rule: Rule, d: usize) -> bool
     (2..=6).contains(&rule.p) && (2..=3).contains(&rule.k) && (2..=sizes::MOST_DEGREE).contains(&d)
 }
 
-// The shape of the tables over d columns, where these fit: at least sixteen rows, for that many are taken at a time.
+/// The shape of the tables over d columns, where these fit: at least sixteen rows, for that many are taken at a time.
 pub fn shape_of(rule: Rule, d: usize) -> Option<Shape>
     ensures fits { is_some result ≡ in_range rule.p rule.k d }
     ensures shape { IfSome result (ShapeFor rule.p rule.k rule.greatest) }
@@ -38,9 +38,9 @@ pub fn shape_of(rule: Rule, d: usize) -> Option<Shape>
     })
 }
 
-// The rests of the costs sent to d columns, from the columns' lines: line n and row n start at n times the rows of a table, which are 2
-// ^ p and at least 16. A line has in row a the rest of the symbol whose weighted difference from the decision is a, and 0 in rows from
-// 2 ^ p on. Nothing changes where p is not 2 to 6, k not 2 to 3, d not 2 to 32, or a slice too short.
+/// The rests of the costs sent to d columns, from the columns' lines: line n and row n start at n times the rows of a table, which are 2
+/// ^ p and at least 16. A line has in row a the rest of the symbol whose weighted difference from the decision is a, and 0 in rows from
+/// 2 ^ p on. Nothing changes where p is not 2 to 6, k not 2 to 3, d not 2 to 32, or a slice too short.
 pub fn sent(rule: Rule, d: usize, lines: &[u8], out: &mut [u8])
     ensures { out.new ≡ sent_leaves rule.p rule.k rule.greatest d lines.now out.old }
 {

@@ -1,4 +1,4 @@
-// The input cut into lines, block by block, and its end.
+//! The input cut into lines, block by block, and its end.
 ghost use Rattle.std.specs.Prelude.{◌≡◌, false, [], ◌∷◌, ◌++◌, ◌+◌, ◌*◌, ◌≤◌, length, position, ◌==◌};
 ghost use Rattle.trellis.specs.Sizes.{line_room, most_line_bytes, most_printed};
 ghost use Rattle.machine.specs.inner.Blocks.{fed_out, close_out};
@@ -47,7 +47,7 @@ fn whole(st: State, part: &[u8], line: &mut [u8], code: &mut [u8], out: &mut [u8
     line_end::finish_line(s, line, code, out)
 }
 
-// A block, line by line; no byte counts once the program has ended.
+/// A block, line by line; no byte counts once the program has ended.
 pub fn feed_over(st: State, bytes: &[u8], line: &mut [u8], code: &mut [u8], out: &mut [u8]) -> State
     requires { (length line.old ≡ line_room) × ((length code.old ≡ most_line_bytes)
         × ((st.full ≡ 0) × (512 + 5 * length bytes.now ≤ length out.old))) }
@@ -78,7 +78,7 @@ fn silent(st: State) -> bool
     st.ended || st.code != 0 && st.len == 0
 }
 
-// The end of the input: what is printed for what is kept, and how many bytes that are.
+/// The end of the input: what is printed for what is kept, and how many bytes that are.
 pub fn close_in(st: State, line: &[u8], code: &mut [u8], out: &mut [u8]) -> usize
     requires { (length line.now ≡ line_room) × ((length code.old ≡ most_line_bytes) × (length out.old ≡ most_printed)) }
     ensures written { result ≡ length (close_out (kept_of (held_in st line.now code.old))) }

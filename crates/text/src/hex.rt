@@ -1,4 +1,4 @@
-// A line of text: hexadecimal digits, two a byte.
+//! A line of text: hexadecimal digits, two a byte.
 ghost use Rattle.std.specs.Prelude.{◌≡◌, true, ◌/◌, ◌<◌, length};
 ghost use Rattle.refusal.specs.Replies.{reply_of, fault_in};
 ghost use Rattle.machine.specs.Line.{is_digit, digit, line_bytes, line_reply, line_leaves};
@@ -46,7 +46,7 @@ fn fill(text: &[u8], out: &mut [u8])
     }
 }
 
-// "Line: 15, 14, 2."; nothing is written before the last of these is tested.
+/// "Line: 15, 14, 2."; nothing is written before the last of these is tested.
 #[tactic(auto, unfolding(machine::specs::Line::line_reply, machine::specs::Line::line_leaves, machine::specs::Line::line_ok))]
 pub fn line(text: &[u8], out: &mut [u8]) -> Result<usize, Refusal>
     ensures reply { reply_of result ≡ line_reply text.now out.old }

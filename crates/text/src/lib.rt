@@ -1,5 +1,5 @@
-// Text: a line of hexadecimal digits, the printed line of a frame, and the program's whole output, block by block. No input or output is
-// done here.
+//! Text: a line of hexadecimal digits, the printed line of a frame, and the program's whole output, block by block. No input or output is
+//! done here.
 #![tactic(auto)]
 
 mod cut;
@@ -18,7 +18,7 @@ ghost use Rattle.text.specs.inner.Held.{held_in, kept_of, put_at, fed_held, clos
 use crate::state::State;
 use refusal::Refusal;
 
-// The bytes of a line of text. "Line: 15, 14, 2."; nothing is written before the last of these is tested.
+/// The bytes of a line of text. "Line: 15, 14, 2."; nothing is written before the last of these is tested.
 pub fn line(text: &[u8], out: &mut [u8]) -> Result<usize, Refusal>
     ensures reply { reply_of result ≡ line_reply text.now out.old }
     ensures out_then { out.new ≡ line_leaves text.now out.old }
@@ -26,8 +26,8 @@ pub fn line(text: &[u8], out: &mut [u8]) -> Result<usize, Refusal>
     hex::line(text, out)
 }
 
-// The line that the program prints for a frame's line of text, with its end, and how many bytes it has. The longest has 517 bytes: 256
-// symbols, and 2 + 2 + 1.
+/// The line that the program prints for a frame's line of text, with its end, and how many bytes it has. The longest has 517 bytes: 256
+/// symbols, and 2 + 2 + 1.
 pub fn frame_line(code: &[u8], text: &[u8], out: &mut [u8; sizes::MOST_PRINTED]) -> usize
     ensures written { result ≡ length (frame_line code.now text.now) }
     ensures out_then { out.new
@@ -37,8 +37,8 @@ pub fn frame_line(code: &[u8], text: &[u8], out: &mut [u8; sizes::MOST_PRINTED])
     print::frame_line(code, text, out)
 }
 
-// One block of the input, its first n bytes: what is kept after it, and in `out` what is printed for it, `full` bytes. The longest is 512
-// and five for each byte of the block.
+/// One block of the input, its first n bytes: what is kept after it, and in `out` what is printed for it, `full` bytes. The longest is 512
+/// and five for each byte of the block.
 pub fn feed(
     st: State,
     block: &[u8; sizes::MOST_BLOCK],
@@ -63,8 +63,8 @@ pub fn feed(
     )
 }
 
-// The end of the input: "a last line without it counts if not empty"; "Empty input prints the line `0500`", as an empty code line does.
-// What is printed stands in `out`; the answer is how many bytes that are. The code line's buffer is used for a code line that ends here.
+/// The end of the input: "a last line without it counts if not empty"; "Empty input prints the line `0500`", as an empty code line does.
+/// What is printed stands in `out`; the answer is how many bytes that are. The code line's buffer is used for a code line that ends here.
 pub fn close(
     st: State,
     line: &[u8; sizes::LINE_ROOM],

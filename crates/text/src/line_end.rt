@@ -1,4 +1,4 @@
-// What happens where a line ends: the code line is read and kept or refused, a frame is printed.
+//! What happens where a line ends: the code line is read and kept or refused, a frame is printed.
 ghost use Rattle.std.specs.Prelude.{◌≡◌, false, not, ◌++◌, ◌+◌, ◌≤◌, length, take, drop};
 ghost use Rattle.trellis.specs.Sizes.{line_room, most_line_bytes};
 ghost use Rattle.machine.specs.Printing.{frame_line};
@@ -77,7 +77,7 @@ fn finish_code(text: &[u8], code: &mut [u8], out: &mut [u8], full: usize) -> Sta
     }
 }
 
-// A line read to its end.
+/// A line read to its end.
 pub fn finish_line(st: State, line: &[u8], code: &mut [u8], out: &mut [u8]) -> State
     requires { (length line.now ≡ line_room) × ((length code.old ≡ most_line_bytes) × ((st.ended ≡ false)
         × (st.full + length (line_finished_out (kept_of (held_in st line.now code.old))) ≤ length out.old))) }

@@ -1,4 +1,4 @@
-// The printed line of a frame: decoded from its line of text, and printed as two hexadecimal digits a byte.
+//! The printed line of a frame: decoded from its line of text, and printed as two hexadecimal digits a byte.
 ghost use Rattle.std.specs.Prelude.{◌≡◌, ◌∷◌, ◌++◌, ◌+◌, ◌*◌, ◌<◌, ◌≤◌, length, drop};
 ghost use Rattle.machine.specs.CodeLine.{parse};
 ghost use Rattle.machine.specs.Printing.{digit_of, digits_of, said, printed, of_frame, frame_line};
@@ -87,7 +87,7 @@ fn frame_bytes(code: &[u8], frame: &[u8], out: &mut [u8; sizes::MOST_PRINTED]) -
     answer(d.answer, &symbols[..d.columns], out)
 }
 
-// "Line refusals come before all others."
+/// "Line refusals come before all others."
 pub fn frame_line(code: &[u8], text: &[u8], out: &mut [u8; sizes::MOST_PRINTED]) -> usize
     ensures written { result ≡ length (frame_line code.now text.now) }
     ensures out_then { out.new

@@ -1,8 +1,8 @@
-// What is kept from block to block.
+//! What is kept from block to block.
 
-// What is kept from block to block beside the two buffers: how many bytes of the line so far, how many of the code line (0 before it is
-// read), and whether a refused code line has ended the program; and how many bytes the last call printed. All 0 and false at the start.
-// The bytes themselves stand in two lent arrays, as every buffer is lent.
+/// What is kept from block to block beside the two buffers: how many bytes of the line so far, how many of the code line (0 before it is
+/// read), and whether a refused code line has ended the program; and how many bytes the last call printed. All 0 and false at the start.
+/// The bytes themselves stand in two lent arrays, as every buffer is lent.
 #[derive(Clone, Copy, Debug, Default, PartialEq, Eq)]
 pub struct State {
     pub len: usize,

@@ -1,2 +1,2 @@
-// The field and one check: definitions in specs/, theorems in proofs/. No function.
+//! The field and one check: definitions in specs/, theorems in proofs/. No function.
 #![tactic(auto)]

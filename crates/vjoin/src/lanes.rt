@@ -1,10 +1,10 @@
-// Sixteen rows in a vector. A function for each flip, turn and lane: the places that a swizzle picks stand as literals.
+//! Sixteen rows in a vector. A function for each flip, turn and lane: the places that a swizzle picks stand as literals.
 ghost use Rattle.std.specs.Prelude.{◌≡◌, ◌-◌, min, max, get_or};
 ghost use Rattle.vjoin.specs.Lanes.{cut, taken, lanes, flipped, turned};
 
 use std::simd::prelude::*;
 
-// Each row x at x + j.
+/// Each row x at x + j.
 #[inline(always)]
 pub fn flip1(w: u8x16) -> u8x16
     ensures { result ≡ flipped 1 w }
@@ -40,7 +40,7 @@ pub fn flip8(w: u8x16) -> u8x16
     w.swizzle([8, 9, 10, 11, 12, 13, 14, 15, 0, 1, 2, 3, 4, 5, 6, 7])
 }
 
-// Each row x at x + j.
+/// Each row x at x + j.
 #[inline(always)]
 pub fn flip12(w: u8x16) -> u8x16
     ensures { result ≡ flipped 12 w }
@@ -48,7 +48,7 @@ pub fn flip12(w: u8x16) -> u8x16
     w.swizzle([12, 13, 14, 15, 8, 9, 10, 11, 4, 5, 6, 7, 0, 1, 2, 3])
 }
 
-// The rows from j on, then those before them.
+/// The rows from j on, then those before them.
 #[inline(always)]
 pub fn turn4(x: u8x16) -> u8x16
     ensures { result ≡ turned 4 x }
@@ -70,7 +70,7 @@ pub fn turn12(x: u8x16) -> u8x16
     x.swizzle([12, 13, 14, 15, 0, 1, 2, 3, 4, 5, 6, 7, 8, 9, 10, 11])
 }
 
-// Row j in each place.
+/// Row j in each place.
 #[inline(always)]
 pub fn lane0(x: u8x16) -> u8x16
     ensures { result ≡ lanes (λ _. get_or x 0 0) }
@@ -99,7 +99,7 @@ pub fn lane3(x: u8x16) -> u8x16
     x.swizzle([3, 3, 3, 3, 3, 3, 3, 3, 3, 3, 3, 3, 3, 3, 3, 3])
 }
 
-// The better of e and x.
+/// The better of e and x.
 #[inline(always)]
 pub fn better(e: u8x16, x: u8x16) -> u8x16
     ensures { result ≡ lanes (λ i. max (get_or e i 0) (get_or x i 0)) }
@@ -123,7 +123,7 @@ fn best_left(e: u8x16, p: u8x16, x: u8x16) -> u8x16
     e.simd_max(p.saturating_sub(x))
 }
 
-// The better of e and what is left of p where x is taken.
+/// The better of e and what is left of p where x is taken.
 #[inline(always)]
 pub fn best<const G: bool>(e: u8x16, p: u8x16, x: u8x16) -> u8x16
     ensures { result ≡ lanes (λ i. max (get_or e i 0) (cut G (get_or p i 0) (get_or x i 0))) }
@@ -150,7 +150,7 @@ fn itself(u: u8x16) -> u8x16
     u
 }
 
-// Rests as they are taken from others: their costs, or themselves where the lesser of two is left.
+/// Rests as they are taken from others: their costs, or themselves where the lesser of two is left.
 #[inline(always)]
 pub fn take<const G: bool>(u: u8x16) -> u8x16
     ensures { result ≡ lanes (λ i. taken G (get_or u i 0)) }

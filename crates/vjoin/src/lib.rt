@@ -1,4 +1,4 @@
-// Rests compared and two tables of them joined, sixteen rows in a vector.
+//! Rests compared and two tables of them joined, sixteen rows in a vector.
 #![tactic(auto)]
 
 mod lanes;

@@ -1,5 +1,5 @@
-// Blocks of sixteen rows joined: four rows of x at a time, then all sixteen. Of each turn the copies of all blocks are made before any block takes
-// it, so that the vectors stay in registers.
+//! Blocks of sixteen rows joined: four rows of x at a time, then all sixteen. Of each turn the copies of all blocks are made before any block takes
+//! it, so that the vectors stay in registers.
 ghost use Rattle.std.specs.Prelude.{◌≡◌, max, get_or};
 ghost use Rattle.vjoin.specs.Lanes.{cell, cell2, cell4, best_to, lanes, cut};
 
@@ -9,7 +9,7 @@ use crate::lanes::{
 };
 use std::simd::prelude::*;
 
-// The first four rows of x.
+/// The first four rows of x.
 #[inline(always)]
 pub fn one_four<const G: bool>(x: u8x16, w: u8x16, e: u8x16) -> u8x16
     ensures { result ≡ best_to (cell G w x) e 4 }
@@ -52,7 +52,7 @@ fn row2<const G: bool>(e: u8x16, p: u8x16, x: u8x16, r: u8x16, y: u8x16) -> u8x1
     best::<G>(best::<G>(e, p, x), r, y)
 }
 
-// Two blocks of rows.
+/// Two blocks of rows.
 #[derive(Clone, Copy, Debug, PartialEq, Eq)]
 pub struct Pair {
     pub a: u8x16,
@@ -142,7 +142,7 @@ fn row4<const G: bool>(
     row2::<G>(row2::<G>(e, p, x, r, y), s, z, t, v)
 }
 
-// Four blocks of rows.
+/// Four blocks of rows.
 #[derive(Clone, Copy, Debug, PartialEq, Eq)]
 pub struct Quad {
     pub a: u8x16,

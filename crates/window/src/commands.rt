@@ -1,4 +1,4 @@
-// Byte 0: "Command 1 loads the lent code and frame and runs the first test; 2 runs one iteration if running; 3 clears pending".
+//! Byte 0: "Command 1 loads the lent code and frame and runs the first test; 2 runs one iteration if running; 3 clears pending".
 ghost use Rattle.std.specs.Prelude.{◌≡◌};
 ghost use Rattle.machine.specs.Decoding.{lending};
 ghost use Rattle.window.specs.Window.{load, second, command};
@@ -48,7 +48,7 @@ fn iterated(
     states::taking(window, stage, t + 1)
 }
 
-// Command 3 clears pending; "other values .. do nothing".
+/// Command 3 clears pending; "other values .. do nothing".
 #[tactic(auto, unfolding(crate::specs::Window::command))]
 pub fn command(
     window: Registers,

@@ -1,4 +1,4 @@
-// The states that a load or an iteration enters, and the registers then. No buffer is touched.
+//! The states that a load or an iteration enters, and the registers then. No buffer is touched.
 ghost use Rattle.std.specs.Prelude.{◌≡◌, eqb};
 ghost use Rattle.trellis.specs.Lists.{pick};
 ghost use Rattle.layered.specs.Answers.{stage_of};
@@ -9,7 +9,7 @@ use crate::registers::Registers;
 use layered::answers::Stage;
 use refusal::Refusal;
 
-// "States: 0 idle, 1 running, 2 found, 3 not found, 4 refused." No load and no iteration enters 0.
+/// "States: 0 idle, 1 running, 2 found, 3 not found, 4 refused." No load and no iteration enters 0.
 #[derive(Clone, Copy, Debug, PartialEq, Eq)]
 pub enum State {
     Running = 1,
@@ -44,7 +44,7 @@ fn entering(window: Registers, state: State, number: u8, t: u8) -> Registers
     }
 }
 
-// The registers after a load or an iteration that ended in a stage at t; "Entering 4 .. sets byte 3 to 0."
+/// The registers after a load or an iteration that ended in a stage at t; "Entering 4 .. sets byte 3 to 0."
 pub fn taking(window: Registers, stage: Result<Stage, Refusal>, t: u8) -> Registers
     ensures { bytes_of result ≡ entering (stage_of stage).state (stage_of stage).number (pick (eqb (stage_of stage).state 4) 0 t)
         (bytes_of window) }

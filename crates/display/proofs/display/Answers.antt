@@ -3,8 +3,8 @@ use mathlib.Core.Path.{◌≡◌}
 use native.Mathlib.Omega.{arith}
 use borrow.Author.Rules.{rules}
 use lib.ListN.{length-take}
+use Rattle.refusal.proofs.Numbers.{some_number}
 use Rattle.std.specs.Prelude.{Err}
-use Rattle.field.proofs.Weighed.{some_number}
 use Rattle.display.proofs.Refusals.{refused, room, show_room, written}
 use Rattle.display.proofs.display.Goals as goal
 

@@ -3,9 +3,10 @@ use mathlib.Core.Path.{◌≡◌, sym}
 use native.Mathlib.Omega.{arith}
 use borrow.Author.Rules.{rules}
 use lib.ListN.{length, length-take}
+use Rattle.refusal.proofs.Numbers.{some_number}
 use Rattle.std.specs.Prelude.{Err}
 use Rattle.trellis.proofs.Recurrence.{size_64}
-use Rattle.field.proofs.Weighed.{WeightsAccepted, no_fault, some_number}
+use Rattle.field.proofs.Weighed.{WeightsAccepted, no_fault}
 use Rattle.field.proofs.Blocks.{mul_small}
 use Rattle.expansion.proofs.ExpandCall.{refused_fault, refused_16, refused_2, accepts, written}
 use Rattle.expansion.proofs.expand.Goals as goal

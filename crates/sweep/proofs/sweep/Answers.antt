@@ -3,10 +3,10 @@ use mathlib.Core.Path.{◌≡◌, ◌∙◌, ap, refl}
 use Prim.Native.Nat.{◌+◌}
 use native.Mathlib.Omega.{arith}
 use borrow.Author.Rules.{rules}
+use Rattle.refusal.proofs.Numbers.{some_number}
 use Rattle.trellis.specs.Reply.{refusal}
 use Rattle.refusal.specs.Numbers.{number_of}
 use Rattle.refusal.specs.Replies.{reply_of}
-use Rattle.field.proofs.Weighed.{some_number}
 use lib.ListN.{length, length-take}
 use Rattle.checknode.proofs.CheckFault.{passed}
 use Rattle.checknode.proofs.CheckCall.{refused, written}

@@ -1,8 +1,9 @@
 -- The tests in the definition's order.
 use mathlib.Core.Path.{◌≡◌, sym, ◌∙◌}
 use borrow.Author.Rules.{rules}
+use Rattle.refusal.proofs.Numbers.{some_number}
 use Rattle.std.specs.Prelude.{Err}
-use Rattle.field.proofs.Weighed.{WeightsAccepted, no_fault, some_number}
+use Rattle.field.proofs.Weighed.{WeightsAccepted, no_fault}
 use Rattle.display.proofs.Refusals.{weight_fault, form_fault, short_fault, none_fault}
 use Rattle.display.proofs.showing.validate.Goals as goal
 

@@ -1,9 +1,9 @@
 -- Each refusal by its number; after them the run starts on the copied frame, and its equations give all five of the promise's.
 use mathlib.Core.Path.{◌≡◌, refl, ◌∙◌, sym}
 use borrow.Author.Rules.{rules}
+use Rattle.refusal.proofs.Numbers.{some_number}
 use Rattle.trellis.specs.Reply.{refusal}
 use Rattle.refusal.specs.Numbers.{number_of}
-use Rattle.field.proofs.Weighed.{some_number}
 use Rattle.layered.specs.Answers.{answer_reply}
 use native.Mathlib.Omega.{arith}
 use lib.ListN.{length, take, length-take}

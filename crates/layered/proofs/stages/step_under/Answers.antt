@@ -1,8 +1,8 @@
 -- Each refusal by its number; after them the iteration on the front of the cost buffer gives all five of the promise's equations.
 use mathlib.Core.Path.{◌≡◌, refl, sym}
 use borrow.Author.Rules.{rules}
+use Rattle.refusal.proofs.Numbers.{some_number}
 use Rattle.refusal.specs.Numbers.{number_of}
-use Rattle.field.proofs.Weighed.{some_number}
 use Rattle.layered.specs.Answers.{stage_of, ends}
 use native.Mathlib.Omega.{arith}
 use lib.ListN.{length, take}
