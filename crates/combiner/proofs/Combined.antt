@@ -24,29 +24,6 @@ use Rattle.machine.proofs.Ranges.{frame-fits}
 use Rattle.machine.proofs.Combining.{length-combined, fault_none}
 use Rattle.codeline.specs.declared.answers.Numbers.{Numbers}
 use Rattle.refusal.specs.declared.Refusal.{Refusal}
-use Rattle.refusal.specs.declared.Refusal.TheVariants.{
-  OutputTooShort,
-  CostsTooShort,
-  StoreTooShort,
-  CodeLength,
-  FirstByte,
-  Counts,
-  ScaleOrLimit,
-  Degree,
-  Column,
-  Weight,
-  CostCount,
-  NoZeroCost,
-  Digit,
-  LineTooLong,
-  RecordForm,
-  NotEncodable,
-  Message,
-  MarginsTooShort,
-  ChannelCount,
-  Allowance,
-  SecondFrame,
-}
 use Rattle.refusal.specs.Numbers.{number_of}
 use Rattle.refusal.specs.Replies.{fault_in}
 use Rattle.std.specs.Result.{is_err}

@@ -5,7 +5,6 @@ use mathlib.Core.Logic.{◌≢◌}
 use mathlib.Core.List.{List}
 use Prim.Native.Nat.{ℕ, ◌≤◌, ◌<◌}
 use native.Mathlib.Omega.{arith}
-use borrow.Author.Rules.{rules}
 use borrow.Author.Tests.{eq-eqb, ne_eqb, le-ltb, ltb-false, not-false}
 use lib.Dec.{T, ltb, eqb, ltb→lt, lt→ltb}
 use lib.ListN.{length, get_or}
@@ -15,8 +14,6 @@ use Rattle.trellis.specs.Ready.{Ready}
 use Rattle.trellis.proofs.Rules.{first-power}
 use Rattle.trellis.proofs.Refusals.{Numbered, Passed, none_applies, refused-by}
 use Rattle.trellis.proofs.Tests.{of_true, to_true, all-at, all_of}
-use Rattle.refusal.specs.declared.Refusal.{Refusal}
-use Rattle.refusal.specs.Numbers.{number_of}
 use Rattle.field.specs.Answers.{weight_ok, weights_ok, weight_tests, weight_cases, weights_fault}
 
 pub no_true : {b : Bool} → b ≡ true → b ≡ false → ⊥

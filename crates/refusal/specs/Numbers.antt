@@ -2,8 +2,27 @@
 use Rattle.std.specs.Prelude.{ℕ}
 use Rattle.refusal.specs.declared.Refusal.{Refusal}
 use Rattle.refusal.specs.declared.Refusal.TheVariants.{
-  OutputTooShort, CostsTooShort, StoreTooShort, CodeLength, FirstByte, Counts, ScaleOrLimit, Degree, Column, Weight, CostCount, NoZeroCost, Digit,
-  LineTooLong, RecordForm, NotEncodable, Message, MarginsTooShort, ChannelCount, Allowance, SecondFrame
+  OutputTooShort,
+  CostsTooShort,
+  StoreTooShort,
+  CodeLength,
+  FirstByte,
+  Counts,
+  ScaleOrLimit,
+  Degree,
+  Column,
+  Weight,
+  CostCount,
+  NoZeroCost,
+  Digit,
+  LineTooLong,
+  RecordForm,
+  NotEncodable,
+  Message,
+  MarginsTooShort,
+  ChannelCount,
+  Allowance,
+  SecondFrame,
 }
 
 abbrev pub number_of : Refusal → ℕ

@@ -1,4 +1,4 @@
-use mathlib.Core.Path.{◌∙◌, sym}
+use mathlib.Core.Path.{sym}
 use native.Mathlib.Omega.{arith}
 use lib.ListN.{length-take}
 use Rattle.tables.proofs.Ranges.{in_range_lem, size_room}
