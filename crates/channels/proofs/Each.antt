@@ -17,7 +17,7 @@ use Rattle.channels.specs.declared.standing.Status.{Status}
 use Rattle.channels.specs.declared.standing.Status.TheVariants.{Absent}
 use Rattle.channels.specs.inner.Statuses.{status_number}
 use Rattle.channels.specs.inner.Rounds.{Standing, standing, loaded_to, rounds_at, status_at, count_at, load_at, step_at, loaded_at, serving_at}
-use Rattle.channels.specs.inner.Standing.{standing_of, SameLoans}
+use Rattle.channels.specs.inner.Standing.{standing_of, ChannelLoans}
 use Rattle.channels.specs.inner.Layouts.{Puts, RoundRoom, NextRoom, run_at}
 use Rattle.channels.proofs.Quiet.{rounds_left}
 use Rattle.channels.proofs.Loads.{loaded_left}
@@ -32,7 +32,7 @@ statuses l = map (λ (c : Channel). status_number c.status) l
 abbrev pub counts : List Channel → List ℕ
 counts l = map (λ (c : Channel). c.iterations) l
 
-pub same_loans : (s t u : Channels) → SameLoans s t → SameLoans t u → SameLoans s u
+pub same_loans : (s t u : Channels) → ChannelLoans s t → ChannelLoans t u → ChannelLoans s u
 same_loans s t u E F = record { symbols = F.symbols ∙ E.symbols; costs = F.costs ∙ E.costs; store = F.store ∙ E.store; margins = F.margins ∙ E.margins }
 
 module _ (s : Channels) (c : ℕ) where

@@ -27,7 +27,7 @@ use Rattle.channels.specs.Channels.{Results, results, refusing, count_tests, tes
 use Rattle.channels.specs.inner.Rounds.{Standing, standing, RoomFor, Asked, Ends, reply_by, status_at, count_at}
 use Rattle.channels.specs.Answers.{Gives}
 use Rattle.channels.specs.inner.Served.{served_by, GivesBy}
-use Rattle.channels.specs.inner.Layouts.{code_for, count_fault, fault_for, LoadsRoom, run_at, RunRoom}
+use Rattle.channels.specs.inner.Layouts.{code_for, count_fault, fault_for, LoadsRoom, run_at, ServiceRoom}
 use Rattle.trellis.proofs.Refusals.{refused-by, passed_by, none_applies}
 use Rattle.channels.proofs.Refused.{count_numbered, count_passed, whole_numbered, whole_passed}
 use Rattle.channels.proofs.Ends.{eight-end}
@@ -128,7 +128,7 @@ module _ (z : Layout) (n A : ℕ) (low : 1 ≤ n) (high : n ≤ 8)
           }
 
     -- the service may run
-    pub runs : RunRoom n z fs l₀
+    pub runs : ServiceRoom n z fs l₀
     runs =
         let m : n * C.limit ≤ 8 * 255 = mul-le-mul high z.limit_is_byte in
         record {

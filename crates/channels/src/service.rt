@@ -1,7 +1,7 @@
 //! The channels in turn: all loaded, then rounds in which each that is running gets one iteration.
 ghost use Rattle.std.specs.Prelude.{◌≡◌};
 ghost use Rattle.channels.specs.inner.Rounds.{serving_at, loaded_to, round_at, rounds_at};
-ghost use Rattle.channels.specs.inner.Standing.{standing_of, SameLoans};
+ghost use Rattle.channels.specs.inner.Standing.{standing_of, ChannelLoans};
 ghost use Rattle.channels.specs.inner.Layouts.{code_for, LoadsRoom, OneRoom, RoundRoom};
 
 use crate::channel;
@@ -12,7 +12,7 @@ impl Channels<'_> {
     /// Every channel is loaded, by number.
     pub fn load(&mut self, count: usize, layout: &Layout<'_>, frames: &[u8])
         requires { LoadsRoom count layout.now frames.now (standing_of self.old) }
-        ensures loans { SameLoans self.old self.new }
+        ensures loans { ChannelLoans self.old self.new }
         ensures then { standing_of self.new ≡ loaded_to (code_for layout.now) frames.now count (standing_of self.old) }
     {
         for c in 0..count {
@@ -26,7 +26,7 @@ impl Channels<'_> {
     // Channel c is served: one iteration if it is running and something is left.
     fn serve(&mut self, c: usize, layout: &Layout<'_>, arrived: &mut [u8], sent: &mut [u8])
         requires { OneRoom c layout.now (standing_of self.old) arrived.old sent.old }
-        ensures loans { SameLoans self.old self.new }
+        ensures loans { ChannelLoans self.old self.new }
         ensures then { standing_of self.new ≡ serving_at (code_for layout.now) c (standing_of self.old) }
     {
         let Channel { status, iterations } = self.each[c];
@@ -57,7 +57,7 @@ impl Channels<'_> {
     // A round: each channel once, by number.
     fn round(&mut self, count: usize, layout: &Layout<'_>, arrived: &mut [u8], sent: &mut [u8])
         requires { RoundRoom count layout.now (standing_of self.old) arrived.old sent.old }
-        ensures loans { SameLoans self.old self.new }
+        ensures loans { ChannelLoans self.old self.new }
         ensures then { standing_of self.new ≡ round_at (code_for layout.now) count (standing_of self.old) }
     {
         for c in 0..count {
@@ -68,7 +68,7 @@ impl Channels<'_> {
     /// Rounds until one serves nobody: every channel is finished, or nothing is left.
     pub fn rounds(&mut self, count: usize, layout: &Layout<'_>, arrived: &mut [u8], sent: &mut [u8])
         requires { RoundRoom count layout.now (standing_of self.old) arrived.old sent.old }
-        ensures loans { SameLoans self.old self.new }
+        ensures loans { ChannelLoans self.old self.new }
         ensures then { standing_of self.new ≡ rounds_at (code_for layout.now) count self.old.left (standing_of self.old) }
     {
         loop {

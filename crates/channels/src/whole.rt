@@ -5,9 +5,9 @@ ghost use Rattle.refusal.specs.Replies.{fault_in};
 ghost use Rattle.machine.specs.CodeLine.{good};
 ghost use Rattle.machine.specs.Decoding.{lending};
 ghost use Rattle.channels.specs.Channels.{under, channels};
-ghost use Rattle.channels.specs.inner.Standing.{standing_of, SameLoans};
+ghost use Rattle.channels.specs.inner.Standing.{standing_of, ChannelLoans};
 ghost use Rattle.channels.specs.inner.Served.{served_by, GivesBy};
-ghost use Rattle.channels.specs.inner.Layouts.{code_for, count_fault, fault_for, run_at, RunRoom};
+ghost use Rattle.channels.specs.inner.Layouts.{code_for, count_fault, fault_for, run_at, ServiceRoom};
 
 use crate::answers::Served;
 use crate::layout::{self, Layout};
@@ -90,8 +90,8 @@ impl Channels<'_> {
 
     // All channels are loaded, then served.
     fn run(&mut self, count: usize, layout: &Layout<'_>, frames: &[u8]) -> Served
-        requires { RunRoom count layout.now frames.now (standing_of self.old) }
-        ensures loans { SameLoans self.old self.new }
+        requires { ServiceRoom count layout.now frames.now (standing_of self.old) }
+        ensures loans { ChannelLoans self.old self.new }
         ensures then { standing_of self.new
             ≡ run_at (code_for layout.now) frames.now count (standing_of self.old) }
         ensures number { result.number ≡ 0 }

@@ -8,7 +8,7 @@ ghost use Rattle.trellis.specs.Sizes.{most_degree, most_expansion};
 ghost use Rattle.field.specs.Answers.{row_of};
 ghost use Rattle.checknode.specs.inner.Asks.{shifts_of};
 ghost use Rattle.checknode.specs.inner.Lines.{PartsRoom, Rests};
-ghost use Rattle.checknode.specs.inner.Checks.{record_in, all_sent_in};
+ghost use Rattle.checknode.specs.inner.Checks.{record_for, all_sent_in};
 
 use crate::accepted::Check;
 use crate::{lines, send};
@@ -63,7 +63,7 @@ fn record_with(
     requires out_len { length out.old ≡ record_length (rule_for check.now.first) (length check.now.weights.now) }
     ensures rows_then { rows.new ≡ blocks (row_of (power_of check.now.first) check.now.weights.now) (length check.now.weights.now) }
     ensures rests_then { Rests check.now.first check.now.weights.now check.now.costs.now rests.new }
-    ensures out_then { out.new ≡ record_in check.now }
+    ensures out_then { out.new ≡ record_for check.now }
 {
     let d = check.weights.len();
     field::rows(rules::power(check.first), check.weights, rows);
@@ -75,7 +75,7 @@ fn record_with(
 fn record_in<const ROOM: usize>(check: &Check<'_>, out: &mut [u8])
     requires room { (length check.now.weights.now * max 16 (size_of check.now.first) ≤ ROOM) × (ROOM ≤ most_expansion) }
     requires out_len { length out.old ≡ record_length (rule_for check.now.first) (length check.now.weights.now) }
-    ensures { out.new ≡ record_in check.now }
+    ensures { out.new ≡ record_for check.now }
 {
     let d = check.weights.len();
     let a = d * rules::size(check.first);
@@ -89,7 +89,7 @@ fn record_in<const ROOM: usize>(check: &Check<'_>, out: &mut [u8])
 /// The record, in the least room that is enough.
 pub fn record(check: &Check<'_>, out: &mut [u8])
     requires out_len { length out.old ≡ record_length (rule_for check.now.first) (length check.now.weights.now) }
-    ensures { out.new ≡ record_in check.now }
+    ensures { out.new ≡ record_for check.now }
 {
     let n = check.weights.len() * side(check);
     if n <= TINY {
@@ -113,7 +113,7 @@ fn messages_with(
     requires parts { PartsRoom check.now.first (length check.now.weights.now) rows.old lines.old rests.old }
     requires out_len { length out.old ≡ record_length (rule_for check.now.first) (length check.now.weights.now) }
     requires sent_len { length sent.old ≡ length check.now.weights.now * size_of check.now.first }
-    ensures out_then { out.new ≡ record_in check.now }
+    ensures out_then { out.new ≡ record_for check.now }
     ensures sent_then { sent.new ≡ all_sent_in check.now }
 {
     record_with(check, rows, lines, rests, out);
@@ -127,7 +127,7 @@ fn messages_in<const ROOM: usize>(check: &Check<'_>, out: &mut [u8], sent: &mut 
     requires room { (length check.now.weights.now * max 16 (size_of check.now.first) ≤ ROOM) × (ROOM ≤ most_expansion) }
     requires out_len { length out.old ≡ record_length (rule_for check.now.first) (length check.now.weights.now) }
     requires sent_len { length sent.old ≡ length check.now.weights.now * size_of check.now.first }
-    ensures out_then { out.new ≡ record_in check.now }
+    ensures out_then { out.new ≡ record_for check.now }
     ensures sent_then { sent.new ≡ all_sent_in check.now }
 {
     let d = check.weights.len();
@@ -150,7 +150,7 @@ fn messages_in<const ROOM: usize>(check: &Check<'_>, out: &mut [u8], sent: &mut 
 pub fn messages(check: &Check<'_>, out: &mut [u8], sent: &mut [u8])
     requires out_len { length out.old ≡ record_length (rule_for check.now.first) (length check.now.weights.now) }
     requires sent_len { length sent.old ≡ length check.now.weights.now * size_of check.now.first }
-    ensures out_then { out.new ≡ record_in check.now }
+    ensures out_then { out.new ≡ record_for check.now }
     ensures sent_then { sent.new ≡ all_sent_in check.now }
 {
     let n = check.weights.len() * side(check);

@@ -13,7 +13,7 @@ use Rattle.machine.specs.inner.Tables.{Tabled}
 use Rattle.codeline.specs.declared.answers.Numbers.{Numbers as LineNumbers}
 use Rattle.codeline.specs.declared.tables.Tables.{Tables as LineTables}
 use Rattle.codeline.specs.Answers.{numbers_in, header_numbers, degree_table, column_table, weight_table, left_in}
-use Rattle.codeline.specs.inner.Reading.{columns_of, weights_of, Filled}
+use Rattle.codeline.specs.inner.Reading.{put_columns, put_weights, Filled}
 
 -- the line is accepted, and these are the numbers of its code
 pub record Accepted (s : List ℕ) (k : LineNumbers) : Type 0 where
@@ -68,10 +68,10 @@ module _ (s : List ℕ) (h : Result LineNumbers Refusal) (e : header_numbers h �
         let m : take k.checks t.degrees ≡ degree_table A.code = ap (λ n. take n t.degrees) A.checks_is ∙ filled.degrees in
         ap₂ (λ a b. a ++ drop b l) m (A.checks_is ∙ sym n) ∙ sym (ap (λ r. left_in degree_table r l) A.parsed)
 
-    pub columns_left : t.edges ≤ length t.columns → (l : List ℕ) → columns_of t ++ drop t.edges l ≡ left_in column_table (parse s) l
+    pub columns_left : t.edges ≤ length t.columns → (l : List ℕ) → put_columns t ++ drop t.edges l ≡ left_in column_table (parse s) l
     columns_left r l = let n : length (column_table A.code) ≡ t.edges = ap length (sym filled.columns) ∙ length-take-le t.edges t.columns r in ap₂ (λ a b. a ++ drop b l) filled.columns (sym n) ∙ sym (ap (λ r. left_in column_table r l) A.parsed)
 
-    pub weights_left : t.edges ≤ length t.weights → (l : List ℕ) → weights_of t ++ drop t.edges l ≡ left_in weight_table (parse s) l
+    pub weights_left : t.edges ≤ length t.weights → (l : List ℕ) → put_weights t ++ drop t.edges l ≡ left_in weight_table (parse s) l
     weights_left r l = let n : length (weight_table A.code) ≡ t.edges = ap length (sym filled.weights) ∙ length-take-le t.edges t.weights r in ap₂ (λ a b. a ++ drop b l) filled.weights (sym n) ∙ sym (ap (λ r. left_in weight_table r l) A.parsed)
 
 -- what the tables then start with

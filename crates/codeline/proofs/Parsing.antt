@@ -13,7 +13,7 @@ use Rattle.machine.specs.inner.Tables.{flat, edges_into, check_into, Tables, tab
 use Rattle.machine.proofs.Tables.{pick-then, checks_into_lem}
 use Rattle.codeline.specs.declared.answers.Numbers.{Numbers as LineNumbers}
 use Rattle.codeline.specs.Answers.{numbers_in}
-use Rattle.codeline.specs.inner.Reading.{columns_of, weights_of, Filled, head_of}
+use Rattle.codeline.specs.inner.Reading.{put_columns, put_weights, Filled, head_of}
 use Rattle.codeline.specs.declared.tables.Tables.{Tables as LineTables}
 
 -- a turn of each loop, i below its end
@@ -105,7 +105,7 @@ module _ (s : List ℕ) (h : LineNumbers) (e : good (numbers_in h) ≡ head_of s
       go (bad x) a = let z : ◌≡◌ {A = ℕ} 0 1 = cc in absurd (omega arith)
 
   module _ (t : LineTables) (room : h.checks ≤ 128) (full : length t.degrees ≡ 128)
-      (j : good (tables (take h.checks t.degrees) (columns_of t) (weights_of t)) ≡ checks_into h.checks s 6 h.columns (size_of h.first) 0 [] [] []) where
+      (j : good (tables (take h.checks t.degrees) (put_columns t) (put_weights t)) ≡ checks_into h.checks s 6 h.columns (size_of h.first) 0 [] [] []) where
     abbrev list : List (List Edge)
     list = (rest-good _ (sym j)).0
 

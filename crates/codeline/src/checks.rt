@@ -4,7 +4,7 @@ ghost use Rattle.trellis.specs.Rules.{size_of};
 ghost use Rattle.trellis.specs.Sizes.{most_edges, most_checks};
 ghost use Rattle.machine.specs.CodeLine.{read_edge as the_edge};
 ghost use Rattle.machine.specs.inner.Tables.{edges_into, check_into, checks_into};
-ghost use Rattle.codeline.specs.inner.Reading.{columns_of, weights_of, edge_read, edges_read, check_read, checks_read};
+ghost use Rattle.codeline.specs.inner.Reading.{put_columns, put_weights, edge_read, edges_read, check_read, checks_read};
 
 use crate::answers::Numbers;
 use crate::reader::Reader;
@@ -42,7 +42,7 @@ fn edges(
 ) -> Result<(), Refusal>
     requires left { line.old.at + 3 * count ≤ length line.old.src.now }
     requires room { tables.old.edges + count ≤ most_edges }
-    ensures read { edges_read result tables.new ≡ edges_into count line.old.src.now line.old.at n q 0 (columns_of tables.old) (weights_of tables.old) }
+    ensures read { edges_read result tables.new ≡ edges_into count line.old.src.now line.old.at n q 0 (put_columns tables.old) (put_weights tables.old) }
     ensures src { line.new.src ≡ line.old.src }
     ensures at { OnOk result (line.new.at ≡ line.old.at + 3 * count) }
     ensures edges { OnOk result (tables.new.edges ≡ tables.old.edges + count) }
@@ -60,7 +60,7 @@ fn edges(
 // "in each check 5 for the degree byte, 9, 5 for its edges": one check, behind the edges that the tables have.
 #[tactic(auto, unfolding(machine::specs::inner::Tables::check_into))]
 fn check(line: &mut Reader<'_>, n: usize, q: usize, tables: &mut Tables) -> Result<u8, Refusal>
-    ensures read { check_read result tables.new ≡ check_into line.old.src.now line.old.at n q tables.old.edges (columns_of tables.old) (weights_of tables.old) }
+    ensures read { check_read result tables.new ≡ check_into line.old.src.now line.old.at n q tables.old.edges (put_columns tables.old) (put_weights tables.old) }
     ensures degree { IfOk result (λ d. d ≡ get_or line.old.src.now line.old.at 0) }
     ensures src { line.new.src ≡ line.old.src }
     ensures at { IfOk result (λ d. line.new.at ≡ line.old.at + 1 + 3 * d) }

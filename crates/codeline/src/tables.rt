@@ -22,7 +22,7 @@ pub struct Tables {
 }
 
 impl Tables {
-    ghost use Rattle.codeline.specs.inner.Reading.{columns_of, weights_of};
+    ghost use Rattle.codeline.specs.inner.Reading.{put_columns, put_weights};
 
     pub fn new() -> Tables
         ensures { result.edges ≡ 0 }
@@ -38,8 +38,8 @@ impl Tables {
     /// One edge behind the others.
     pub fn push(&mut self, edge: Edge)
         requires { self.old.edges < most_edges }
-        ensures columns { columns_of self.new ≡ columns_of self.old ++ (edge.column ∷ []) }
-        ensures weights { weights_of self.new ≡ weights_of self.old ++ (edge.weight ∷ []) }
+        ensures columns { put_columns self.new ≡ put_columns self.old ++ (edge.column ∷ []) }
+        ensures weights { put_weights self.new ≡ put_weights self.old ++ (edge.weight ∷ []) }
         ensures edges { self.new.edges ≡ self.old.edges + 1 }
         ensures degrees { self.new.degrees ≡ self.old.degrees }
     {
@@ -58,8 +58,8 @@ impl Tables {
     )
         requires { numbers.checks ≤ most_checks }
         ensures degrees_then { degrees.new ≡ take numbers.checks self.now.degrees ++ drop numbers.checks degrees.old }
-        ensures columns_then { columns.new ≡ columns_of self.now ++ drop self.now.edges columns.old }
-        ensures weights_then { weights.new ≡ weights_of self.now ++ drop self.now.edges weights.old }
+        ensures columns_then { columns.new ≡ put_columns self.now ++ drop self.now.edges columns.old }
+        ensures weights_then { weights.new ≡ put_weights self.now ++ drop self.now.edges weights.old }
     {
         let m = usize::from(numbers.checks);
         degrees[..m].copy_from_slice(&self.degrees[..m]);

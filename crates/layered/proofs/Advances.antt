@@ -22,7 +22,7 @@ use Rattle.machine.proofs.Changed.{redone}
 use Rattle.machine.proofs.Redone.{redecided_lent}
 use Rattle.machine.proofs.EarlyPassing.{next-check, check-small, advancing-start, advanced, next-formed}
 use Rattle.machine.proofs.InTables.{columns-length, degree_is, column-part}
-use Rattle.codeline.specs.declared.code.Code.{Code as Tables}
+use Rattle.codeline.specs.declared.code.Code.{Code as LentCode}
 use Rattle.codeline.specs.Answers.{numbers_in}
 use Rattle.codeline.specs.Codes.{lent_code}
 use Rattle.layered.specs.declared.answers.Outcome.TheVariants.{Found, NotFound}
@@ -87,7 +87,7 @@ module _ (C : Code) (most u : ℕ) (l l₀ : Lent) (not : settled C l.costs ≡ 
         by zero = rw e
         by (suc k) = rw e
 
-module _ (K : Tables) (P s z : List ℕ) (u : ℕ) (U : Unsettled K u P s z) where
+module _ (K : LentCode) (P s z : List ℕ) (u : ℕ) (U : Unsettled K u P s z) where
   abbrev C : Code
   C = lent_code K
 
@@ -170,7 +170,7 @@ module _ (K : Tables) (P s z : List ℕ) (u : ℕ) (U : Unsettled K u P s z) whe
   unsettled-full = ap length (U.decided ∙ sym (symbols_are K P)) ∙ length-tab (λ c. (decide (column_of (size C) P c)).symbol) K.numbers.columns
 
 -- once around the loop
-module _ (K : Tables) (most : ℕ) (l₀ : Lent) where
+module _ (K : LentCode) (most : ℕ) (l₀ : Lent) where
   abbrev D : Code
   D = lent_code K
 
@@ -228,7 +228,7 @@ unfolding stop_lent
 stop_first C zero u l e = sym (rw e)
 stop_first C (suc k) u l e = sym (rw e)
 
-pub first-unsettled : (K : Tables) (P s z A S : List ℕ) → RunRoom K true P s z A S → (y : List ℕ) → y ≡ symbols (lent_code K) P
+pub first-unsettled : (K : LentCode) (P s z A S : List ℕ) → RunRoom K true P s z A S → (y : List ℕ) → y ≡ symbols (lent_code K) P
     → settled (lent_code K) P ≡ false → Unsettled K 0 P s y
 first-unsettled K P s z A S R y d f =
     let r = R.iterate.running in

@@ -29,7 +29,7 @@ use Rattle.codeline.specs.declared.answers.Numbers.{Numbers}
 use Rattle.std.specs.Prelude.{Result, Ok, Err}
 use Rattle.refusal.specs.Numbers.{number_of}
 use Rattle.refusal.specs.declared.Refusal.{Refusal}
-use Rattle.codeline.specs.declared.code.Code.{Code as Tables}
+use Rattle.codeline.specs.declared.code.Code.{Code as LentCode}
 use Rattle.codeline.specs.Answers.{numbers_in, header_numbers}
 use Rattle.codeline.specs.Codes.{lent_code}
 use Rattle.codeline.proofs.Answered.{header_refused}
@@ -79,7 +79,7 @@ reply_is (Found u) l st t l' e = (ap₂ outcome (ap (λ (x : Ended). x.status) e
 reply_is (NotFound u) l st t l' e = (ap₂ outcome (ap (λ (x : Ended). x.status) e) (ap (λ (x : Ended). x.t) e), ap (λ (x : Ended). x.lent) e)
 
 -- a decoding over the tables of a code, of which n is N
-module _ (K : Tables) (n : ℕ) (N : n ≡ K.numbers.columns) where
+module _ (K : LentCode) (n : ℕ) (N : n ≡ K.numbers.columns) where
   abbrev C : Code
   C = lent_code K
 

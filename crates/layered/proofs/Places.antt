@@ -21,7 +21,7 @@ use Rattle.machine.proofs.Ranges.{column-room}
 use Rattle.machine.proofs.Lent.{place-suc, place_mono}
 use Rattle.machine.proofs.Rooms.{used_high}
 use Rattle.machine.proofs.InTables.{count, in_columns, in_weights, check_is, weights-length, same_length, degree_is, column-part, weight-part, place_is}
-use Rattle.codeline.specs.declared.code.Code.{Code as Tables}
+use Rattle.codeline.specs.declared.code.Code.{Code as LentCode}
 use Rattle.codeline.specs.Answers.{numbers_in}
 use Rattle.codeline.specs.Codes.{lent_code}
 use Rattle.layered.specs.inner.Updates.{UpdateRoom}
@@ -38,7 +38,7 @@ stands_own first ds m p S =
       byte_is = S.byte_is ∙ ap (bytes_before first ds) (sym S.check_is);
     }
 
-module _ (K : Tables) (start : Bool) (m : ℕ) (P s : List ℕ) (U : Updatable K start m P s) where
+module _ (K : LentCode) (start : Bool) (m : ℕ) (P s : List ℕ) (U : Updatable K start m P s) where
   abbrev C : Code
   C = lent_code K
 

@@ -16,7 +16,7 @@ use Rattle.machine.specs.Machine.{symbols}
 use Rattle.machine.specs.inner.Tables.{edges_before, table_at}
 use Rattle.machine.proofs.Ranges.{column-room}
 use Rattle.machine.proofs.InTables.{in_columns, column_in, degree_is}
-use Rattle.codeline.specs.declared.code.Code.{Code as Tables}
+use Rattle.codeline.specs.declared.code.Code.{Code as LentCode}
 use Rattle.codeline.specs.Answers.{numbers_in}
 use Rattle.codeline.specs.Codes.{lent_code}
 use Rattle.layered.specs.declared.parity.CheckAt.{CheckAt}
@@ -42,7 +42,7 @@ module _ (C : Code) (ds z : List ℕ) (n : ℕ) (all : n ≡ length C.checks) (f
       ])
 
 -- the test after an update of the check that stands at p
-module _ (K : Tables) (p : Place) (from : CheckAt) (P z : List ℕ) (R : RetestRoom K p from P z) where
+module _ (K : LentCode) (p : Place) (from : CheckAt) (P z : List ℕ) (R : RetestRoom K p from P z) where
   abbrev m : ℕ
   m = p.check
 

@@ -12,7 +12,7 @@ use Rattle.machine.specs.CodeLine.{Code}
 use Rattle.machine.specs.Lent.{Lent, lent, update_lent, iteration_lent}
 use Rattle.machine.proofs.Passing.{updates-before, update_needs, iteration-passable}
 use Rattle.machine.proofs.InTables.{count}
-use Rattle.codeline.specs.declared.code.Code.{Code as Tables}
+use Rattle.codeline.specs.declared.code.Code.{Code as LentCode}
 use Rattle.codeline.specs.Answers.{numbers_in}
 use Rattle.codeline.specs.Codes.{lent_code}
 use Rattle.layered.specs.inner.Parity.{SettledRoom}
@@ -20,10 +20,10 @@ use Rattle.layered.specs.inner.Iterations.{Running}
 use Rattle.layered.specs.inner.Places.{Updatable}
 
 -- how many checks the tables say
-pub checks-count : (K : Tables) → length (lent_code K).checks ≡ K.numbers.checks
+pub checks-count : (K : LentCode) → length (lent_code K).checks ≡ K.numbers.checks
 checks-count K = count (numbers_in K.numbers) K.degrees.now K.columns.now K.weights.now K.coded.for_columns K.coded.for_weights
 
-module _ (K : Tables) (P s : List ℕ) (start : Bool) (R : Running K start P s) where
+module _ (K : LentCode) (P s : List ℕ) (start : Bool) (R : Running K start P s) where
   abbrev C : Code
   C = lent_code K
 

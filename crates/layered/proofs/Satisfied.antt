@@ -25,7 +25,7 @@ use Rattle.machine.specs.inner.Tables.{edges_before, term}
 use Rattle.machine.proofs.Lists.{all-not}
 use Rattle.machine.proofs.Ranges.{column-room}
 use Rattle.machine.proofs.InTables.{count, degree_is, in_columns, in_weights, column_in, weight_in, term_in}
-use Rattle.codeline.specs.declared.code.Code.{Code as Tables}
+use Rattle.codeline.specs.declared.code.Code.{Code as LentCode}
 use Rattle.codeline.specs.Answers.{numbers_in}
 use Rattle.codeline.specs.Codes.{lent_code}
 use Rattle.layered.specs.declared.parity.CheckAt.{CheckAt}
@@ -76,7 +76,7 @@ module _ (C : Code) (z : List ℕ) where
   first-not-all ds (Some r) true e n k F = absurd (true≢false e)
   first-not-all ds (Some r) false e n k F = sym (one-not r.check (omega (arith, F.high)) F.not_it)
 
-module _ (K : Tables) where
+module _ (K : LentCode) where
   -- what the two loops over the columns leave are the machine's
   pub symbols_are : (P : List ℕ) → tab (λ c. (decide (column_of (size_of K.numbers.first) P c)).symbol) K.numbers.columns ≡ symbols (lent_code K) P
   unfolding symbols

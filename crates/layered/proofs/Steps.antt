@@ -24,7 +24,7 @@ use Rattle.codeline.specs.declared.answers.Numbers.{Numbers}
 use Rattle.std.specs.Prelude.{Result, Err}
 use Rattle.refusal.specs.Numbers.{number_of}
 use Rattle.refusal.specs.declared.Refusal.{Refusal}
-use Rattle.codeline.specs.declared.code.Code.{Code as Tables}
+use Rattle.codeline.specs.declared.code.Code.{Code as LentCode}
 use Rattle.codeline.specs.Answers.{numbers_in, header_numbers}
 use Rattle.codeline.specs.Codes.{lent_code}
 use Rattle.codeline.proofs.Answered.{header_refused}
@@ -51,17 +51,17 @@ module _ (t limit : ℕ) where
   stage-by found e b i = rw (e, i)
 
 -- a running machine has what the test asks
-module _ (K : Tables) (P s : List ℕ) (start : Bool) (R : Running K start P s) where
+module _ (K : LentCode) (P s : List ℕ) (start : Bool) (R : Running K start P s) where
   pub tested_room : (z v : List ℕ) → length z ≡ K.numbers.columns → length v ≡ K.numbers.columns → TestRoom K P z v
   tested_room z v e i = record { settled = test_room K P s start R z e; margins = i }
 
 -- the test after an iteration
-pub after-room : (K : Tables) (P s z v A S : List ℕ) (start : Bool) → StepRoom K start P s z v A S → (P' s' z' v' : List ℕ)
+pub after-room : (K : LentCode) (P s z v A S : List ℕ) (start : Bool) → StepRoom K start P s z v A S → (P' s' z' v' : List ℕ)
     → lent P' s' ≡ iteration_lent (lent_code K) start (lent P s) → length z' ≡ length z → length v' ≡ length v → TestRoom K P' z' v'
 after-room K P s z v A S start R P' s' z' v' e i j =
     tested_room K P' s' false (iteration-running K P s start R.iterate.running P' s' e) z' v' (i ∙ R.symbols) (j ∙ R.margins)
 
-module _ (K : Tables) (n : ℕ) (N : n ≡ K.numbers.columns) where
+module _ (K : LentCode) (n : ℕ) (N : n ≡ K.numbers.columns) where
   abbrev C : Code
   C = lent_code K
 

@@ -6,7 +6,7 @@ ghost use Rattle.machine.specs.Machine.{symbols as symbols_of, margins as margin
 ghost use Rattle.machine.specs.Lent.{lent};
 ghost use Rattle.machine.specs.Decoding.{lending, Leaves};
 ghost use Rattle.layered.specs.Answers.{answer_reply};
-ghost use Rattle.layered.specs.inner.Buffers.{lent_in, RunIn, SameLoans, SameScratch};
+ghost use Rattle.layered.specs.inner.Buffers.{held_lent, RunIn, SameLoans, SameScratch};
 ghost use Rattle.codeline.specs.Codes.{lent_code};
 ghost use Rattle.layered.specs.inner.Iterations.{ended_in, RunRoom};
 ghost use Rattle.layered.specs.inner.Calls.{run_lent, decoding_of, called, WorkRoom};
@@ -28,7 +28,7 @@ fn run_to_margins<S: Schedule>(
         × (length b.old.margins.now ≡ code.now.numbers.columns) }
     ensures loans { SameLoans b.old b.new }
     ensures scratch { SameScratch room.old room.new }
-    ensures ends { ended_in result (lent_in b.new)
+    ensures ends { ended_in result (held_lent b.new)
         ≡ run_lent S.early code.now.numbers (lent_code code.now)
         (lent_in b.old) }
     ensures symbols_then { b.new.symbols.now ≡ symbols_of (lent_code code.now) b.new.costs.now }

@@ -6,7 +6,7 @@ ghost use Rattle.trellis.specs.Sizes.{most_size};
 ghost use Rattle.machine.specs.CodeLine.{column_of};
 ghost use Rattle.machine.specs.Machine.{symbols as symbols_of};
 ghost use Rattle.machine.specs.inner.LentEarly.{stop_lent};
-ghost use Rattle.layered.specs.inner.Buffers.{lent_in, RunIn, SameLoans, SameScratch};
+ghost use Rattle.layered.specs.inner.Buffers.{held_lent, RunIn, SameLoans, SameScratch};
 ghost use Rattle.codeline.specs.Codes.{lent_code};
 ghost use Rattle.layered.specs.inner.Parity.{ParityRoom, FromTo, SomeNot};
 ghost use Rattle.layered.specs.inner.Iterations.{ended_in};
@@ -92,8 +92,8 @@ fn go_on(code: &Code<'_>, most: u16, b: &mut DecodeBuffers<'_>, room: &mut Scrat
     requires { GoRoom code.now b.old.costs.now b.old.store.now b.old.symbols.now room.old.arrived.now room.old.sent.now }
     ensures loans { SameLoans b.old b.new }
     ensures scratch { SameScratch room.old room.new }
-    ensures ends { ended_in result (lent_in b.new)
-        ≡ stop_lent (lent_code code.now) most 0 (lent_in b.old) }
+    ensures ends { ended_in result (held_lent b.new)
+        ≡ stop_lent (lent_code code.now) most 0 (held_lent b.old) }
     ensures symbols_then { b.new.symbols.now ≡ symbols_of (lent_code code.now) b.new.costs.now }
 {
     let count = usize::from(code.numbers.checks);
@@ -133,8 +133,8 @@ pub fn run(code: &Code<'_>, b: &mut DecodeBuffers<'_>, room: &mut Scratch<'_>) -
     requires { RunIn code.now b.old room.old }
     ensures loans { SameLoans b.old b.new }
     ensures scratch { SameScratch room.old room.new }
-    ensures ends { ended_in result (lent_in b.new)
-        ≡ stop_lent (lent_code code.now) (code.now.numbers.checks * code.now.numbers.limit) 0 (lent_in b.old) }
+    ensures ends { ended_in result (held_lent b.new)
+        ≡ stop_lent (lent_code code.now) (code.now.numbers.checks * code.now.numbers.limit) 0 (held_lent b.old) }
     ensures symbols_then { b.new.symbols.now ≡ symbols_of (lent_code code.now) b.new.costs.now }
 {
     // Lent before the other field: beside a lent one none is read.

@@ -2,7 +2,7 @@
 ghost use Rattle.std.specs.Prelude.{◌≡◌, true};
 ghost use Rattle.machine.specs.Machine.{symbols as symbols_of};
 ghost use Rattle.machine.specs.Lent.{lent, iteration_lent, go_lent};
-ghost use Rattle.layered.specs.inner.Buffers.{lent_in, RunIn, SameLoans, SameScratch};
+ghost use Rattle.layered.specs.inner.Buffers.{held_lent, RunIn, SameLoans, SameScratch};
 ghost use Rattle.codeline.specs.Codes.{lent_code};
 ghost use Rattle.layered.specs.inner.Iterations.{ended_in, IterateRoom};
 
@@ -42,8 +42,8 @@ pub fn run(code: &Code<'_>, b: &mut DecodeBuffers<'_>, room: &mut Scratch<'_>) -
     requires { RunIn code.now b.old room.old }
     ensures loans { SameLoans b.old b.new }
     ensures scratch { SameScratch room.old room.new }
-    ensures ends { ended_in result (lent_in b.new)
-        ≡ go_lent (lent_code code.now) code.now.numbers.limit 0 (lent_in b.old) }
+    ensures ends { ended_in result (held_lent b.new)
+        ≡ go_lent (lent_code code.now) code.now.numbers.limit 0 (held_lent b.old) }
     ensures symbols_then { b.new.symbols.now ≡ symbols_of (lent_code code.now) b.new.costs.now }
 {
     let limit = u16::from(code.numbers.limit);

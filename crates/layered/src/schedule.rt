@@ -1,7 +1,7 @@
 //! When a decoding tests its decisions: at the start, and then after each iteration or after each check update.
 ghost use Rattle.std.specs.Prelude.{◌≡◌, Bool, true, false};
 ghost use Rattle.machine.specs.Machine.{symbols as symbols_of};
-ghost use Rattle.layered.specs.inner.Buffers.{lent_in, RunIn, SameLoans, SameScratch};
+ghost use Rattle.layered.specs.inner.Buffers.{held_lent, RunIn, SameLoans, SameScratch};
 ghost use Rattle.codeline.specs.Codes.{lent_code};
 ghost use Rattle.layered.specs.inner.Iterations.{ended_in};
 ghost use Rattle.layered.specs.inner.Calls.{run_lent};
@@ -20,7 +20,7 @@ pub trait Schedule {
         requires { RunIn code.now b.old room.old }
         ensures loans { SameLoans b.old b.new }
         ensures scratch { SameScratch room.old room.new }
-        ensures ends { ended_in result (lent_in b.new)
+        ensures ends { ended_in result (held_lent b.new)
             ≡ run_lent early code.now.numbers (lent_code code.now)
             (lent_in b.old) }
         ensures symbols_then { b.new.symbols.now ≡ symbols_of (lent_code code.now) b.new.costs.now };

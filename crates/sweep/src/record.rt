@@ -6,7 +6,7 @@ ghost use Rattle.trellis.specs.Record.{record_length};
 ghost use Rattle.trellis.specs.Rules.{power_of, size_of, rule_for};
 ghost use Rattle.engine.specs.inner.Terms.{term_of, sum_to};
 ghost use Rattle.checknode.specs.inner.Asks.{shifts_of};
-ghost use Rattle.checknode.specs.inner.Checks.{record_in};
+ghost use Rattle.checknode.specs.inner.Checks.{record_for};
 ghost use Rattle.sweep.specs.Kept.{cell_count, KeptCells};
 ghost use Rattle.sweep.specs.inner.Cells.{terms_of, Swept};
 
@@ -81,7 +81,7 @@ fn record_from(check: &Check<'_>, before: &[u16], after: &[u16], sent: &mut [u8]
     requires swept { Swept check.now.first check.now.weights.now check.now.costs.now before.now after.now }
     requires sent_len { length sent.old ≡ length check.now.weights.now * size_of check.now.first }
     requires out_len { length out.old ≡ record_length (rule_for check.now.first) (length check.now.weights.now) }
-    ensures { out.new ≡ record_in check.now }
+    ensures { out.new ≡ record_for check.now }
 {
     let d = check.weights.len();
     let rule = rules::rule_of(check.first);
@@ -106,7 +106,7 @@ fn record_with(
     requires after_len { length after.old ≡ length check.now.weights.now * cell_count check.now.first }
     requires sent_len { length sent.old ≡ length check.now.weights.now * size_of check.now.first }
     requires out_len { length out.old ≡ record_length (rule_for check.now.first) (length check.now.weights.now) }
-    ensures { out.new ≡ record_in check.now }
+    ensures { out.new ≡ record_for check.now }
 {
     sweeps(check, cells, before, after);
     record_from(check, before, after, sent, out);
@@ -115,7 +115,7 @@ fn record_with(
 /// The record, with the room that it takes.
 pub fn record_in(check: &Check<'_>, out: &mut [u8])
     requires out_len { length out.old ≡ record_length (rule_for check.now.first) (length check.now.weights.now) }
-    ensures { out.new ≡ record_in check.now }
+    ensures { out.new ≡ record_for check.now }
 {
     let w = cells::cell_count(check.first);
     let n = check.weights.len() * w;

@@ -9,7 +9,7 @@ use lib.ListN.{length}
 use borrow.Author.Tests.{eq-eqb}
 use Rattle.trellis.specs.Lists.{tab}
 use Rattle.vjoin.specs.Lanes.{risen_at}
-use Rattle.vjoin.specs.Joins.{joinable, joined}
+use Rattle.vjoin.specs.Joins.{joinable, join_leaves}
 use Rattle.tables.specs.inner.Shapes.{Shaped}
 
 module _ {q l k : ℕ} (s : Shaped q l k) where
@@ -41,6 +41,6 @@ module _ {q l k : ℕ} (s : Shaped q l k) where
             ]
       ]
 
-  pub joined_is : (g : Bool) (u w e : List ℕ) → length u ≡ l → length w ≡ l → length e ≡ l → joined g q u w e ≡ tab (risen_at g q u w e) l
-  unfolding joined
+  pub joined_is : (g : Bool) (u w e : List ℕ) → length u ≡ l → length w ≡ l → length e ≡ l → join_leaves g q u w e ≡ tab (risen_at g q u w e) l
+  unfolding join_leaves
   joined_is g u w e a b c = rw (a, b, c, eq-eqb l l refl, joins) refl

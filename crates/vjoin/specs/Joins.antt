@@ -8,7 +8,7 @@ use Rattle.vjoin.specs.Lanes.{risen_at}
 unfoldable pub joinable : ℕ → ℕ → Bool
 joinable q l = pick (eqb l 16) (eqb q 4 || (eqb q 8 || (eqb q 12 || eqb q 16))) (eqb q l && (eqb l 32 || eqb l 64))
 
--- the best of e and q rows of u joined with w
-unfoldable pub joined : Bool → ℕ → List ℕ → List ℕ → List ℕ → List ℕ
-joined greatest q u w e =
+-- the best of e and q rows of u join_leaves with w
+unfoldable pub join_leaves : Bool → ℕ → List ℕ → List ℕ → List ℕ → List ℕ
+join_leaves greatest q u w e =
     pick (eqb (length u) (length e) && (eqb (length w) (length e) && joinable q (length e))) (tab (risen_at greatest q u w e) (length e)) e

@@ -21,8 +21,8 @@ abbrev pub flipped : ℕ → List ℕ → List ℕ
 flipped j w = lanes (λ i. get_or w (xor i j) 0)
 
 -- the rows from j on, then those before them
-abbrev pub turned : ℕ → List ℕ → List ℕ
-turned j x = lanes (λ i. get_or x ((i + j) % 16) 0)
+abbrev pub rotated : ℕ → List ℕ → List ℕ
+rotated j x = lanes (λ i. get_or x ((i + j) % 16) 0)
 
 -- row b of x, taken from row a + b of w
 abbrev pub cell : Bool → List ℕ → List ℕ → ℕ → ℕ → ℕ

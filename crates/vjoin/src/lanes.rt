@@ -1,6 +1,6 @@
 //! Sixteen rows in a vector. A function for each flip, turn and lane: the places that a swizzle picks stand as literals.
 ghost use Rattle.std.specs.Prelude.{◌≡◌, ◌-◌, min, max, get_or};
-ghost use Rattle.vjoin.specs.Lanes.{cut, taken, lanes, flipped, turned};
+ghost use Rattle.vjoin.specs.Lanes.{cut, taken, lanes, flipped, rotated};
 
 use std::simd::prelude::*;
 
@@ -51,21 +51,21 @@ pub fn flip12(w: u8x16) -> u8x16
 /// The rows from j on, then those before them.
 #[inline(always)]
 pub fn turn4(x: u8x16) -> u8x16
-    ensures { result ≡ turned 4 x }
+    ensures { result ≡ rotated 4 x }
 {
     x.swizzle([4, 5, 6, 7, 8, 9, 10, 11, 12, 13, 14, 15, 0, 1, 2, 3])
 }
 
 #[inline(always)]
 pub fn turn8(x: u8x16) -> u8x16
-    ensures { result ≡ turned 8 x }
+    ensures { result ≡ rotated 8 x }
 {
     x.swizzle([8, 9, 10, 11, 12, 13, 14, 15, 0, 1, 2, 3, 4, 5, 6, 7])
 }
 
 #[inline(always)]
 pub fn turn12(x: u8x16) -> u8x16
-    ensures { result ≡ turned 12 x }
+    ensures { result ≡ rotated 12 x }
 {
     x.swizzle([12, 13, 14, 15, 0, 1, 2, 3, 4, 5, 6, 7, 8, 9, 10, 11])
 }

@@ -2,7 +2,7 @@
 ghost use Rattle.std.specs.Prelude.{◌≡◌, ◌%◌, ◌≤◌, length};
 ghost use Rattle.trellis.specs.Lists.{tab};
 ghost use Rattle.vjoin.specs.Lanes.{risen_at};
-ghost use Rattle.vjoin.specs.Joins.{joined};
+ghost use Rattle.vjoin.specs.Joins.{join_leaves};
 
 use crate::lanes::take;
 use crate::parts::{Pair, Quad, four, one, one_eight, one_four, one_twelve, two};
@@ -95,9 +95,9 @@ fn in_64<const G: bool>(u: &[u8], w: &[u8], e: &mut [u8])
 }
 
 // By the number of rows.
-#[tactic(auto, unfolding(crate::specs::Joins::joined, crate::specs::Joins::joinable))]
+#[tactic(auto, unfolding(crate::specs::Joins::join_leaves, crate::specs::Joins::joinable))]
 fn by_rows<const G: bool>(q: usize, u: &[u8], w: &[u8], e: &mut [u8])
-    ensures { e.new ≡ joined G q u.now w.now e.old }
+    ensures { e.new ≡ join_leaves G q u.now w.now e.old }
 {
     if u.len() != e.len() || w.len() != e.len() {
         return;
@@ -125,7 +125,7 @@ fn by_rows<const G: bool>(q: usize, u: &[u8], w: &[u8], e: &mut [u8])
 /// e: the best of e and q rows of u joined with w. The three have 16 rows, and q is 4, 8, 12 or 16; or q rows, 32 or 64. Nothing changes where
 /// they have not.
 pub fn join(greatest: bool, q: usize, u: &[u8], w: &[u8], e: &mut [u8])
-    ensures { e.new ≡ joined greatest q u.now w.now e.old }
+    ensures { e.new ≡ join_leaves greatest q u.now w.now e.old }
 {
     if greatest {
         by_rows::<true>(q, u, w, e);

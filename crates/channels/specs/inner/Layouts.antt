@@ -69,7 +69,7 @@ abbrev pub run_at : Code → List ℕ → ℕ → Standing → Standing
 run_at C fs n l = rounds_at C n l.left (loaded_to C fs n l)
 
 -- the whole service of n channels; what is spent of the allowance is a word
-pub record RunRoom (n : ℕ) (z : Layout) (fs : List ℕ) (l : Standing) : Type 0 where
+pub record ServiceRoom (n : ℕ) (z : Layout) (fs : List ℕ) (l : Standing) : Type 0 where
   pub loads : LoadsRoom n z fs l
   pub serves : Serves (code_for z) z.code.coded.good n (loaded_to (code_for z) fs n l)
   pub spent : l.left - (run_at (code_for z) fs n l).left ≤ 65535

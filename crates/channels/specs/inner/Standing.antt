@@ -12,7 +12,7 @@ standing_of s =
     (lending s.symbols.now s.costs.now s.store.now s.margins.now)
 
 -- each buffer is the same loan as before
-pub record SameLoans (old new : Channels) : Type 0 where
+pub record ChannelLoans (old new : Channels) : Type 0 where
   pub symbols : new.symbols.ghost_name ≡ old.symbols.ghost_name
   pub costs : new.costs.ghost_name ≡ old.costs.ghost_name
   pub store : new.store.ghost_name ≡ old.store.ghost_name

@@ -6,8 +6,8 @@ use Rattle.trellis.specs.Rules.{size_of, rule_for, columns_of}
 use Rattle.checknode.specs.declared.accepted.Check.{Check}
 
 -- its record
-abbrev pub record_in : Check → List ℕ
-record_in c = record_of (rule_for c.first) (columns_of (size_of c.first) c.weights.now c.costs.now)
+abbrev pub record_for : Check → List ℕ
+record_for c = record_of (rule_for c.first) (columns_of (size_of c.first) c.weights.now c.costs.now)
 
 -- its sent costs
 abbrev pub all_sent_in : Check → List ℕ

@@ -10,11 +10,11 @@ use Rattle.codeline.specs.declared.tables.Edge.{Edge}
 use Rattle.codeline.specs.declared.tables.Tables.{Tables as LineTables}
 
 -- the columns and weights that were put into tables
-abbrev pub columns_of : LineTables → List ℕ
-columns_of t = take t.edges t.columns
+abbrev pub put_columns : LineTables → List ℕ
+put_columns t = take t.edges t.columns
 
-abbrev pub weights_of : LineTables → List ℕ
-weights_of t = take t.edges t.weights
+abbrev pub put_weights : LineTables → List ℕ
+put_weights t = take t.edges t.weights
 
 abbrev pub edge_read : Result Edge Refusal → Read Pair
 edge_read (Ok e) = good (edge e.column e.weight)
@@ -22,24 +22,24 @@ edge_read (Err r) = bad (number_of r)
 
 -- edges, with the columns and weights that are read by then
 abbrev pub edges_read : Result Unit Refusal → LineTables → Read Flat
-edges_read (Ok _) t = good (flat (columns_of t) (weights_of t))
+edges_read (Ok _) t = good (flat (put_columns t) (put_weights t))
 edges_read (Err r) t = bad (number_of r)
 
 -- a check, whose degree is the answer
 abbrev pub check_read : Result ℕ Refusal → LineTables → Read Flat
-check_read (Ok d) t = good (flat (columns_of t) (weights_of t))
+check_read (Ok d) t = good (flat (put_columns t) (put_weights t))
 check_read (Err r) t = bad (number_of r)
 
 -- count checks
 abbrev pub checks_read : Result Unit Refusal → ℕ → LineTables → Read Tables
-checks_read (Ok _) count t = good (tables (take count t.degrees) (columns_of t) (weights_of t))
+checks_read (Ok _) count t = good (tables (take count t.degrees) (put_columns t) (put_weights t))
 checks_read (Err r) count t = bad (number_of r)
 
 -- tables into which a code's checks were read: behind these entries they hold anything
 pub record Filled (C : Code) (t : LineTables) : Type 0 where
   pub degrees : take (length C.checks) t.degrees ≡ degree_table C
-  pub columns : columns_of t ≡ column_table C
-  pub weights : weights_of t ≡ weight_table C
+  pub columns : put_columns t ≡ column_table C
+  pub weights : put_weights t ≡ weight_table C
 
 -- the numbers as they stand before the checks, and the line's tests up to there
 abbrev pub numbers_at : List ℕ → Numbers

@@ -1,17 +1,17 @@
 -- The structs of lent buffers: what a run asks of them, and what a call leaves of the loans themselves.
 use Rattle.std.specs.Prelude.{◌≡◌, true, length}
 use Rattle.machine.specs.Lent.{Lent, lent}
-use Rattle.codeline.specs.declared.code.Code.{Code as Tables}
+use Rattle.codeline.specs.declared.code.Code.{Code as LentCode}
 use Rattle.layered.specs.inner.Iterations.{RunRoom}
 use Rattle.layered.specs.declared.buffers.DecodeBuffers.{DecodeBuffers}
 use Rattle.layered.specs.declared.buffers.Scratch.{Scratch}
 
 -- the machine's part of the buffers
-abbrev pub lent_in : DecodeBuffers → Lent
-lent_in b = lent b.costs.now b.store.now
+abbrev pub held_lent : DecodeBuffers → Lent
+held_lent b = lent b.costs.now b.store.now
 
 -- room for a run from its start
-abbrev pub RunIn : Tables → DecodeBuffers → Scratch → Type 0
+abbrev pub RunIn : LentCode → DecodeBuffers → Scratch → Type 0
 RunIn K b s = RunRoom K true b.costs.now b.store.now b.symbols.now s.arrived.now s.sent.now
 
 -- each field is the same loan as before, and as long

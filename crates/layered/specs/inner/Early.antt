@@ -11,7 +11,7 @@ use Rattle.machine.specs.Lent.{Lent, lent}
 use Rattle.machine.specs.inner.LentEarly.{stop_lent}
 use Rattle.machine.specs.inner.Tables.{edges_before, table_at}
 use Rattle.machine.specs.inner.InRange.{Advancing}
-use Rattle.codeline.specs.declared.code.Code.{Code as Tables}
+use Rattle.codeline.specs.declared.code.Code.{Code as LentCode}
 use Rattle.codeline.specs.Codes.{lent_code}
 use Rattle.layered.specs.declared.parity.CheckAt.{CheckAt}
 use Rattle.layered.specs.declared.place.Place.{Place}
@@ -29,7 +29,7 @@ pub record AgainRoom (q : ℕ) (P cs z : List ℕ) : Type 0 where
 
 -- the symbols z are the decisions of other costs, and check `from` was not satisfied; deciding the columns of the check at p again gives
 -- those of P
-pub record RetestRoom (K : Tables) (p : Place) (from : CheckAt) (P z : List ℕ) : Type 0 where
+pub record RetestRoom (K : LentCode) (p : Place) (from : CheckAt) (P z : List ℕ) : Type 0 where
   pub settled-room : SettledRoom K P z
   pub inside : p.check < K.numbers.checks
   pub edge_is : p.edge ≡ edges_before K.degrees.now p.check
@@ -54,20 +54,20 @@ Retested C ds P (Some r) = RetestedAt C ds P r
 Retested C ds P None = settled C P ≡ true
 
 -- after u updates, which have not satisfied every check: the symbols are the decisions
-pub record Unsettled (K : Tables) (u : ℕ) (P store z : List ℕ) : Type 0 where
+pub record Unsettled (K : LentCode) (u : ℕ) (P store z : List ℕ) : Type 0 where
   pub advancing : Advancing (lent_code K) K.coded.good u (lent P store)
   pub decided : z ≡ symbols (lent_code K) P
   pub unsettled : settled (lent_code K) P ≡ false
 
 -- room to go on from there: two lists to work in
-pub record GoRoom (K : Tables) (P store z A S : List ℕ) : Type 0 where
+pub record GoRoom (K : LentCode) (P store z A S : List ℕ) : Type 0 where
   pub unsettled : Unsettled K 0 P store z
   pub arrived : most_expansion ≤ length A
   pub sent : most_expansion ≤ length S
 
 -- in the loop over the updates, of which there are at most `most`: the next check stands here, check `from` is not satisfied, and what is
 -- left gives the same as the whole
-pub record Going (K : Tables) (most : ℕ) (l₀ : Lent) (u : ℕ) (here : Place) (from : CheckAt)
+pub record Going (K : LentCode) (most : ℕ) (l₀ : Lent) (u : ℕ) (here : Place) (from : CheckAt)
     (P store z : List ℕ) : Type 0 where
   pub at_most : u ≤ most
   pub check_is : here.check ≡ u % K.numbers.checks

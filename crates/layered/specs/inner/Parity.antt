@@ -6,7 +6,7 @@ use Rattle.machine.specs.CodeLine.{Code, power, check}
 use Rattle.machine.specs.Machine.{satisfied}
 use Rattle.machine.specs.inner.Tables.{edges_before}
 use Rattle.machine.specs.inner.InRange.{Ranged}
-use Rattle.codeline.specs.declared.code.Code.{Code as Tables}
+use Rattle.codeline.specs.declared.code.Code.{Code as LentCode}
 use Rattle.codeline.specs.Codes.{lent_code}
 use Rattle.layered.specs.declared.parity.CheckAt.{CheckAt}
 
@@ -18,7 +18,7 @@ unfoldable pub all_hold : Code → List ℕ → Bool
 all_hold C z = all_to (holds_at C z) (length C.checks)
 
 -- a symbol of the field for each column of the code
-pub record ParityRoom (K : Tables) (z : List ℕ) : Type 0 where
+pub record ParityRoom (K : LentCode) (z : List ℕ) : Type 0 where
   pub symbols : length z ≡ K.numbers.columns
   pub small : (c : ℕ) → c < K.numbers.columns → get_or z c 0 < size_of K.numbers.first
 
@@ -27,7 +27,7 @@ abbrev pub EdgeOf : List ℕ → CheckAt → Type 0
 EdgeOf ds c = c.edge ≡ edges_before ds c.check
 
 -- some of the checks
-pub record FromTo (K : Tables) (from : CheckAt) (to : ℕ) : Type 0 where
+pub record FromTo (K : LentCode) (from : CheckAt) (to : ℕ) : Type 0 where
   pub edge_is : EdgeOf K.degrees.now from
   pub ordered : from.check ≤ to
   pub inside : to ≤ K.numbers.checks
@@ -56,6 +56,6 @@ SomeNot C ds z (Some r) = SomeAt C ds z r
 SomeNot C ds z None = all_hold C z ≡ true
 
 -- before the decisions: costs in range, and room for a symbol of each column
-pub record SettledRoom (K : Tables) (P z : List ℕ) : Type 0 where
+pub record SettledRoom (K : LentCode) (P z : List ℕ) : Type 0 where
   pub ranged : Ranged (lent_code K) P
   pub symbols : length z ≡ K.numbers.columns

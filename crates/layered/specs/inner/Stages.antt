@@ -5,7 +5,7 @@ use Rattle.trellis.specs.Lists.{pick}
 use Rattle.machine.specs.CodeLine.{good, Code}
 use Rattle.machine.specs.Decoding.{Buffers, admitted_under}
 use Rattle.machine.specs.Moments.{Stage as Ends, Moment, loading_under, resumable_under, iterating_under}
-use Rattle.codeline.specs.declared.code.Code.{Code as Tables}
+use Rattle.codeline.specs.declared.code.Code.{Code as LentCode}
 use Rattle.layered.specs.Answers.{ends}
 use Rattle.layered.specs.inner.Parity.{SettledRoom}
 use Rattle.layered.specs.inner.Iterations.{IterateRoom}
@@ -22,12 +22,12 @@ abbrev pub iterating_of : Code → List ℕ → ℕ → Buffers → Moment
 iterating_of C f t b = iterating_under (resumable_under (admitted_under (good C) f b) t b) t b
 
 -- room for the test: a symbol and a margin for each column
-pub record TestRoom (K : Tables) (P z v : List ℕ) : Type 0 where
+pub record TestRoom (K : LentCode) (P z v : List ℕ) : Type 0 where
   pub settled : SettledRoom K P z
   pub margins : length v ≡ K.numbers.columns
 
 -- room for an iteration and the test after it
-pub record StepRoom (K : Tables) (start : Bool) (P store z v A S : List ℕ) : Type 0 where
+pub record StepRoom (K : LentCode) (start : Bool) (P store z v A S : List ℕ) : Type 0 where
   pub iterate : IterateRoom K start P store A S
   pub symbols : length z ≡ K.numbers.columns
   pub margins : length v ≡ K.numbers.columns

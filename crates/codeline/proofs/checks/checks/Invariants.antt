@@ -2,12 +2,12 @@
 use Rattle.std.proofs.Common.{◌≡◌, [], ◌-◌, length, take}
 use Rattle.trellis.specs.Rules.{size_of}
 use Rattle.machine.specs.inner.Tables.{checks_into}
-use Rattle.codeline.specs.inner.Reading.{columns_of, weights_of}
+use Rattle.codeline.specs.inner.Reading.{put_columns, put_weights}
 use Rattle.codeline.proofs.checks.checks.Given as goal
 
 abbrev pub invariant-loop-m : goal.invariant-loop-m
 invariant-loop-m l =
     (l.line.src ≡ l.fn.line.src)
     × ((length l.tables.degrees ≡ 128)
-    × (checks_into (l.fn.numbers.checks - l.m) l.fn.line.src.now l.line.at l.fn.numbers.columns (size_of l.fn.numbers.first) l.tables.edges (take l.m l.tables.degrees) (columns_of l.tables) (weights_of l.tables)
+    × (checks_into (l.fn.numbers.checks - l.m) l.fn.line.src.now l.line.at l.fn.numbers.columns (size_of l.fn.numbers.first) l.tables.edges (take l.m l.tables.degrees) (put_columns l.tables) (put_weights l.tables)
     ≡ checks_into l.fn.numbers.checks l.fn.line.src.now l.fn.line.at l.fn.numbers.columns (size_of l.fn.numbers.first) 0 [] [] []))
