@@ -1,5 +1,6 @@
 //! The record of an accepted check, and its sent costs. Lines and tables are worked out in what is left of 255: a choice starts with
 //! 255, and each deviation takes its cost off, so that two costs are never added.
+//! All room is lent slice by slice, each with its length: of a part of a struct's field only the length is known.
 ghost use Rattle.std.specs.Prelude.{◌≡◌, ◌*◌, ◌≤◌, max, length};
 ghost use Rattle.trellis.specs.Lists.{tab, blocks};
 ghost use Rattle.trellis.specs.Record.{record_length};
@@ -122,7 +123,8 @@ fn messages_with(
     send::columns(q, side(check), rows, &out[..d], rests, sent);
 }
 
-// The record and the sent costs, with fresh room of ROOM bytes for products, lines and rests each.
+// The record and the sent costs, with fresh room of ROOM bytes for products, lines and rests each. Beside record_in: without sent costs
+// there is no room to hand down.
 fn messages_in<const ROOM: usize>(check: &Check<'_>, out: &mut [u8], sent: &mut [u8])
     requires room { (length check.now.weights.now * max 16 (size_of check.now.first) ≤ ROOM) × (ROOM ≤ most_expansion) }
     requires out_len { length out.old ≡ record_length (rule_for check.now.first) (length check.now.weights.now) }
@@ -146,7 +148,7 @@ fn messages_in<const ROOM: usize>(check: &Check<'_>, out: &mut [u8], sent: &mut 
     );
 }
 
-/// The record and the sent costs, in the least room that is enough.
+/// The record and the sent costs, in the least room that is enough. Beside record, as messages_in beside record_in.
 pub fn messages(check: &Check<'_>, out: &mut [u8], sent: &mut [u8])
     requires out_len { length out.old ≡ record_length (rule_for check.now.first) (length check.now.weights.now) }
     requires sent_len { length sent.old ≡ length check.now.weights.now * size_of check.now.first }
