@@ -27,6 +27,7 @@ pub fn show(p: u8, weights: &[u8], bytes: &[u8], out: &mut [u8])
     requires { ShowRoom p weights.now bytes.now out.old }
     ensures { out.new ≡ displayed p weights.now bytes.now }
 {
+    // By index: of a zip over a slice that is written only the length is known.
     for (n, x) in out.iter_mut().enumerate() {
         *x = division::divide(p, weights[n], bytes[n]);
     }

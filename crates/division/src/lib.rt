@@ -35,7 +35,7 @@ fn inverses() -> [u8; 128]
     INVERSES
 }
 
-// q = 2^p
+// q = 2^p. Here too: one shift, for which no crate below has a public function.
 fn size(p: u8) -> usize
     requires { p ≤ 6 }
     ensures { (result ≡ 2 ^ p) × (result ≤ most_size) }

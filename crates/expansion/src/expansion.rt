@@ -29,6 +29,7 @@ fn every(r: &[u8], at: usize, g: usize, first: u8, out: &mut [u8])
     ensures { out.new ≡ tab (every_at r.now at g first) (length out.old) }
 {
     out[0] = first;
+    // By index: of a zip over a slice that is written only the length is known.
     for a in 1..out.len() {
         out[a] = r[at + g * (a - 1)];
     }
@@ -41,6 +42,7 @@ fn unpack(r: &[u8], d: usize, q: usize, k: usize, out: &mut [u8])
     ensures { out.new ≡ unpacked k d q r.now }
 {
     let g = 1 + 2 * k;
+    // Cut by hand: of the chunks of a slice that is written only the length is known.
     for i in 0..g {
         let at = i * q;
         every(r, d + i, g, zero_row(i), &mut out[at..at + q]);
@@ -75,13 +77,14 @@ struct Lists<'a> {
 }
 
 impl Lists<'_> {
-    // "the S beside n if a's pairs list n, else E(a)", for sixteen rows from row at on. The first pair that lists n has the last word.
+    // "the S beside n if a's pairs list n, else E(a)", for sixteen rows from row at on.
     fn rows_from(&self, n: u8, at: usize) -> u8x16
         requires { at + 16 ≤ most_size }
         ensures { result ≡ tab (λ a. value_in self.now.k self.now.bytes.now self.now.q n (at + a)) 16 }
     {
         let t = self.bytes;
         let mut v = u8x16::from_slice(&t[at..]);
+        // From the last pair: the first has the last word.
         for j in (0..self.k).rev() {
             let c = (1 + 2 * j) * self.q + at;
             let s = c + self.q;
@@ -95,6 +98,7 @@ impl Lists<'_> {
         requires { length v.old ≡ most_size }
         ensures { take self.now.q v.new ≡ tab (value_in self.now.k self.now.bytes.now self.now.q n) self.now.q }
     {
+        // Cut by hand: of the chunks of a slice that is written only the length is known.
         for b in 0..self.q.div_ceil(16) {
             let at = b * 16;
             self.rows_from(n, at).copy_to_slice(&mut v[at..]);
@@ -117,6 +121,7 @@ impl Lists<'_> {
         requires { TurnRoom d self.now.q r.now out.old }
         ensures { out.new ≡ blocks (turned self.now.k self.now.bytes.now self.now.q r.now out.old) d }
     {
+        // Cut by hand: of the chunks of a slice that is written only the length is known.
         for (n, &s) in r[..d].iter().enumerate() {
             let at = n * self.q;
             // `as`: n is below 32, and a conversion that can fail is no plainer.
