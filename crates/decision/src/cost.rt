@@ -1,6 +1,7 @@
 //! A number that a symbol costs: of one byte, as a frame and a check have it, or of two, as the machine has it.
 ghost use Rattle.std.specs.Prelude.{◌≡◌, ◌≤◌, ℕ, min, eqb, refl};
 
+/// A cost: its value as a number, and the greatest that there is of its kind.
 pub trait Cost: Copy {
     ghost value: { Self → ℕ };
 

@@ -18,6 +18,7 @@ pub fn decide<C: Cost>(costs: &[C]) -> Decision
     ensures { Decides (map C.value costs.now) result }
 {
     let mut x = 0;
+    // By loop, its place counted by hand: it yields by break, which a for does not.
     loop {
         if x == costs.len() {
             break Decision {

@@ -1,4 +1,5 @@
-//! The field's arithmetic: q, doubling, the product by its recurrence. No function here calls itself.
+//! The field's arithmetic: q, doubling, the product by its recurrence. No function here calls itself. p is a plain number, not a type with its
+//! bounds: each function computes with it.
 ghost use Rattle.std.specs.Prelude.{◌≡◌, ◌≤◌, ◌<◌, ◌^◌};
 ghost use Rattle.trellis.specs.Field.{polynomial, doubled, product};
 ghost use Rattle.trellis.specs.Sizes.{most_size};
@@ -8,6 +9,7 @@ pub fn size(p: u8) -> u8
     requires { (2 ≤ p) × (p ≤ 6) }
     ensures { (result ≡ 2 ^ p) × ((4 ≤ result) × (result ≤ most_size)) }
 {
+    // In a byte, as weights are compared with it; the size in rules is that of a first byte.
     1u8 << p
 }
 

@@ -15,7 +15,7 @@ fn added(a: u8, x: u8) -> u8
     if x % 2 == 1 { a } else { 0 }
 }
 
-// The terms of the six bits of x, lowest first, added.
+// The terms of the six bits of x, lowest first, added. Six by value: an array of them would only be taken apart again.
 fn of_bits(a: u8, b: u8, c: u8, d: u8, e: u8, f: u8, x: u8) -> u8
     ensures { result ≡ bits_of (a ∷ b ∷ c ∷ d ∷ e ∷ f ∷ []) x }
 {
@@ -34,9 +34,9 @@ fn by_bits(p: u8, h: u8, row: &mut [u8])
     let d = field::double(p, c);
     let e = field::double(p, d);
     let f = field::double(p, e);
-    for x in 0..row.len() {
-        // `as`: x is below 64, and a conversion that can fail is no plainer.
-        row[x] = of_bits(h, b, c, d, e, f, x as u8);
+    for (x, product) in row.iter_mut().enumerate() {
+        // By as: x is below 64, and a conversion that can fail is no plainer.
+        *product = of_bits(h, b, c, d, e, f, x as u8);
     }
 }
 
@@ -78,12 +78,13 @@ fn row(p: u8, h: u8, row: &mut [u8])
     }
 }
 
-// The rows of all weights, q products each, worked out one by one.
+// The rows of all weights, q products each, worked out one by one. Beside the rows taken from the table, where q is a constant.
 fn each_row(p: u8, q: usize, weights: &[u8], out: &mut [u8])
     requires factors { Factors p weights.now }
     requires q_value { (q ≡ 2 ^ p) × (length out.old ≡ length weights.now * 2 ^ p) }
     ensures { out.new ≡ blocks (row_of p weights.now) (length weights.now) }
 {
+    // Cut by hand: of the chunks of a slice that is written only the length is known.
     for (n, &h) in weights.iter().enumerate() {
         let at = n * q;
         row(p, h, &mut out[at..at + q]);

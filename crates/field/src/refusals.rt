@@ -33,7 +33,7 @@ pub fn validate_weights(first: u8, weights: &[u8]) -> Result<(), Refusal>
     if !rules::accepted(first) {
         return Err(Refusal::FirstByte);
     }
-    if weights.len() < 2 || sizes::MOST_DEGREE < weights.len() {
+    if !(2..=sizes::MOST_DEGREE).contains(&weights.len()) {
         return Err(Refusal::Degree);
     }
     if !weights_ok(field::size(rules::power(first)), weights) {

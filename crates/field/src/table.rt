@@ -296,6 +296,7 @@ pub fn rows_from(table: &[u8], weights: &[u8], out: &mut [u8])
     requires out_len { length out.old ≡ length weights.now * 64 }
     ensures { out.new ≡ blocks (row_of 6 weights.now) (length weights.now) }
 {
+    // Cut by hand: of the chunks of a slice that is written only the length is known.
     for (n, &h) in weights.iter().enumerate() {
         let at = n * 64;
         row_from(table, h, &mut out[at..at + 64]);

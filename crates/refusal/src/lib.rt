@@ -56,6 +56,7 @@ impl From<Refusal> for u8 {
     ghost from_gives = { λ refusal number. number ≡ number_of refusal };
 
     fn from(refusal: Refusal) -> u8 {
+        // By as: the case's number.
         refusal as u8
     }
 }

@@ -12,6 +12,7 @@ ghost use Rattle.rules.specs.Numbers.{rule_read};
 pub struct Rule {
     pub p: u8,
     pub k: u8,
+    // A bool: an enum cannot be the const parameter that the vector join takes.
     pub greatest: bool,
 }
 
@@ -34,6 +35,7 @@ pub fn power(first: u8) -> u8
 pub fn size(first: u8) -> usize
     ensures { (result ≡ size_of first) × ((1 ≤ result) × (result ≤ 32768)) }
 {
+    // As the sizes of tables and of the field, which are of p: here the byte comes untested.
     1usize << power(first)
 }
 

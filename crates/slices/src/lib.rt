@@ -1,9 +1,10 @@
-//! Copies of slices. Each is total: nothing changes where the two have other lengths.
+//! The copy of a slice, total.
 #![tactic(auto)]
 
 ghost use Rattle.std.specs.Prelude.{◌≡◌};
 ghost use Rattle.slices.specs.Copies.{copied_to};
 
+/// Nothing changes where the two have other lengths.
 pub fn copy<T: Copy>(from: &[T], to: &mut [T])
     ensures { to.new ≡ copied_to from.now to.old }
 {

@@ -1,10 +1,10 @@
-//! Sixteen rows in a vector. A function for each flip, turn and lane: the places that a swizzle picks stand as literals.
+//! Sixteen rows in a vector. `flip` j puts each row x at x + j, without carries; `turn` j the rows from j on before the others; `lane` j row j in each
+//! place. A function for each j: the places that a swizzle picks stand as literals.
 ghost use Rattle.std.specs.Prelude.{◌≡◌, ◌-◌, min, max, get_or};
 ghost use Rattle.vjoin.specs.Lanes.{cut, taken, lanes, flipped, rotated};
 
 use std::simd::prelude::*;
 
-/// Each row x at x + j.
 #[inline(always)]
 pub fn flip1(w: u8x16) -> u8x16
     ensures { result ≡ flipped 1 w }
@@ -40,7 +40,6 @@ pub fn flip8(w: u8x16) -> u8x16
     w.swizzle([8, 9, 10, 11, 12, 13, 14, 15, 0, 1, 2, 3, 4, 5, 6, 7])
 }
 
-/// Each row x at x + j.
 #[inline(always)]
 pub fn flip12(w: u8x16) -> u8x16
     ensures { result ≡ flipped 12 w }
@@ -48,7 +47,6 @@ pub fn flip12(w: u8x16) -> u8x16
     w.swizzle([12, 13, 14, 15, 8, 9, 10, 11, 4, 5, 6, 7, 0, 1, 2, 3])
 }
 
-/// The rows from j on, then those before them.
 #[inline(always)]
 pub fn turn4(x: u8x16) -> u8x16
     ensures { result ≡ rotated 4 x }
@@ -70,7 +68,6 @@ pub fn turn12(x: u8x16) -> u8x16
     x.swizzle([12, 13, 14, 15, 0, 1, 2, 3, 4, 5, 6, 7, 8, 9, 10, 11])
 }
 
-/// Row j in each place.
 #[inline(always)]
 pub fn lane0(x: u8x16) -> u8x16
     ensures { result ≡ lanes (λ _. get_or x 0 0) }
@@ -107,7 +104,7 @@ pub fn better(e: u8x16, x: u8x16) -> u8x16
     e.simd_max(x)
 }
 
-// The better of e and the lesser of p and x.
+// The better of e and the lesser of p and x. This and the next in functions of their own, so that `best` has one clause in both cases.
 #[inline(always)]
 fn best_low(e: u8x16, p: u8x16, x: u8x16) -> u8x16
     ensures { result ≡ lanes (λ i. max (get_or e i 0) (min (get_or p i 0) (get_or x i 0))) }

@@ -1,5 +1,5 @@
 //! Blocks of sixteen rows joined: four rows of x at a time, then all sixteen. Of each turn the copies of all blocks are made before any block takes
-//! it, so that the vectors stay in registers.
+//! it, so that the vectors stay in registers. One, two and four blocks apart, and each by name, not an array of N blocks: an array is kept in memory.
 ghost use Rattle.std.specs.Prelude.{◌≡◌, max, get_or};
 ghost use Rattle.vjoin.specs.Lanes.{cell, cell2, cell4, best_to, lanes, cut};
 
@@ -9,7 +9,7 @@ use crate::lanes::{
 };
 use std::simd::prelude::*;
 
-/// The first four rows of x.
+// `one_four`: the first four rows of x; `one_eight` and `one_twelve` four more each; `one` all sixteen.
 #[inline(always)]
 pub fn one_four<const G: bool>(x: u8x16, w: u8x16, e: u8x16) -> u8x16
     ensures { result ≡ best_to (cell G w x) e 4 }
@@ -124,7 +124,7 @@ pub fn two<const G: bool>(x: Pair, w: Pair, e: Pair) -> Pair
     two_four::<G>(x12, w12, h)
 }
 
-// Four blocks: of what four rows leave, the best.
+// Four blocks: of what four rows leave, the best. Nine by value: in registers.
 #[inline(always)]
 fn row4<const G: bool>(
     e: u8x16,

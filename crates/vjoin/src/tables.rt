@@ -1,4 +1,4 @@
-//! Tables in slices joined.
+//! Tables in slices joined. A function for each number of blocks, not one over an array of them: the blocks stay in registers.
 ghost use Rattle.std.specs.Prelude.{◌≡◌, ◌%◌, ◌≤◌, length};
 ghost use Rattle.trellis.specs.Lists.{tab};
 ghost use Rattle.vjoin.specs.Lanes.{risen_at};
@@ -124,6 +124,7 @@ fn by_rows<const G: bool>(q: usize, u: &[u8], w: &[u8], e: &mut [u8])
 
 /// e: the best of e and q rows of u joined with w. The three have 16 rows, and q is 4, 8, 12 or 16; or q rows, 32 or 64. Nothing changes where
 /// they have not.
+// A bool, as the rule has it: a const parameter is no enum.
 pub fn join(greatest: bool, q: usize, u: &[u8], w: &[u8], e: &mut [u8])
     ensures { e.new ≡ join_leaves greatest q u.now w.now e.old }
 {
