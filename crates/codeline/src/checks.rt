@@ -94,6 +94,7 @@ pub fn checks(line: &mut Reader<'_>, numbers: Numbers, tables: &mut Tables) -> R
 {
     let n = usize::from(numbers.columns);
     let q = rules::size(numbers.first);
+    // By index: the tables are lent on within the turn.
     for m in 0..usize::from(numbers.checks) {
         tables.degrees[m] = check(line, n, q, tables)?;
     }

@@ -4,6 +4,7 @@ ghost use Rattle.codeline.specs.inner.Coding.{Coded};
 use crate::answers::Numbers;
 
 /// The numbers of an accepted line and the tables of its checks; what the tables hold behind these is anything.
+// Columns and weights apart, as the call lends them.
 #[derive(Clone, Copy, Debug, PartialEq, Eq)]
 pub struct Code<'a> {
     pub numbers: Numbers,

@@ -25,6 +25,7 @@ pub fn head(line: &mut Reader<'_>) -> Result<Numbers, Refusal>
     if !rules::accepted(first) {
         return Err(Refusal::FirstByte);
     }
+    // Compared, as the numbers below: over ranges the search for the proof ends at its limits.
     let columns = line.word();
     if columns == 0 || usize::from(columns) > sizes::MOST_SYMBOLS {
         return Err(Refusal::Counts);

@@ -59,7 +59,7 @@ pub fn describe(code: &[u8]) -> Summary
     }
 }
 
-/// The same for whoever goes on with the checks: the degrees, and all columns and weights end to end, in tables that have room for the
+/// The numbers as code_line answers them, for whoever goes on with the checks: the degrees, and all columns and weights end to end, in tables that have room for the
 /// largest code. A line may be refused at its end, so it is read into tables of the call's own, and these are handed over where it is
 /// accepted.
 #[tactic(auto, using(crate::proofs::Answered::refused_left, crate::proofs::Answered::degrees_left, crate::proofs::Answered::columns_left, crate::proofs::Answered::weights_left))]

@@ -12,6 +12,7 @@ pub struct Edge {
 }
 
 /// Room for the largest code, and how many edges were put so far. Behind these the tables hold anything.
+// Columns and weights apart, as the call lends them; a count beside them, since there is no heap for a list that grows.
 #[derive(Clone, Copy, Debug, PartialEq, Eq)]
 pub struct Tables {
     pub degrees: [u8; sizes::MOST_CHECKS],
