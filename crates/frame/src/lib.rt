@@ -54,12 +54,10 @@ pub fn used(numbers: Numbers, degrees: &[u8]) -> usize
     sum
 }
 
-/// 2, 3, 4 and 19 for the first buffer that is too short.
+/// 2, 3, 4 and 19 for the first buffer that is too short. As many margins are needed as symbols: then these are the documents' tests.
 #[tactic(auto, unfolding(crate::specs::Answers::room_fault_of))]
 pub fn validate_room(needed: Lengths, lent: Lengths) -> Result<(), Refusal>
     ensures each { fault_in result ≡ short_fault needed lent }
-
-    // As many margins are needed as symbols: then these are the documents' tests.
     ensures fault { needed.margins ≡ needed.symbols → fault_in result
         ≡ room_fault_of needed.symbols needed.costs needed.store lent.symbols lent.costs lent.store lent.margins }
 {
