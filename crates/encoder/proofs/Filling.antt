@@ -113,6 +113,10 @@ module _ (K : LentCode) where
           symbol = rw c (R.small (edge_at (check C m) n).column b);
         }
 
+    -- an edge by its place in the tables
+    pub edge-room_at : (n edge : ℕ) → edge ≡ at + n → n < d - 1 → EdgeRoom (power_of k.first) cs ws w edge
+    edge-room_at n edge i l = rw i (edge-room n l)
+
     pub sum_more : (n s t : ℕ) → n < d → s ≡ parity_sum (power C) (check C m) w n → t ≡ term (power_of k.first) cs ws w (at + n)
         → bit_xor s t ≡ parity_sum (power C) (check C m) w (n + 1)
     unfolding xor
@@ -120,6 +124,13 @@ module _ (K : LentCode) where
         let x : t ≡ product (power C) (edge_at (check C m) n).weight (get_or w (edge_at (check C m) n).column 0) =
         v ∙ ap (λ a. term (power C) cs ws w (a + n)) R.edge_is ∙ term_in (numbers_in k) ds cs ws hc hw m R.inside (power C) w n (omega arith) in
         rw (add-one n, u, x)
+
+    pub sum_more_at : (edge s t : ℕ) → at ≤ edge → edge < at + d → s ≡ parity_sum (power C) (check C m) w (edge - at)
+        → t ≡ term (power_of k.first) cs ws w edge → bit_xor s t ≡ parity_sum (power C) (check C m) w (edge + 1 - at)
+    sum_more_at edge s t l h u v =
+        let e : edge ≡ at + (edge - at) = omega arith in
+        let f : edge - at + 1 ≡ edge + 1 - at = omega arith in
+        sum_more (edge - at) s t (omega arith) u (v ∙ ap (term (power_of k.first) cs ws w) e) ∙ ap (parity_sum (power C) (check C m) w) f
 
     -- the sum of the others divides
     pub own_is : (n s p r : ℕ) → n ≡ d - 1 → s ≡ parity_sum (power C) (check C m) w n → p ≡ power_of k.first → r ≡ quotient_or p (get_or ws (at + n) 0) s

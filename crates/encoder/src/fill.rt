@@ -9,7 +9,7 @@ ghost use Rattle.encoder.specs.inner.Rooms.{OwnRoom, FillRoom};
 
 use codeline::code::Code;
 
-// What one edge adds to its check's sum.
+// What one edge adds to its check's sum. Beside the decoder's: of the crates that read a code none below both has the product.
 fn term_at(code: &Code<'_>, symbols: &[u8], edge: usize) -> u8
     requires { EdgeRoom (power_of code.now.numbers.first) code.now.columns.now code.now.weights.now symbols.now edge }
     ensures { result
@@ -33,8 +33,8 @@ fn own(code: &Code<'_>, m: usize, at: usize, word: &[u8]) -> u8
     let d = usize::from(code.degrees[m]);
     let n = d - 1;
     let mut sum = 0;
-    for k in 0..n {
-        sum ^= term_at(code, word, at + k);
+    for edge in at..at + n {
+        sum ^= term_at(code, word, edge);
     }
     division::divide(rules::power(code.numbers.first), code.weights[at + n], sum)
 }
@@ -45,6 +45,7 @@ pub fn fill(code: &Code<'_>, from: usize, symbols: &mut [u8])
     ensures { symbols.new ≡ encoded (lent_code code.now) (take from symbols.old) }
 {
     let mut at = 0;
+    // By number: it names the symbol too, and the lent degrees go on behind those of the checks.
     for m in 0..usize::from(code.numbers.checks) {
         let e = from + m;
         symbols[e] = own(code, m, at, &symbols[..e]);

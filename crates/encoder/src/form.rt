@@ -16,6 +16,7 @@ pub fn formed(code: &Code<'_>) -> bool
     }
     let from = n - count;
     let mut at = 0;
+    // By number: it names the symbol too, and the lent degrees go on behind those of the checks.
     for m in 0..count {
         let d = usize::from(code.degrees[m]);
         if usize::from(code.columns[at + (d - 1)]) != from + m {

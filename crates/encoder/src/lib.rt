@@ -21,15 +21,16 @@ pub fn encode(code: &[u8], message: &[u8], symbols: &mut [u8]) -> Result<usize, 
     ensures reply { reply_of result ≡ (encoding code.now message.now symbols.old).reply }
     ensures symbols_then { symbols.new ≡ (encoding code.now message.now symbols.old).out }
 {
+    // The tables are the call's own: a function that read them could not lend them out.
     let mut degrees = [0u8; sizes::MOST_CHECKS];
     let mut columns = [0u16; sizes::MOST_EDGES];
     let mut weights = [0u8; sizes::MOST_EDGES];
     let numbers = codeline::code_tables(code, &mut degrees, &mut columns, &mut weights)?;
-    let read = Code {
+    let accepted = Code {
         numbers,
         degrees: &degrees,
         columns: &columns,
         weights: &weights,
     };
-    encoding::under_code(&read, message, symbols)
+    encoding::under_code(&accepted, message, symbols)
 }

@@ -19,8 +19,8 @@ pub returns-in_err-numbers-clause-symbols_then : goal.returns-in_err-numbers-cla
 returns-in_err-numbers-clause-symbols_then c =
     sym (ap (λ (w : Wrote). w.out) (line_refused c.args.code.now c.code_tables.result c.code_tables.ensures.numbers c.in_err-numbers.field-0.0 c.in_err-numbers.was c.args.message.now c.args.symbols.now))
 
-pub invariant_of-read : goal.invariant_of-read
-invariant_of-read c =
+pub invariant_of-accepted : goal.invariant_of-accepted
+invariant_of-accepted c =
     record {
       coded = line-coded c.args.code.now c.code_tables.result c.code_tables.ensures.numbers c.in_ok-numbers.numbers c.in_ok-numbers.was _ _ _ c.code_tables.new.degrees c.code_tables.new.columns c.code_tables.new.weights c.code_tables.ensures.degrees_then c.code_tables.ensures.columns_then c.code_tables.ensures.weights_then;
     }
