@@ -29,6 +29,7 @@ pub fn shape_of(rule: Rule, d: usize) -> Option<Shape>
     if !fits(rule, d) {
         return None;
     }
+    // Not by the size in rules, which is that of a first byte.
     let q = 1usize << rule.p;
     Some(Shape {
         q,
