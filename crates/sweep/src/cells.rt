@@ -15,6 +15,7 @@ pub fn cell_count(first: u8) -> usize
 pub fn join_of(greatest: bool, a: u16, b: u16) -> u32
     ensures { result ≡ join_of greatest a b }
 {
+    // A bool, as the rule has it.
     if greatest {
         return u32::from(a.max(b));
     }

@@ -13,7 +13,7 @@ use crate::step::Column;
 use crate::{cells, step};
 use checknode::accepted::Check;
 
-/// A product of two elements, which is not refused.
+/// A product of two elements, which is not refused. In encoder too: at each call the proof that it is not would stand once more.
 pub fn times(p: u8, a: u8, b: u8) -> u8
     requires { (2 ≤ p) × ((p ≤ 6) × ((a < 2 ^ p) × (b < 2 ^ p))) }
     ensures { result ≡ product p a b }
@@ -28,7 +28,7 @@ fn products(p: u8, h: u8, row: &mut [u8])
     ensures { row.new ≡ tab (product p h) (2 ^ p) }
 {
     for (x, product) in row.iter_mut().enumerate() {
-        // A symbol is below 64.
+        // `as`: a symbol is below 64, and a conversion that can fail is no plainer.
         *product = times(p, h, x as u8);
     }
 }
@@ -47,7 +47,8 @@ fn column(p: u8, h: u8, costs: &[u8], row: &mut [u8], moves: &mut [u16]) -> u8
     row[z]
 }
 
-// One column more: from the cells over some columns those over these and this one.
+// One column more: from the cells over some columns those over these and this one. Four slices: of a part of a struct's field only the
+// length is known.
 fn advance(
     first: u8,
     h: u8,
@@ -64,12 +65,13 @@ fn advance(
 {
     let rule = rules::rule_of(first);
     let decided = usize::from(column(rule.p, h, costs, row, moves));
-    let column = Column {
+    let taken = Column {
         products: row,
         moves,
         decided,
+        greatest: rule.greatest,
     };
-    step::step(&column, cells, usize::from(rule.k), rule.greatest, out);
+    step::step(&taken, cells, usize::from(rule.k), out);
 }
 
 // One column more, by its number.
@@ -120,6 +122,7 @@ pub fn fill(check: &Check<'_>, direction: Direction, cells: &mut [u16], table: &
     let d = check.weights.len();
     let w = cells::cell_count(check.first);
     step::begin(&mut table[..w]);
+    // Cut by hand: of the chunks of a slice that is written only the length is known.
     for i in 1..d {
         let b = i * w;
         cells.copy_from_slice(&table[b - w..b]);

@@ -24,7 +24,8 @@ fn put_pair(out: &mut [u8], at: usize, u: u8, v: u8)
     out[at + 1] = v;
 }
 
-// After c pairs, that of column n, if its cost s is above e. Answers how many pairs there are then.
+// After c pairs, that of column n, if its cost s is above e. Answers how many pairs there are then. A count beside the slice: a list that
+// grows would take a heap.
 fn put_above(out: &mut [u8], c: usize, n: u8, s: u8, e: u8) -> usize
     requires { (c ≤ 255) × (pick (ltb e s) (c * 2 + 2) 0 ≤ length out.old) }
     ensures count { result ≡ pick (ltb e s) (c + 1) c }
@@ -46,7 +47,7 @@ fn pairs(sent: &[u8], q: usize, d: usize, a: usize, e: u8, out: &mut [u8]) -> us
 {
     let mut c = 0;
     for n in 0..d {
-        // d is at most 255.
+        // `as`: d is at most 255, and a conversion that can fail is no plainer.
         c = put_above(out, c, n as u8, sent[n * q + a], e);
     }
     c
@@ -58,8 +59,7 @@ fn pads(out: &mut [u8], m: usize)
     ensures { out.new ≡ blocks unused_pair m }
 {
     for i in 0..m {
-        let a = i * 2;
-        put_pair(&mut out[a..a + 2], 0, 0xFF, 0x00);
+        put_pair(out, i * 2, 0xFF, 0x00);
     }
 }
 
@@ -85,6 +85,7 @@ pub fn groups(sent: &[u8], q: usize, d: usize, k: usize, out: &mut [u8])
     ensures { out.new ≡ blocks (λ i. group_by k d (sent_of sent.now q (i + 1))) (q - 1) }
 {
     let w = 1 + 2 * k;
+    // Cut by hand: of the chunks of a slice that is written only the length is known.
     for i in 0..q - 1 {
         let a = i * w;
         group(sent, q, d, k, i + 1, &mut out[a..a + w]);

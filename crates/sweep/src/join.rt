@@ -1,4 +1,4 @@
-//! The sweeps before and after a column, joined.
+//! The sweeps before and after a column, joined. Which join is a bool, as the rule has it.
 ghost use Rattle.std.specs.Prelude.{◌≡◌, ◌+◌, ◌*◌, ◌≤◌, ◌<◌, length};
 ghost use Rattle.trellis.specs.Lists.{tab};
 ghost use Rattle.trellis.specs.Field.{xor};
@@ -35,7 +35,7 @@ fn beside(f: &[u16], after: &[u16], q: usize, n: usize, t: usize, greatest: bool
 }
 
 // The cells over the columns before a column and after it, each k + 1 counts of q sums.
-#[derive(Clone, Copy)]
+#[derive(Clone, Copy, Debug, PartialEq, Eq)]
 struct Sides<'a> {
     before: &'a [u16],
     after: &'a [u16],
@@ -55,6 +55,7 @@ fn join_at(sides: &Sides<'_>, t: usize) -> u32
     let q = sides.q;
     let k = sides.k;
     let mut e = 1024u32;
+    // To k + 1: of ..=k the last turn is an end of its own, which takes a second proof.
     for i in 0..k + 1 {
         let a = i * q;
         e = e.min(beside(
@@ -76,12 +77,12 @@ fn sent_row(sides: &Sides<'_>, s: usize, out: &mut [u8])
     ensures { out.new ≡ tab (λ a. join_at sides.now.greatest sides.now.q sides.now.k sides.now.before.now sides.now.after.now (xor a s)) sides.now.q }
 {
     for (a, cost) in out.iter_mut().enumerate() {
-        // A cost that is sent is a byte, says `byte_costs_room`.
+        // `as`: a cost that is sent is a byte, says `byte_costs_room`, and a conversion that can fail is no plainer.
         *cost = join_at(sides, a ^ s) as u8;
     }
 }
 
-/// "joins the two sweeps for column n", for each n: the costs sent to it.
+/// "joins the two sweeps for column n", for each n: the costs sent to it. One by one: Sides has the cells of one column, these are of all.
 pub fn sent_all(
     before: &[u16],
     after: &[u16],
@@ -96,6 +97,7 @@ pub fn sent_all(
 {
     let w = (k + 1) * q;
     let d = shifts.len();
+    // Cut by hand: of the chunks of a slice that is written only the length is known.
     for (n, &s) in shifts.iter().enumerate() {
         let a = n * w;
         let b = (d - 1 - n) * w;

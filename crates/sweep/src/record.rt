@@ -1,4 +1,5 @@
-//! The record of an accepted check: the shifts, both sweeps, the sent costs, and from these the bytes of each a.
+//! The record of an accepted check: the shifts, both sweeps, the sent costs, and from these the bytes of each a. All room is lent slice by
+//! slice, each with its length: of a part of a struct's field only the length is known.
 ghost use Rattle.std.specs.Prelude.{◌≡◌, ◌*◌, ◌≤◌, ◌<◌, length, get_or};
 ghost use Rattle.trellis.specs.Lists.{tab};
 ghost use Rattle.trellis.specs.Field.{xor};
@@ -27,7 +28,7 @@ fn term(check: &Check<'_>, n: usize) -> u8
     let q = rules::size(check.first);
     let at = n * q;
     let z = decision::decide(&check.costs[at..at + q]).symbol;
-    // A symbol is below 64.
+    // `as`: a symbol is below 64, and a conversion that can fail is no plainer.
     columns::times(rules::power(check.first), check.weights[n], z as u8)
 }
 

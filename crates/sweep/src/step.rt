@@ -7,38 +7,40 @@ ghost use Rattle.sweep.specs.inner.Cells.{Sums, Steps, move_cost, deviation_at, 
 
 use crate::cells;
 
-/// A column as a sweep takes it: the products of its weight with each symbol, the cost of a deviation to each, and its decision's product.
-#[derive(Clone, Copy)]
+/// A column as a sweep takes it: the products of its weight with each symbol, the cost of a deviation to each, its decision's product,
+/// and which join the rule has: a bool, as there.
+#[derive(Clone, Copy, Debug, PartialEq, Eq)]
 pub struct Column<'a> {
     pub products: &'a [u8],
     pub moves: &'a [u16],
     pub decided: usize,
+    pub greatest: bool,
     ghost steps: { Steps products.now moves.now },
     ghost element: { decided < length products.now },
 }
 
 // The cheapest deviation of the column that leads to sum t, from the costs of one deviation fewer.
-fn deviation_at(column: &Column<'_>, low: &[u16], t: usize, greatest: bool) -> u32
+fn deviation_at(column: &Column<'_>, low: &[u16], t: usize) -> u32
     requires low_len { (length low.now ≡ length column.now.products.now) × (t < length column.now.products.now) }
-    ensures { (result ≡ deviation_at greatest column.now.products.now column.now.moves.now low.now t) × (result ≤ 1024) }
+    ensures { (result ≡ deviation_at column.now.greatest column.now.products.now column.now.moves.now low.now t) × (result ≤ 1024) }
 {
     let mut e = 1024u32;
     for (x, &s) in column.products.iter().enumerate() {
-        e = e.min(cells::join_of(greatest, column.moves[x], low[t ^ usize::from(s)]));
+        e = e.min(cells::join_of(column.greatest, column.moves[x], low[t ^ usize::from(s)]));
     }
     e
 }
 
 // One count: the column keeps its decision, or it is one of the deviations.
-fn layer(column: &Column<'_>, low: &[u16], same: &[u16], greatest: bool, out: &mut [u16])
+fn layer(column: &Column<'_>, low: &[u16], same: &[u16], out: &mut [u16])
     requires low_len { (length low.now ≡ length column.now.products.now) × (length same.now ≡ length column.now.products.now) }
     requires out_len { length out.old ≡ length column.now.products.now }
-    ensures { out.new ≡ layers greatest column.now.products.now column.now.moves.now low.now same.now column.now.decided }
+    ensures { out.new ≡ layers column.now.greatest column.now.products.now column.now.moves.now low.now same.now column.now.decided }
 {
     for (t, cost) in out.iter_mut().enumerate() {
-        let kept = u32::from(same[t ^ column.decided]);
-        // At most the mark.
-        *cost = kept.min(deviation_at(column, low, t, greatest)) as u16;
+        let stays = u32::from(same[t ^ column.decided]);
+        // `as`: at most the mark, and a conversion that can fail is no plainer.
+        *cost = stays.min(deviation_at(column, low, t)) as u16;
     }
 }
 
@@ -66,36 +68,40 @@ pub fn move_costs(costs: &[u8], z: usize, out: &mut [u16])
     requires { length costs.now ≡ length out.old }
     ensures { out.new ≡ tab (move_cost costs.now z) (length out.old) }
 {
+    // By index: of a zip over a slice that is written only the length is known.
     for (x, cost) in out.iter_mut().enumerate() {
         *cost = move_cost(x, z, costs[x]);
     }
 }
 
 // The costs of j deviations.
-fn count(column: &Column<'_>, cells: &[u16], j: usize, greatest: bool, out: &mut [u16])
+fn count(column: &Column<'_>, cells: &[u16], j: usize, out: &mut [u16])
     requires cells_len { j * length column.now.products.now + length column.now.products.now ≤ length cells.now }
     requires out_len { length out.old ≡ length column.now.products.now }
-    ensures { out.new ≡ count_cells greatest (length column.now.products.now) column.now.products.now column.now.moves.now cells.now column.now.decided j }
+    ensures { out.new ≡ count_cells column.now.greatest (length column.now.products.now) column.now.products.now column.now.moves.now cells.now column.now.decided j }
 {
     let q = column.products.len();
+    // No count is below 0.
     if j == 0 {
         kept(&cells[..q], column.decided, out);
         return;
     }
     let b = j * q;
-    layer(column, &cells[b - q..b], &cells[b..b + q], greatest, out);
+    layer(column, &cells[b - q..b], &cells[b..b + q], out);
 }
 
 /// The costs of each count up to k.
-pub fn step(column: &Column<'_>, cells: &[u16], k: usize, greatest: bool, out: &mut [u16])
+pub fn step(column: &Column<'_>, cells: &[u16], k: usize, out: &mut [u16])
     requires k_few { k ≤ 3 }
     requires cells_len { (length cells.now ≡ (k + 1) * length column.now.products.now) × (length out.old ≡ (k + 1) * length column.now.products.now) }
-    ensures { out.new ≡ step_cells greatest (length column.now.products.now) k column.now.products.now column.now.moves.now cells.now column.now.decided }
+    ensures { out.new ≡ step_cells column.now.greatest (length column.now.products.now) k column.now.products.now column.now.moves.now cells.now column.now.decided }
 {
     let q = column.products.len();
+    // Cut by hand: of the chunks of a slice that is written only the length is known.
+    // To k + 1: of ..=k the last turn is an end of its own, which takes a second proof.
     for j in 0..k + 1 {
         let b = j * q;
-        count(column, cells, j, greatest, &mut out[b..b + q]);
+        count(column, cells, j, &mut out[b..b + q]);
     }
 }
 

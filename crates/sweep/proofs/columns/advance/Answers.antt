@@ -5,8 +5,8 @@ use Rattle.rules.specs.declared.Rule.{Rule}
 use Rattle.sweep.proofs.Laws.{step_asks, step-done}
 use Rattle.sweep.proofs.columns.advance.Goals as goal
 
-pub invariant_of-column : goal.invariant_of-column
-invariant_of-column c =
+pub invariant_of-taken : goal.invariant_of-taken
+invariant_of-taken c =
     let a = step_asks c.args.first c.args.h c.args.costs.now c.requires.times (ap (λ (r : Rule). r.p) c.rule_of-rule.ensures) c.column.ensures.term c.column.ensures.row_then c.column.ensures.moves_then c.from-decided.ensures (omega (arith, c.column.auto, c.requires.sized.of_row)) refl refl c.args.cells.now c.args.out.now c.requires.sized.has_zero c.requires.cells_len.0 c.requires.cells_len.1 in
     record { steps = a.0; element = a.1.0.1.0 }
 

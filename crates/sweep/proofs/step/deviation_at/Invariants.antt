@@ -7,4 +7,4 @@ use Rattle.trellis.specs.Sweep.{least_to}
 use Rattle.sweep.proofs.step.deviation_at.Given as goal
 
 abbrev pub invariant-loop-x : goal.invariant-loop-x
-invariant-loop-x l = l.e ≡ least_to (λ x. join_of l.greatest (get_or l.column.moves.now x 0) (get_or l.low (xor l.t (get_or l.column.products.now x 0)) 0)) l.x
+invariant-loop-x l = l.e ≡ least_to (λ x. join_of l.column.greatest (get_or l.column.moves.now x 0) (get_or l.low (xor l.t (get_or l.column.products.now x 0)) 0)) l.x

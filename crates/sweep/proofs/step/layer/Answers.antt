@@ -15,5 +15,5 @@ pub loop-t-preserved : goal.loop-t-preserved
 unfolding xor
 loop-t-preserved c =
     let a = c.args in
-    let v = layer_value a.greatest a.column.now.products.now a.column.now.moves.now a.low.now a.same.now a.column.now.decided c.loop-t.t c.from-kept.ensures c.deviation_at.ensures.0 c.min.ensures in
-    (search rules, fill_next (layer_at a.greatest a.column.now.products.now a.column.now.moves.now a.low.now a.same.now a.column.now.decided) c.loop-t.out c.loop-t.t _ (omega arith) c.loop-t.invariant.1 v)
+    let v = layer_value a.column.now.greatest a.column.now.products.now a.column.now.moves.now a.low.now a.same.now a.column.now.decided c.loop-t.t c.from-stays.ensures c.deviation_at.ensures.0 c.min.ensures in
+    (search rules, fill_next (layer_at a.column.now.greatest a.column.now.products.now a.column.now.moves.now a.low.now a.same.now a.column.now.decided) c.loop-t.out c.loop-t.t _ (omega arith) c.loop-t.invariant.1 v)

@@ -6,4 +6,4 @@ use Rattle.sweep.specs.inner.Cells.{layer_at}
 use Rattle.sweep.proofs.step.layer.Given as goal
 
 abbrev pub invariant-loop-t : goal.invariant-loop-t
-invariant-loop-t l = (length l.out ≡ length l.fn.out) × (take l.t l.out ≡ tab (layer_at l.greatest l.column.products.now l.column.moves.now l.low l.same l.column.decided) l.t)
+invariant-loop-t l = (length l.out ≡ length l.fn.out) × (take l.t l.out ≡ tab (layer_at l.column.greatest l.column.products.now l.column.moves.now l.low l.same l.column.decided) l.t)

@@ -10,6 +10,6 @@ pub returns : goal.returns
 unfolding step_cells
 returns c =
     let a = c.args in
-    let f = count_cells a.greatest (length a.column.now.products.now) a.column.now.products.now a.column.now.moves.now a.cells.now a.column.now.decided in
+    let f = count_cells a.column.now.greatest (length a.column.now.products.now) a.column.now.products.now a.column.now.moves.now a.cells.now a.column.now.decided in
     let e : c.loop-j.j ≡ a.k + 1 = omega arith in
     front_whole c.loop-j.out ((a.k + 1) * (length a.column.now.products.now)) (rw e at c.loop-j.invariant.1) (omega (arith, c.loop-j.invariant.0, c.requires.cells_len.1))

@@ -7,4 +7,4 @@ use Rattle.sweep.specs.inner.Cells.{count_cells}
 use Rattle.sweep.proofs.step.step.Given as goal
 
 abbrev pub invariant-loop-j : goal.invariant-loop-j
-invariant-loop-j l = (length l.out ≡ length l.fn.out) × (take (l.j * (length l.column.products.now)) l.out ≡ blocks (count_cells l.greatest (length l.column.products.now) l.column.products.now l.column.moves.now l.cells l.column.decided) l.j)
+invariant-loop-j l = (length l.out ≡ length l.fn.out) × (take (l.j * (length l.column.products.now)) l.out ≡ blocks (count_cells l.column.greatest (length l.column.products.now) l.column.products.now l.column.moves.now l.cells l.column.decided) l.j)
