@@ -1,4 +1,6 @@
-//! What a decoding works over. Made by a literal of whole slices, in the function that has cut them.
+//! What a decoding works over. Made by a literal of slices that the caller has cut.
+//
+// Their derives are what a struct that holds `&mut` slices takes.
 
 /// The buffers that a call is lent: for the decisions, the costs, the records and the margins.
 #[derive(Drop)]

@@ -4,6 +4,8 @@ ghost use Rattle.machine.specs.Machine.{scaled, incoming, outgoing};
 ghost use Rattle.machine.specs.inner.InRange.{Below};
 ghost use Rattle.layered.specs.inner.Columns.{least_raised, gathered, GatherRoom, least_summed, scattered, ScatterRoom};
 
+// That the scale is at most 16 stands in each contract: a type that holds it would take more lines than the clauses.
+
 // A cost less a scaled cost, 255 higher, so that it is not below 0.
 fn raise(c: u16, s: u8, g: u16) -> u16
     requires { (c ≤ 510) × (g ≤ 16) }
@@ -19,8 +21,8 @@ fn least_raised(costs: &[u16], old: &[u8], g: u16) -> u16
     ensures { result ≡ least_raised g costs.now old.now (length costs.now) }
 {
     let mut least: u16 = 1000;
-    for (i, &c) in costs.iter().enumerate() {
-        least = least.min(raise(c, old[i], g));
+    for (&c, &s) in costs.iter().zip(old) {
+        least = least.min(raise(c, s, g));
     }
     least
 }
@@ -33,8 +35,10 @@ fn incoming_column(costs: &[u16], old: &[u8], g: u16, out: &mut [u8])
     ensures { out.new ≡ incoming (length costs.now) costs.now (map (scaled g) old.now) }
 {
     let least = least_raised(costs, old, g);
+    // By index: of a zip over a slice that is written only the length is known.
     for (i, x) in out.iter_mut().enumerate() {
         let v = raise(costs[i], old[i], g);
+        // By `as`: at most 255, and a conversion that can fail is no plainer.
         *x = (v - least).min(255) as u8;
     }
 }
@@ -45,6 +49,7 @@ pub fn gather(costs: &[u16], cols: &[u16], old: &[u8], g: u16, q: usize, out: &m
     ensures { out.new
         ≡ gathered costs.now cols.now old.now g q (length cols.now) out.old }
 {
+    // Cut by hand: of the chunks of a slice that is written only the length is known.
     for (k, &c) in cols.iter().enumerate() {
         let from = usize::from(c) * q;
         let at = k * q;
@@ -57,7 +62,7 @@ pub fn gather(costs: &[u16], cols: &[u16], old: &[u8], g: u16, q: usize, out: &m
     }
 }
 
-// Q plus a scaled cost. Two costs make more than a byte holds: the sum is formed in 32 bits, and 16 hold it.
+// Q plus a scaled cost. Two costs make more than a byte holds: the sum is formed in 32 bits, and 16 hold it, by `as`.
 fn sum(c: u8, s: u8, g: u16) -> u16
     requires { g ≤ 16 }
     ensures { (result ≡ c + scaled g s) × (result ≤ 510) }
@@ -73,8 +78,8 @@ fn least_summed(qs: &[u8], new: &[u8], g: u16) -> u16
     ensures { result ≡ least_summed g qs.now new.now (length qs.now) }
 {
     let mut least: u16 = 1000;
-    for (i, &c) in qs.iter().enumerate() {
-        least = least.min(sum(c, new[i], g));
+    for (&c, &s) in qs.iter().zip(new) {
+        least = least.min(sum(c, s, g));
     }
     least
 }
@@ -85,6 +90,7 @@ fn outgoing_column(qs: &[u8], new: &[u8], g: u16, costs: &mut [u16])
     ensures { costs.new ≡ outgoing (length qs.now) qs.now (map (scaled g) new.now) }
 {
     let least = least_summed(qs, new, g);
+    // By index: of a zip over a slice that is written only the length is known.
     for (i, x) in costs.iter_mut().enumerate() {
         *x = sum(qs[i], new[i], g) - least;
     }
@@ -96,6 +102,7 @@ pub fn scatter(qs: &[u8], new: &[u8], cols: &[u16], g: u16, q: usize, costs: &mu
     ensures { costs.new
         ≡ scattered qs.now new.now cols.now g q (length cols.now) costs.old }
 {
+    // Cut by hand: a column of the costs stands where its number says.
     for (k, &c) in cols.iter().enumerate() {
         let to = usize::from(c) * q;
         let at = k * q;

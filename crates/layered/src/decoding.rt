@@ -1,4 +1,6 @@
 //! Decoding: the code is read, then its refusals, or the run of a schedule.
+//
+// Buffers and lists go down one by one, as the calls lend them: of a part of a struct's field only the length is known.
 ghost use Rattle.std.specs.Prelude.{◌≡◌, true, ◌≤◌, length};
 ghost use Rattle.trellis.specs.Sizes.{most_symbols};
 ghost use Rattle.machine.specs.CodeLine.{parse, numbers_of, columns_read};
@@ -30,7 +32,7 @@ fn run_to_margins<S: Schedule>(
     ensures scratch { SameScratch room.old room.new }
     ensures ends { ended_in result (held_lent b.new)
         ≡ run_lent S.early code.now.numbers (lent_code code.now)
-        (lent_in b.old) }
+        (held_lent b.old) }
     ensures symbols_then { b.new.symbols.now ≡ symbols_of (lent_code code.now) b.new.costs.now }
     ensures margins_then { b.new.margins.now ≡ margins_of (lent_code code.now) b.new.costs.now }
 {
@@ -41,7 +43,7 @@ fn run_to_margins<S: Schedule>(
     o
 }
 
-// The same over slices, which are cut by the caller: what a struct holds of a part is known of whole fields.
+// The same over slices, which the caller has cut.
 fn run_over<S: Schedule>(
     code: &Code<'_>,
     symbols: &mut [u8],
@@ -111,7 +113,7 @@ fn under_code<S: Schedule>(
     Ok(o)
 }
 
-/// Over tables and lists of its own.
+/// Reads the code line and decodes the frame under it.
 pub fn decode_in<S: Schedule>(
     code: &[u8],
     frame: &[u8],
@@ -126,6 +128,7 @@ pub fn decode_in<S: Schedule>(
         (lending symbols.new costs.new store.new margins.new) }
     ensures columns { (result.columns ≡ columns_read (numbers_of (parse code.now))) × (result.columns ≤ most_symbols) }
 {
+    // The tables are the call's own: a function that read them could not lend them out.
     let mut degrees = [0u8; sizes::MOST_CHECKS];
     let mut columns = [0u16; sizes::MOST_EDGES];
     let mut weights = [0u8; sizes::MOST_EDGES];

@@ -27,6 +27,7 @@ fn decide_at(costs: &[u16], q: usize, c: usize, symbols: &mut [u8]) -> bool
         ≡ set symbols.old c (decide_of (column_of q costs.now c)).symbol }
     ensures changed { result ≡ false → symbols.new ≡ symbols.old }
 {
+    // By `as`: a symbol is below 64, and a conversion that can fail is no plainer.
     let z = parity::decided(costs, q, c).symbol as u8;
     if symbols[c] == z {
         return false;
@@ -35,7 +36,7 @@ fn decide_at(costs: &[u16], q: usize, c: usize, symbols: &mut [u8]) -> bool
     true
 }
 
-// Decides a check's columns again; how many symbols are others now.
+// Decides a check's columns again; how many symbols are others now: a count, so that a single one that is missed is a fault by itself.
 #[tactic(auto, unfolding(crate::specs::inner::Early::decided_again))]
 fn decide_again(costs: &[u16], q: usize, columns: &[u16], symbols: &mut [u8]) -> usize
     requires { AgainRoom q costs.now columns.now symbols.old }

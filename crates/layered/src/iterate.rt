@@ -12,7 +12,7 @@ use crate::place::Place;
 use crate::{parity, place};
 use codeline::code::Code;
 
-/// "An iteration .. takes the checks in code order."
+/// "An iteration .. takes the checks in code order." `start` is a bool down to the update, which says why.
 pub fn iterate(
     code: &Code<'_>,
     start: bool,

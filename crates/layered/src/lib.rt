@@ -1,6 +1,8 @@
 //! Above the check layer and the code line: the layered decoder.
 #![tactic(auto)]
 
+// Each public call stands here with its contract, though some only hand on: this file says what the crate promises.
+
 pub mod answers;
 mod buffers;
 mod column;

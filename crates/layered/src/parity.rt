@@ -32,6 +32,7 @@ fn decisions(costs: &[u16], q: usize, symbols: &mut [u8])
         ≡ tab (λ c. (decide_of (column_of q costs.now c)).symbol) (length symbols.old) }
 {
     for (c, x) in symbols.iter_mut().enumerate() {
+        // By `as`: a symbol is below 64, and a conversion that can fail is no plainer.
         *x = decided(costs, q, c).symbol as u8;
     }
 }
@@ -47,7 +48,7 @@ pub fn margins(costs: &[u16], q: usize, margins: &mut [u16])
     }
 }
 
-// A product of two elements, which is not refused.
+// A product of two elements, which is not refused. Beside division's and sweep's: the field says no more than when it is refused.
 fn times(p: u8, a: u8, b: u8) -> u8
     requires { (2 ≤ p) × ((p ≤ 6) × ((a < 2 ^ p) × (b < 2 ^ p))) }
     ensures { result ≡ product p a b }
@@ -55,7 +56,7 @@ fn times(p: u8, a: u8, b: u8) -> u8
     field::product(p, a, b).unwrap()
 }
 
-// What one edge adds to its check's sum.
+// What one edge adds to its check's sum. Beside the encoder's: of the crates that read a code none below both has the product.
 fn term_at(code: &Code<'_>, symbols: &[u8], edge: usize) -> u8
     requires { EdgeRoom (power_of code.now.numbers.first) code.now.columns.now code.now.weights.now symbols.now edge }
     ensures { result ≡ term (power_of code.now.numbers.first) code.now.columns.now code.now.weights.now symbols.now edge }
@@ -90,6 +91,7 @@ pub fn unsatisfied(code: &Code<'_>, from: CheckAt, to: usize, symbols: &[u8]) ->
         let d = usize::from(code.degrees[m]);
         let mut sum = 0u8;
         let mut n = 0;
+        // No `for`, here or above: the label leaves both with a value, and `for` yields none by `break`.
         loop {
             if n == d {
                 if sum != 0 {

@@ -34,20 +34,20 @@ pub fn update_at(
 {
     let m = here.check;
     let at = here.edge;
-    let place = here.byte;
+    let b = here.byte;
     let q = rules::size(code.numbers.first);
     let groups = rules::groups(code.numbers.first);
     let d = usize::from(code.degrees[m]);
     let n = d * q;
     let e = at + d;
-    let f = place + (d + groups);
+    let f = b + (d + groups);
     update::update(
         code.numbers,
         start,
         &code.columns[at..e],
         &code.weights[at..e],
         costs,
-        &mut store[place..f],
+        &mut store[b..f],
         &mut room.arrived[..n],
         &mut room.sent[..n],
     );

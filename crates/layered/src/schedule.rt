@@ -22,12 +22,14 @@ pub trait Schedule {
         ensures scratch { SameScratch room.old room.new }
         ensures ends { ended_in result (held_lent b.new)
             ≡ run_lent early code.now.numbers (lent_code code.now)
-            (lent_in b.old) }
+            (held_lent b.old) }
         ensures symbols_then { b.new.symbols.now ≡ symbols_of (lent_code code.now) b.new.costs.now };
 }
 
+#[derive(Clone, Copy, Debug, PartialEq, Eq)]
 pub struct WholeIterations;
 
+#[derive(Clone, Copy, Debug, PartialEq, Eq)]
 pub struct EachUpdate;
 
 impl Schedule for WholeIterations {

@@ -1,5 +1,7 @@
 //! A load and one iteration: decoding's refusals, then the first test, or the iteration from the lent costs and records and the test after
 //! it.
+//
+// Buffers and lists go down one by one, as the calls lend them: of a part of a struct's field only the length is known.
 ghost use Rattle.std.specs.Prelude.{◌≡◌, Ok};
 ghost use Rattle.machine.specs.Machine.{settled, symbols as symbols_of, margins as margins_of};
 ghost use Rattle.machine.specs.Lent.{lent, iteration_lent};
@@ -137,7 +139,7 @@ fn step_under(
     Ok(stage_after(found, u16::from(t) + 1, code.numbers.limit))
 }
 
-/// Over tables of its own.
+/// Reads the code line, then loads the frame under it.
 pub fn load_in(
     code: &[u8],
     frame: &[u8],
@@ -150,6 +152,7 @@ pub fn load_in(
         (lending symbols.old costs.old store.now margins.old)) (stage_of result)
         (lending symbols.new costs.new store.now margins.new) }
 {
+    // The tables are the call's own: a function that read them could not lend them out.
     let mut degrees = [0u8; sizes::MOST_CHECKS];
     let mut columns = [0u16; sizes::MOST_EDGES];
     let mut weights = [0u8; sizes::MOST_EDGES];
@@ -163,7 +166,7 @@ pub fn load_in(
     load_under(&accepted, frame, symbols, costs, store, margins)
 }
 
-/// Over tables and lists of its own.
+/// Reads the code line, then makes one iteration under it.
 pub fn step_in(
     t: u8,
     code: &[u8],
@@ -177,6 +180,7 @@ pub fn step_in(
         (lending symbols.old costs.old store.old margins.old)) (stage_of result)
         (lending symbols.new costs.new store.new margins.new) }
 {
+    // The tables are the call's own: a function that read them could not lend them out.
     let mut degrees = [0u8; sizes::MOST_CHECKS];
     let mut columns = [0u16; sizes::MOST_EDGES];
     let mut weights = [0u8; sizes::MOST_EDGES];

@@ -1,4 +1,6 @@
 //! One update of a check: Q from the costs and the old record, the new record, and the costs again.
+//
+// `start` is a bool, as the machine has it, not an Option of the record: the record's bytes are written in the same call.
 ghost use Rattle.std.specs.Prelude.{◌≡◌};
 ghost use Rattle.trellis.specs.Check.{all_sent};
 ghost use Rattle.trellis.specs.Record.{record_of};
