@@ -8,9 +8,10 @@ mod refusals;
 mod table;
 
 ghost use Rattle.std.specs.Prelude.{◌≡◌};
-ghost use Rattle.refusal.specs.Replies.{reply_of, fault_in};
-ghost use Rattle.field.specs.Answers.{product_reply, weights_fault, rows_leave};
+ghost use Rattle.refusal.specs.Replies.{reply_of};
+ghost use Rattle.field.specs.Answers.{product_reply, rows_leave};
 
+pub use crate::refusals::validate_weights;
 use refusal::Refusal;
 
 /// The product of two elements of the field of 2 ^ p. Refused: 6, p not 2 to 6; 11, a or b no element.
@@ -26,13 +27,6 @@ pub fn product(p: u8, a: u8, b: u8) -> Result<u8, Refusal>
         return Err(Refusal::Weight);
     }
     Ok(field::times(p, a, b))
-}
-
-/// The refusal of first byte and weights: 6, the first byte; 9, degree not 2 to 32; 11, a weight 0 or no element.
-pub fn validate_weights(first: u8, weights: &[u8]) -> Result<(), Refusal>
-    ensures { fault_in result ≡ weights_fault first weights.now }
-{
-    refusals::validate_weights(first, weights)
 }
 
 /// The products of each weight with every symbol, 2 ^ p bytes a weight, end to end. Nothing changes where p is not 2 to 6, where there

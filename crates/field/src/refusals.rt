@@ -25,7 +25,7 @@ fn weights_ok(q: u8, weights: &[u8]) -> bool
     ok
 }
 
-/// 6, 9 or 11, in this order.
+/// The refusal of first byte and weights, in this order: 6, the first byte; 9, degree not 2 to 32; 11, a weight 0 or no element.
 #[tactic(auto, unfolding(crate::specs::Answers::weights_fault))]
 pub fn validate_weights(first: u8, weights: &[u8]) -> Result<(), Refusal>
     ensures { fault_in result ≡ weights_fault first weights.now }
