@@ -26,6 +26,7 @@ fn pairs_ok(r: &[u8], at: usize, d: usize, k: usize) -> bool
     let e = r[at];
     let mut ok = true;
     let mut low = 0;
+    // By place, as the definition reads the record: in a group that is cut off each place would be another.
     for j in 0..k {
         let next = at + 1 + 2 * j;
         let column = usize::from(r[next]);
@@ -42,6 +43,7 @@ fn groups_ok(r: &[u8], d: usize, n: usize, k: usize) -> bool
 {
     let g = 1 + 2 * k;
     let mut ok = true;
+    // By place, as the definition reads the record.
     for b in 0..n {
         ok &= pairs_ok(r, d + g * b, d, k);
     }
