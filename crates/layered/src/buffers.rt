@@ -1,9 +1,9 @@
 //! What a decoding works over. Made by a literal of slices that the caller has cut.
 //
-// Their derives are what a struct that holds `&mut` slices takes.
+// Without `Clone`, `Copy`, `PartialEq` and `Eq`: a slice by `&mut` has none of these.
 
 /// The buffers that a call is lent: for the decisions, the costs, the records and the margins.
-#[derive(Drop)]
+#[derive(Debug, Drop)]
 pub struct DecodeBuffers<'a> {
     pub symbols: &'a mut [u8],
     pub costs: &'a mut [u16],
@@ -12,7 +12,7 @@ pub struct DecodeBuffers<'a> {
 }
 
 /// Room for a check's arriving and sent costs.
-#[derive(Drop)]
+#[derive(Debug, Drop)]
 pub struct Scratch<'a> {
     pub arrived: &'a mut [u8],
     pub sent: &'a mut [u8],

@@ -57,9 +57,8 @@ fn unsatisfied_from(code: &Code<'_>, from: CheckAt, symbols: &[u8]) -> Option<Ch
     ensures { SomeNot (lent_code code.now) code.now.degrees.now symbols.now result }
 {
     let count = usize::from(code.numbers.checks);
-    let first = CheckAt { check: 0, edge: 0 };
     match parity::unsatisfied(code, from, count, symbols) {
-        None => parity::unsatisfied(code, first, from.check, symbols),
+        None => parity::unsatisfied(code, CheckAt::FIRST, from.check, symbols),
         behind => behind,
     }
 }
@@ -98,12 +97,8 @@ fn go_on(code: &Code<'_>, most: u16, b: &mut DecodeBuffers<'_>, room: &mut Scrat
     ensures symbols_then { b.new.symbols.now ≡ symbols_of (lent_code code.now) b.new.costs.now }
 {
     let count = usize::from(code.numbers.checks);
-    let mut here = Place {
-        check: 0,
-        edge: 0,
-        byte: 0,
-    };
-    let mut from = CheckAt { check: 0, edge: 0 };
+    let mut here = Place::FIRST;
+    let mut from = CheckAt::FIRST;
     let mut u: u16 = 0;
     // By `loop`: the place of a check comes around, and a test ends it.
     loop {

@@ -26,11 +26,7 @@ pub fn iterate(
         ≡ iteration_lent (lent_code code.now) start (lent costs.old store.old) }
 {
     let count = usize::from(code.numbers.checks);
-    let mut here = Place {
-        check: 0,
-        edge: 0,
-        byte: 0,
-    };
+    let mut here = Place::FIRST;
     // The place that an update answers counts the checks.
     while here.check < count {
         here = place::update_at(code, start, here, costs, store, room);

@@ -76,6 +76,11 @@ pub struct CheckAt {
     pub edge: usize,
 }
 
+impl CheckAt {
+    /// The first check.
+    pub const FIRST: CheckAt = CheckAt { check: 0, edge: 0 };
+}
+
 /// The first check from `from` on and before `to` that the symbols do not satisfy, "the sum of h_n times x_n is 0". Both loops are left
 /// at once, by the label.
 pub fn unsatisfied(code: &Code<'_>, from: CheckAt, to: usize, symbols: &[u8]) -> Option<CheckAt>
@@ -113,8 +118,7 @@ fn holds(code: &Code<'_>, symbols: &[u8]) -> bool
     ensures { result ≡ all_hold (lent_code code.now) symbols.now }
 {
     let count = usize::from(code.numbers.checks);
-    let from = CheckAt { check: 0, edge: 0 };
-    unsatisfied(code, from, count, symbols).is_none()
+    unsatisfied(code, CheckAt::FIRST, count, symbols).is_none()
 }
 
 /// The decisions into the symbol buffer, and whether they satisfy every check.

@@ -17,6 +17,15 @@ pub struct Place {
     pub byte: usize,
 }
 
+impl Place {
+    /// Of the first check.
+    pub const FIRST: Place = Place {
+        check: 0,
+        edge: 0,
+        byte: 0,
+    };
+}
+
 /// One update of the check that stands here; answers where the next one stands.
 pub fn update_at(
     code: &Code<'_>,
@@ -63,11 +72,7 @@ pub fn around(here: Place, count: usize) -> Place
     ensures { Around count here result }
 {
     if here.check == count {
-        return Place {
-            check: 0,
-            edge: 0,
-            byte: 0,
-        };
+        return Place::FIRST;
     }
     here
 }
