@@ -9,6 +9,7 @@ fn lowest(sent: &[u8], q: usize, d: usize, a: usize) -> u8
     ensures { result ≡ lowest_to (sent_of sent.now q a) d }
 {
     let mut e = 255u8;
+    // By place, as the definition names a cost sent.
     for n in 0..d {
         e = e.min(sent[n * q + a]);
     }
@@ -46,6 +47,7 @@ fn pairs(sent: &[u8], q: usize, d: usize, a: usize, e: u8, out: &mut [u8]) -> us
     ensures out_then { out.new ≡ pairs_over e (sent_of sent.now q a) d out.old }
 {
     let mut c = 0;
+    // By place, as the definition names a cost sent.
     for n in 0..d {
         // `as`: d is at most 255, and a conversion that can fail is no plainer.
         c = put_above(out, c, n as u8, sent[n * q + a], e);

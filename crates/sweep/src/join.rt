@@ -27,6 +27,7 @@ fn beside(f: &[u16], after: &[u16], q: usize, n: usize, t: usize, greatest: bool
     ensures { (result ≡ beside_at greatest q f.now after.now n t) × (result ≤ 1024) }
 {
     let mut e = 1024u32;
+    // Cut by hand: the n counts would be cut off first, and then into counts.
     for j in 0..n {
         let a = j * q;
         e = e.min(across(f, &after[a..a + q], t, greatest));
@@ -55,7 +56,7 @@ fn join_at(sides: &Sides<'_>, t: usize) -> u32
     let q = sides.q;
     let k = sides.k;
     let mut e = 1024u32;
-    // To k + 1: of ..=k the last turn is an end of its own, which takes a second proof.
+    // By number, which says how many counts after may join. To k + 1: of ..=k the last turn is an end of its own, which takes a second proof.
     for i in 0..k + 1 {
         let a = i * q;
         e = e.min(beside(

@@ -25,6 +25,7 @@ fn deviation_at(column: &Column<'_>, low: &[u16], t: usize) -> u32
     ensures { (result ≡ deviation_at column.now.greatest column.now.products.now column.now.moves.now low.now t) × (result ≤ 1024) }
 {
     let mut e = 1024u32;
+    // By index: the definition counts the symbols, and a zip would have to be counted beside.
     for (x, &s) in column.products.iter().enumerate() {
         e = e.min(cells::join_of(column.greatest, column.moves[x], low[t ^ usize::from(s)]));
     }
