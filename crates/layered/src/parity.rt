@@ -48,7 +48,7 @@ pub fn margins(costs: &[u16], q: usize, margins: &mut [u16])
     }
 }
 
-// A product of two elements, which is not refused. Beside division's and sweep's: the field says no more than when it is refused.
+// A product of two elements, which is not refused. In sweep too: what the field opens is total, and at each call the proof would stand once more.
 fn times(p: u8, a: u8, b: u8) -> u8
     requires { (2 ≤ p) × ((p ≤ 6) × ((a < 2 ^ p) × (b < 2 ^ p))) }
     ensures { result ≡ product p a b }
