@@ -8,19 +8,12 @@ mod refusals;
 mod send;
 
 ghost use Rattle.std.specs.Prelude.{◌≡◌};
-ghost use Rattle.refusal.specs.Replies.{reply_of, fault_in};
-ghost use Rattle.checknode.specs.Answers.{check_fault, check_reply, check_leaves, messages_reply, messages_leaves, messages_sent};
+ghost use Rattle.refusal.specs.Replies.{reply_of};
+ghost use Rattle.checknode.specs.Answers.{check_reply, check_leaves, messages_reply, messages_leaves, messages_sent};
 
 use accepted::Check;
 use refusal::Refusal;
-
-/// The refusal of a check whose record buffer has `room` bytes: 6, the first byte; 9, degree not 2 to 32; 11, a weight 0 or no element;
-/// 12, cost count; 13, a column without a cost of 0; 4, record buffer too short.
-pub fn validate_check(first: u8, weights: &[u8], costs: &[u8], room: usize) -> Result<(), Refusal>
-    ensures { fault_in result ≡ check_fault first weights.now costs.now room }
-{
-    refusals::validate_check(first, weights, costs, room)
-}
+pub use refusals::validate_check;
 
 /// The record of a check: from the first code byte, d weights and d times q costs, column by column, d + (1 + 2k)(q - 1) bytes. Refused as
 /// `validate_check` says.
