@@ -17,19 +17,12 @@ fn in_16<const G: bool>(q: usize, u: &[u8], w: &[u8], e: &mut [u8])
     let x = take::<G>(u8x16::from_slice(u));
     let y = u8x16::from_slice(w);
     let z = u8x16::from_slice(e);
-    if q == 16 {
-        one::<G>(x, y, z).copy_to_slice(e);
-        return;
+    match q {
+        4 => one_four::<G>(x, y, z).copy_to_slice(e),
+        8 => one_eight::<G>(x, y, z).copy_to_slice(e),
+        12 => one_twelve::<G>(x, y, z).copy_to_slice(e),
+        _ => one::<G>(x, y, z).copy_to_slice(e),
     }
-    if q == 8 {
-        one_eight::<G>(x, y, z).copy_to_slice(e);
-        return;
-    }
-    if q == 4 {
-        one_four::<G>(x, y, z).copy_to_slice(e);
-        return;
-    }
-    one_twelve::<G>(x, y, z).copy_to_slice(e);
 }
 
 fn in_32<const G: bool>(u: &[u8], w: &[u8], e: &mut [u8])
