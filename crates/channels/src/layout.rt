@@ -7,7 +7,7 @@ ghost use Rattle.codeline.specs.Codes.{lent_code};
 use codeline::code::Code;
 
 /// A code, and the lengths of a channel's parts under it: N, N times q, and the M record lengths added up.
-#[derive(Clone, Copy)]
+#[derive(Clone, Copy, Debug, PartialEq, Eq)]
 pub struct Layout<'a> {
     pub code: Code<'a>,
     pub columns: usize,
@@ -25,11 +25,10 @@ pub fn layout_of<'a>(code: &Code<'a>) -> Layout<'a>
 {
     let n = usize::from(code.numbers.columns);
     let q = rules::size(code.numbers.first);
-    let store = frame::used(code.numbers, code.degrees);
     Layout {
         code: *code,
         columns: n,
         costs: n * q,
-        store,
+        store: frame::used(code.numbers, code.degrees),
     }
 }

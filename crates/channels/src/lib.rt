@@ -18,6 +18,7 @@ use crate::answers::Served;
 /// channels are served by number in turn, one iteration each, until every one is finished or the allowance is spent. A channel's status is
 /// 0 found, 1 not found, 13 refused, or 20 spent: still running when nothing was left. Refused as a whole: 21, count not 1 to 8; 22, no
 /// allowance; the code line's 5 to 11; 12, cost count; 2, 3, 4, 19, a buffer shorter than the count times one channel's part.
+// The buffers one by one, as C lends them.
 pub fn decode_channels(
     count: u8,
     allowance: u32,
@@ -32,11 +33,8 @@ pub fn decode_channels(
         (lending symbols.old costs.old store.old margins.old)) result.number result.spent
         result.status result.iterations (lending symbols.new costs.new store.new margins.new) }
 {
-    let served = whole::decode(
+    whole::decode(
         count, allowance, code, frames, symbols, costs, store, margins,
-    );
-    match served {
-        Ok(served) => served,
-        Err(refusal) => whole::refused(refusal),
-    }
+    )
+    .unwrap_or_else(whole::refused)
 }

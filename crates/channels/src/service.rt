@@ -15,11 +15,10 @@ impl Channels<'_> {
         ensures loans { ChannelLoans self.old self.new }
         ensures then { standing_of self.new ≡ loaded_to (code_for layout.now) frames.now count (standing_of self.old) }
     {
+        // By index: the struct is lent on within the turn.
         for c in 0..count {
             let stage = channel::load_at(c, layout, frames, self.symbols, self.costs, self.margins);
-            let status = Status::of(stage);
-            let iterations = self.each[c].iterations;
-            self.each[c] = Channel { status, iterations };
+            self.each[c].status = Status::from(stage);
         }
     }
 
@@ -48,7 +47,7 @@ impl Channels<'_> {
             sent,
         );
         self.each[c] = Channel {
-            status: Status::of(Ok(stage)),
+            status: Status::from(Ok(stage)),
             iterations: iterations + 1,
         };
         self.left -= 1;
@@ -60,6 +59,7 @@ impl Channels<'_> {
         ensures loans { ChannelLoans self.old self.new }
         ensures then { standing_of self.new ≡ round_at (code_for layout.now) count (standing_of self.old) }
     {
+        // By index: the struct is lent on within the turn.
         for c in 0..count {
             self.serve(c, layout, arrived, sent);
         }
@@ -71,6 +71,7 @@ impl Channels<'_> {
         ensures loans { ChannelLoans self.old self.new }
         ensures then { standing_of self.new ≡ rounds_at (code_for layout.now) count self.old.left (standing_of self.old) }
     {
+        // By loop: a round that serves nobody ends it.
         loop {
             let before = self.left;
             self.round(count, layout, arrived, sent);

@@ -8,6 +8,7 @@ use layered::answers::Stage;
 use refusal::Refusal;
 
 /// How far a channel is; absent, where the call has fewer.
+// A type of its own, not Option of a stage or a refusal: C's numbers are given to it here alone.
 #[derive(Clone, Copy, Debug, PartialEq, Eq)]
 pub enum Status {
     Absent,
@@ -17,12 +18,12 @@ pub enum Status {
     Refused(Refusal),
 }
 
-impl Status {
-    /// That of a load or an iteration.
+/// That of a load or an iteration.
+impl From<Result<Stage, Refusal>> for Status {
+    ghost from_gives = { λ stage status. status_number status ≡ status_of (stage_of stage) };
+
     #[tactic(auto, unfolding(crate::specs::inner::Rounds::status_of))]
-    pub fn of(stage: Result<Stage, Refusal>) -> Status
-        ensures { status_number result ≡ status_of (stage_of stage) }
-    {
+    fn from(stage: Result<Stage, Refusal>) -> Status {
         match stage {
             Ok(Stage::Running) => Status::Running,
             Ok(Stage::Found) => Status::Found,
@@ -30,18 +31,22 @@ impl Status {
             Err(refusal) => Status::Refused(refusal),
         }
     }
+}
 
+impl Status {
     pub fn is_running(self) -> bool
         ensures { result ≡ eqb (status_number self) 20 }
     {
         matches!(self, Status::Running)
     }
+}
 
-    /// 20 while running: of a channel that is so at the end, the allowance is spent.
-    pub fn number(self) -> u8
-        ensures { result ≡ status_number self }
-    {
-        match self {
+/// 20 while running: of a channel that is so at the end, the allowance is spent.
+impl From<Status> for u8 {
+    ghost from_gives = { λ status number. number ≡ status_number status };
+
+    fn from(status: Status) -> u8 {
+        match status {
             Status::Absent | Status::Found => 0,
             Status::NotFound => 1,
             Status::Running => 20,
@@ -58,6 +63,7 @@ pub struct Channel {
 }
 
 /// Each channel, what is left of the allowance, and the lent buffers.
+// No copy, no equality: the buffers are lent to be written. All eight stand, absent from the count on, as the answer's arrays do.
 #[derive(Drop)]
 pub struct Channels<'a> {
     pub each: [Channel; sizes::MOST_CHANNELS],

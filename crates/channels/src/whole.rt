@@ -1,4 +1,4 @@
-//! The whole call: its refusals, the code line read once, and the service.
+//! The whole call: its refusals, the code line read once, and the service. The buffers come as the call lends them, one by one.
 ghost use Rattle.std.specs.Prelude.{◌≡◌, ◌≤◌, ◌-◌, Err};
 ghost use Rattle.trellis.specs.Sizes.{most_channels};
 ghost use Rattle.refusal.specs.Replies.{fault_in};
@@ -33,7 +33,7 @@ pub fn refused(refusal: Refusal) -> Served
 fn validate_count(count: u8, allowance: u32) -> Result<(), Refusal>
     ensures { fault_in result ≡ count_fault count allowance }
 {
-    if !(1..=8).contains(&count) {
+    if !(1..=sizes::MOST_CHANNELS).contains(&usize::from(count)) {
         return Err(Refusal::ChannelCount);
     }
     if allowance == 0 {
@@ -76,8 +76,9 @@ impl Channels<'_> {
     {
         let mut status = [0; sizes::MOST_CHANNELS];
         let mut iterations = [0; sizes::MOST_CHANNELS];
+        // By index: of a zip over a slice that is written only the length is known.
         for (i, channel) in self.each.iter().enumerate() {
-            status[i] = channel.status.number();
+            status[i] = u8::from(channel.status);
             iterations[i] = channel.iterations;
         }
         Served {
@@ -104,6 +105,7 @@ impl Channels<'_> {
         let allowance = self.left;
         self.load(count, layout, frames);
         self.rounds(count, layout, &mut arrived, &mut sent);
+        // By as: at most 8 times 255.
         let spent = (allowance - self.left) as u16;
         self.served(spent)
     }
@@ -167,17 +169,18 @@ pub fn decode(
         (lending symbols.new costs.new store.new margins.new) }
 {
     validate_count(count, allowance)?;
+    // The tables are the call's own: a function that read them could not lend them out.
     let mut degrees = [0u8; sizes::MOST_CHECKS];
     let mut columns = [0u16; sizes::MOST_EDGES];
     let mut weights = [0u8; sizes::MOST_EDGES];
     let numbers = codeline::code_tables(code, &mut degrees, &mut columns, &mut weights)?;
-    let read = Code {
+    let accepted = Code {
         numbers,
         degrees: &degrees,
         columns: &columns,
         weights: &weights,
     };
-    let layout = layout::layout_of(&read);
+    let layout = layout::layout_of(&accepted);
     under_code(
         usize::from(count),
         allowance,

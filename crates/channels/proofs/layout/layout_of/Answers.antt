@@ -4,4 +4,4 @@ use Rattle.layered.proofs.Decoded.{used_is}
 use Rattle.channels.proofs.layout.layout_of.Goals as goal
 
 pub invariant_of-result-clause-store_is : goal.invariant_of-result-clause-store_is
-invariant_of-result-clause-store_is c = c.used-store.ensures ∙ used_is c.args.code.now c.args.code.now.numbers.columns refl
+invariant_of-result-clause-store_is c = c.used.ensures ∙ used_is c.args.code.now c.args.code.now.numbers.columns refl

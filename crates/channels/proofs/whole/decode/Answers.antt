@@ -27,8 +27,8 @@ returns-in_err-numbers c =
     let g = refusal_gives r _ _ (line_refused a.code.now c.code_tables.result c.code_tables.ensures.numbers a.count a.allowance x.0 x.1 x.2 r c.in_err-numbers.was a.frames.now (lending a.symbols.now a.costs.now a.store.now a.margins.now)) in
     search (rules, g)
 
-pub invariant_of-read : goal.invariant_of-read
-invariant_of-read c =
+pub invariant_of-accepted : goal.invariant_of-accepted
+invariant_of-accepted c =
     record {
       coded = line-coded c.args.code.now c.code_tables.result c.code_tables.ensures.numbers c.in_ok-numbers.numbers c.in_ok-numbers.was _ _ _ c.code_tables.new.degrees c.code_tables.new.columns c.code_tables.new.weights c.code_tables.ensures.degrees_then c.code_tables.ensures.columns_then c.code_tables.ensures.weights_then;
     }

@@ -18,7 +18,7 @@ loop-c-preserved c =
     let a = c.args in
     let C = code_for a.layout.now in
     let I = c.loop-c.invariant.0 in
-    let e = each_loads c.loop-c.self c.loop-c.c C a.frames.now c.of-status.result _ c.of-status.ensures _ (c.load_at-stage.ensures c.loop-c.self.store.now) in (
+    let e = each_loads c.loop-c.self c.loop-c.c C a.frames.now c.from.result _ c.from.ensures _ (c.load_at-stage.ensures c.loop-c.self.store.now) in (
       record { symbols = I.symbols; costs = I.costs; store = I.store; margins = I.margins },
       subst (λ (l : Standing). Rooms C a.count l) (sym e) (loaded_rooms C a.frames.now a.count (standing_of c.loop-c.self) c.loop-c.invariant.1 c.requires.frames c.loop-c.c (omega (arith, c.loop-c-test, c.loop-c.auto))),
       loads_more C a.frames.now c.loop-c.c _ _ _ e c.loop-c.invariant.2,

@@ -29,4 +29,4 @@ overflow_add-self c =
 
 pub returns-clause-then : goal.returns-clause-then
 returns-clause-then c =
-    each_moves c.args.self.now c.args.c (code_for c.args.layout.now) (sym c.is_running.ensures ∙ c.if-not-is_running.false) c.if-self-eq0.false c.of.result _ c.of.ensures _ c.step_at-stage.ensures
+    each_moves c.args.self.now c.args.c (code_for c.args.layout.now) (sym c.is_running.ensures ∙ c.if-not-is_running.false) c.if-self-eq0.false c.from.result _ c.from.ensures _ c.step_at-stage.ensures
