@@ -1,4 +1,5 @@
 //! Byte 0: "Command 1 loads the lent code and frame and runs the first test; 2 runs one iteration if running; 3 clears pending".
+//! The buffers come as the call lends them, one by one: of a part of a struct's field the check knows only the length.
 ghost use Rattle.std.specs.Prelude.{◌≡◌};
 ghost use Rattle.machine.specs.Decoding.{lending};
 ghost use Rattle.window.specs.Window.{load, second, command};
@@ -40,6 +41,7 @@ fn iterated(
         ≡ second code.now frame.now
         (window_of window (lending symbols.old costs.old store.old margins.old)) }
 {
+    // By as: the case's number.
     if window.state != State::Running as u8 || window.iterations == 255 {
         return window;
     }

@@ -1,6 +1,7 @@
 //! The registers.
 
 /// Bytes 1 to 5, in their order; all 0 is the idle window. Byte 0, the command, holds nothing.
+// Numbers, since C takes them so.
 #[repr(C)]
 #[derive(Clone, Copy, Debug, PartialEq, Eq, Default)]
 pub struct Registers {

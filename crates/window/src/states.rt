@@ -29,17 +29,18 @@ fn bit_for(state: State) -> u8
     }
 }
 
-// A state that a load or an iteration enters, "even from that same state", with bytes 2 and 3; "mask and pending are kept".
+// A state that a load or an iteration enters, "even from that same state", with bytes 2 and 3; "mask and pending are kept". State and
+// number stand apart, as the registers hold them.
 #[tactic(auto, unfolding(crate::specs::Window::setting))]
 fn entering(window: Registers, state: State, number: u8, t: u8) -> Registers
     ensures { bytes_of result ≡ entering (state_number state) number t (bytes_of window) }
 {
-    let bit = bit_for(state);
     Registers {
+        // By as: the case's number.
         state: state as u8,
         refusal: number,
         iterations: t,
-        pending: window.pending | bit,
+        pending: window.pending | bit_for(state),
         ..window
     }
 }
