@@ -10,14 +10,15 @@ fn both(a: u8, b: u8) -> u16
     u16::from(a) + u16::from(b)
 }
 
+// Of two lists of bytes: layered's least is of costs beside scaled bytes, with another term.
 #[tactic(auto, unfolding(crate::specs::inner::Columns::least_both))]
 fn least(first: &[u8], second: &[u8]) -> u16
     requires { length second.now ≡ length first.now }
     ensures { result ≡ least_both first.now second.now (length first.now) }
 {
     let mut least = 1000u16;
-    for (i, &a) in first.iter().enumerate() {
-        least = least.min(both(a, second[i]));
+    for (&a, &b) in first.iter().zip(second) {
+        least = least.min(both(a, b));
     }
     least
 }
@@ -27,10 +28,11 @@ fn combine_column(first: &[u8], second: &[u8], out: &mut [u8])
     requires { (length second.now ≡ length first.now) × ((length out.old ≡ length first.now) × (0 < length first.now)) }
     ensures { out.new ≡ combined_column (length first.now) first.now second.now }
 {
-    let least = least(first, second);
+    let low = least(first, second);
     // By index: of a zip over a slice that is written only the length is known.
     for (i, x) in out.iter_mut().enumerate() {
-        *x = (both(first[i], second[i]) - least).min(255) as u8;
+        // By as: at most 255.
+        *x = (both(first[i], second[i]) - low).min(255) as u8;
     }
 }
 

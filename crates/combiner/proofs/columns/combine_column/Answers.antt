@@ -11,4 +11,4 @@ overflow_sub-both c =
 pub returns : goal.returns
 returns c =
     let a = c.args in
-    column-done a.first.now a.second.now c.loop-i.out c.least-least.result c.loop-i.i c.requires.1.1 (λ x. omega (arith, c.type_inv.first x, c.type_inv.second x)) (omega arith) (omega arith) c.least-least.ensures c.loop-i.invariant.1
+    column-done a.first.now a.second.now c.loop-i.out c.least-low.result c.loop-i.i c.requires.1.1 (λ x. omega (arith, c.type_inv.first x, c.type_inv.second x)) (omega arith) (omega arith) c.least-low.ensures c.loop-i.invariant.1

@@ -7,4 +7,4 @@ use Rattle.machine.specs.Combining.{both_costs}
 use Rattle.combiner.proofs.columns.combine_column.Given as goal
 
 abbrev pub invariant-loop-i : goal.invariant-loop-i
-invariant-loop-i l = (length l.out ≡ length l.initial.out) × (take l.i l.out ≡ tab (λ (x : ℕ). min 255 (both_costs l.first l.second x - l.least)) l.i)
+invariant-loop-i l = (length l.out ≡ length l.initial.out) × (take l.i l.out ≡ tab (λ (x : ℕ). min 255 (both_costs l.first l.second x - l.low)) l.i)
