@@ -1,5 +1,5 @@
 //! Text: a line of hexadecimal digits, the printed line of a frame, and the program's whole output, block by block. No input or output is
-//! done here.
+//! done here. Each call's contract stands here again, so that all that the crate promises is read in one file.
 #![tactic(auto)]
 
 mod cut;
@@ -39,6 +39,7 @@ pub fn frame_line(code: &[u8], text: &[u8], out: &mut [u8; sizes::MOST_PRINTED])
 
 /// One block of the input, its first n bytes: what is kept after it, and in `out` what is printed for it, `full` bytes. The longest is 512
 /// and five for each byte of the block.
+// A whole block and a count, and the buffers one by one: the public call has them so.
 pub fn feed(
     st: State,
     block: &[u8; sizes::MOST_BLOCK],

@@ -11,7 +11,7 @@ use crate::state::State;
 use crate::{hex, print};
 
 // Puts a row into the output.
-fn put(row: &[u8], out: &mut [u8], full: usize) -> usize
+fn append(row: &[u8], out: &mut [u8], full: usize) -> usize
     requires { full + length row.now ≤ length out.old }
     ensures written { result ≡ full + length row.now }
     ensures out_then { out.new ≡ put_at out.old full row.now }
@@ -22,14 +22,14 @@ fn put(row: &[u8], out: &mut [u8], full: usize) -> usize
 }
 
 // Prints what print::frame_line gives, and returns how many bytes are then printed.
-fn print(code: &[u8], text: &[u8], out: &mut [u8], full: usize) -> usize
+fn append_line(code: &[u8], text: &[u8], out: &mut [u8], full: usize) -> usize
     requires { full + length (frame_line code.now text.now) ≤ length out.old }
     ensures written { result ≡ full + length (frame_line code.now text.now) }
     ensures out_then { out.new ≡ put_at out.old full (frame_line code.now text.now) }
 {
     let mut row = [0u8; sizes::MOST_PRINTED];
     let n = print::frame_line(code, text, &mut row);
-    put(&row[..n], out, full)
+    append(&row[..n], out, full)
 }
 
 // The bytes of the code line; none if the line is refused.
@@ -68,7 +68,7 @@ fn finish_code(text: &[u8], code: &mut [u8], out: &mut [u8], full: usize) -> Sta
             full,
         };
     }
-    let full = print(&code[..n], text, out, full);
+    let full = append_line(&code[..n], text, out, full);
     State {
         len: 0,
         code: 0,
@@ -92,6 +92,6 @@ pub fn finish_line(st: State, line: &[u8], code: &mut [u8], out: &mut [u8]) -> S
         return finish_code(&line[..t], code, out, st.full);
     }
     let k = st.code.min(sizes::MOST_LINE_BYTES);
-    let full = print(&code[..k], &line[..t], out, st.full);
+    let full = append_line(&code[..k], &line[..t], out, st.full);
     State { len: 0, full, ..st }
 }

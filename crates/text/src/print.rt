@@ -60,6 +60,7 @@ fn answer(a: Result<Outcome, Refusal>, symbols: &[u8], out: &mut [u8]) -> usize
 {
     match a {
         Err(refusal) => put_line(u8::from(refusal), 0, &[], out),
+        // By as: t is at most 255.
         Ok(Outcome::Found(t)) => put_line(0, t as u8, symbols, out),
         Ok(Outcome::NotFound(t)) => put_line(1, t as u8, symbols, out),
     }

@@ -22,19 +22,19 @@ returns-then-accepted c =
       out_then = e.3;
     }
 
-pub slice_bounds-print-end-2 : goal.slice_bounds-print-end-2
-slice_bounds-print-end-2 c =
+pub slice_bounds-append_line-end-2 : goal.slice_bounds-append_line-end-2
+slice_bounds-append_line-end-2 c =
     let long : c.code_bytes-n.result ≤ length c.code_bytes-n.new.code = row-long (code_bytes c.args.text.now) c.args.code.now _ _ c.code_bytes-n.ensures.written.0 c.code_bytes-n.ensures.code_then in
     simp length-take (omega (arith, long))
 
-pub print-full-requires : goal.print-full-requires
-print-full-requires c =
+pub append_line-full-requires : goal.append_line-full-requires
+append_line-full-requires c =
     let e = refused-front c.args.text.now c.args.code.now _ _ c.code_bytes-n.ensures.written.0 c.code_bytes-n.ensures.code_then (sym c.accepted.ensures ∙ c.if-accepted.false) in
     rw e at c.requires.1
 
 pub returns : goal.returns
 returns c =
-    let e = refused_turn c.args.text.now c.args.code.now _ _ c.code_bytes-n.ensures.written.0 c.code_bytes-n.ensures.code_then c.args.out.now _ c.args.full _ (sym c.accepted.ensures ∙ c.if-accepted.false) c.print-full.ensures.written c.print-full.ensures.out_then in
+    let e = refused_turn c.args.text.now c.args.code.now _ _ c.code_bytes-n.ensures.written.0 c.code_bytes-n.ensures.code_then c.args.out.now _ c.args.full _ (sym c.accepted.ensures ∙ c.if-accepted.false) c.append_line-full.ensures.written c.append_line-full.ensures.out_then in
     record {
       held = (refl, (e.0, e.1));
       full = e.2;

@@ -24,14 +24,14 @@ returns-then-st-eq0 c =
       out_then = c.finish_code.ensures.out_then ∙ ap (put_at c.args.out.now c.args.st.full) (sym e);
     }
 
-pub slice_bounds-print-end-2 : goal.slice_bounds-print-end-2
-slice_bounds-print-end-2 c = simp length-take (omega arith)
+pub slice_bounds-append_line-end-2 : goal.slice_bounds-append_line-end-2
+slice_bounds-append_line-end-2 c = simp length-take (omega arith)
 
-pub slice_bounds-print-end-3 : goal.slice_bounds-print-end-3
-slice_bounds-print-end-3 c = simp length-take (omega arith)
+pub slice_bounds-append_line-end-3 : goal.slice_bounds-append_line-end-3
+slice_bounds-append_line-end-3 c = simp length-take (omega arith)
 
-pub print-full-requires : goal.print-full-requires
-print-full-requires c =
+pub append_line-full-requires : goal.append_line-full-requires
+append_line-full-requires c =
     let e = later-out c.args.st.len c.args.st.code c.args.st.ended c.args.line.now c.args.code.now _ c.min-t.ensures c.requires.0 c.requires.1.1.0 c.if-st-eq0.false _ c.min-k.ensures c.requires.1.0 in
     rw e at c.requires.1.1.1
 
@@ -40,6 +40,6 @@ returns c =
     let e = later-out c.args.st.len c.args.st.code c.args.st.ended c.args.line.now c.args.code.now _ c.min-t.ensures c.requires.0 c.requires.1.1.0 c.if-st-eq0.false _ c.min-k.ensures c.requires.1.0 in
     record {
       held = later-held c.args.st.len c.args.st.code c.args.st.ended c.args.line.now c.args.code.now _ c.min-t.ensures c.requires.0 c.requires.1.1.0 c.if-st-eq0.false;
-      full = c.print-full.ensures.written ∙ ap (λ x. c.args.st.full + length x) (sym e);
-      out_then = c.print-full.ensures.out_then ∙ ap (put_at c.args.out.now c.args.st.full) (sym e);
+      full = c.append_line-full.ensures.written ∙ ap (λ x. c.args.st.full + length x) (sym e);
+      out_then = c.append_line-full.ensures.out_then ∙ ap (put_at c.args.out.now c.args.st.full) (sym e);
     }
