@@ -5,6 +5,9 @@
 use refusal::Refusal;
 use std::io;
 
+// Sixty-three groups of seven bytes and thirty-two shifts.
+const MOST_RECORD: usize = 63 * 7 + 32;
+
 fn print_refusal(rt: &impl Print, refusal: Refusal) -> io::Result<()> {
     let number = u8::from(refusal);
     println!(rt; "refused {number}")
@@ -19,7 +22,7 @@ fn product_case(rt: &impl Print, p: u8, a: u8, b: u8) -> io::Result<()> {
 
 // What a check writes, or its refusal.
 fn record_case(rt: &impl Print, first: u8, weights: &[u8], costs: &[u8]) -> io::Result<()> {
-    let mut record = [0u8; 473];
+    let mut record = [0u8; MOST_RECORD];
     let answer = checknode::check(first, weights, costs, &mut record);
     print_record(rt, answer, &record)
 }
@@ -40,7 +43,7 @@ fn print_record(rt: &impl Print, answer: Result<usize, Refusal>, record: &[u8]) 
 // A check of d columns of cost 0, weights 1, and the expansion of its record (of no record where the check is refused): how many bytes each
 // writes, or its refusal.
 fn degree_case(rt: &impl Print, weights: &[u8], costs: &[u8]) -> io::Result<()> {
-    let mut record = [0u8; 473];
+    let mut record = [0u8; MOST_RECORD];
     let answer = checknode::check(2, weights, costs, &mut record);
     print_count(rt, answer)?;
     let n = answer.unwrap_or(0).min(record.len());

@@ -1,5 +1,5 @@
 //! The public calls for C and Rust, with what each answers packed in a number: include/petsivola.h has each with its parameters. The crate
-//! petsivola_c exports them to C.
+//! petsivola_c exports them to C. A contract is that of the call below, with the answer packed; the buffers come one by one, as C lends them.
 #![tactic(auto)]
 
 ghost use Rattle.std.specs.Prelude.{◌≡◌, ◌≤◌};
@@ -36,6 +36,7 @@ fn packed(answer: Result<usize, Refusal>) -> u32
     ensures { Packs result (reply_of answer) }
 {
     match answer {
+        // By as: at most 16384, says the clause.
         Ok(n) => n as u32,
         Err(refusal) => u32::from(u8::from(refusal)) * 65536,
     }

@@ -1,5 +1,5 @@
 //! The fifteen calls of include/petsivola.h: each is the call of the same name in the crate petsivola, with its promises. A slice is a
-//! pointer and a length.
+//! pointer and a length. The contracts stand here again: it is these that C's calls keep.
 #![tactic(auto)]
 
 ghost use Rattle.std.specs.Prelude.{◌≡◌};
