@@ -31,15 +31,18 @@ fn read_edge(line: &mut Reader<'_>, n: usize, q: usize, low: usize) -> Result<Ed
     Ok(Edge { column, weight })
 }
 
-// "then 10 and 11 edge by edge": `count` edges, behind those that the tables have.
+// "then 10 and 11 edge by edge": `count` edges, behind the `from` edges that the tables have. That count is handed down, here and below: a
+// table that is only written need not be cleared where nobody reads it.
 #[tactic(auto, using(crate::proofs::Parsing::edges_bad, crate::proofs::Parsing::edges_more, crate::proofs::Parsing::edges_done))]
 fn edges(
     line: &mut Reader<'_>,
     count: usize,
     n: usize,
     q: usize,
+    from: usize,
     tables: &mut Tables,
 ) -> Result<(), Refusal>
+    requires counted { from ≡ tables.old.edges }
     requires left { line.old.at + 3 * count ≤ length line.old.src.now }
     requires room { tables.old.edges + count ≤ most_edges }
     ensures read { edges_read result tables.new ≡ edges_into count line.old.src.now line.old.at n q 0 (put_columns tables.old) (put_weights tables.old) }
@@ -49,17 +52,25 @@ fn edges(
     ensures degrees { tables.new.degrees ≡ tables.old.degrees }
 {
     let mut low = 0;
-    for _ in 0..count {
+    for i in 0..count {
         let edge = read_edge(line, n, q, low)?;
-        tables.push(edge);
+        tables.put(from + i, edge);
         low = usize::from(edge.column) + 1;
     }
+    tables.edges = from + count;
     Ok(())
 }
 
 // "in each check 5 for the degree byte, 9, 5 for its edges": one check, behind the edges that the tables have.
 #[tactic(auto, unfolding(machine::specs::inner::Tables::check_into))]
-fn check(line: &mut Reader<'_>, n: usize, q: usize, tables: &mut Tables) -> Result<u8, Refusal>
+fn check(
+    line: &mut Reader<'_>,
+    n: usize,
+    q: usize,
+    from: usize,
+    tables: &mut Tables,
+) -> Result<u8, Refusal>
+    requires counted { from ≡ tables.old.edges }
     ensures read { check_read result tables.new ≡ check_into line.old.src.now line.old.at n q tables.old.edges (put_columns tables.old) (put_weights tables.old) }
     ensures degree { IfOk result (λ d. d ≡ get_or line.old.src.now line.old.at 0) }
     ensures src { line.new.src ≡ line.old.src }
@@ -72,13 +83,13 @@ fn check(line: &mut Reader<'_>, n: usize, q: usize, tables: &mut Tables) -> Resu
     }
     let degree = line.byte();
     let d = usize::from(degree);
-    if !(2..=sizes::MOST_DEGREE).contains(&d) || tables.edges + d > sizes::MOST_EDGES {
+    if !(2..=sizes::MOST_DEGREE).contains(&d) || from + d > sizes::MOST_EDGES {
         return Err(Refusal::Degree);
     }
     if line.left() < 3 * d {
         return Err(Refusal::CodeLength);
     }
-    edges(line, d, n, q, tables)?;
+    edges(line, d, n, q, from, tables)?;
     Ok(degree)
 }
 
@@ -94,9 +105,12 @@ pub fn checks(line: &mut Reader<'_>, numbers: Numbers, tables: &mut Tables) -> R
 {
     let n = usize::from(numbers.columns);
     let q = rules::size(numbers.first);
+    let mut edges = 0;
     // By index: the tables are lent on within the turn.
     for m in 0..usize::from(numbers.checks) {
-        tables.degrees[m] = check(line, n, q, tables)?;
+        let degree = check(line, n, q, edges, tables)?;
+        tables.degrees[m] = degree;
+        edges += usize::from(degree);
     }
     if line.left() != 0 {
         return Err(Refusal::CodeLength);

@@ -1,7 +1,32 @@
 //! "The line is read front to back, each field once": a reader holds the code line and a place in it, and each read moves it behind the field.
-//! SPEC 4.2, 4.6.
+//! It is thin over functions on slice and number. SPEC 4.2, 4.6, 10.8.
 ghost use Rattle.std.specs.Prelude.{◌≡◌, ◌+◌, ◌-◌, ◌<◌, ◌≤◌, length, get_or};
 ghost use Rattle.machine.specs.CodeLine.{word_at};
+
+// The work, on slice and number: the byte at a place.
+fn byte_at(s: &[u8], at: usize) -> u8
+    requires { at < length s.now }
+    ensures { result ≡ get_or s.now at 0 }
+{
+    s[at]
+}
+
+// "Two bytes, high first", from a place on.
+fn word_at(s: &[u8], at: usize) -> u16
+    requires { at + 1 < length s.now }
+    ensures { result ≡ word_at s.now at }
+{
+    let high = byte_at(s, at);
+    let low = byte_at(s, at + 1);
+    u16::from(high) * 256 + u16::from(low)
+}
+
+// How many bytes are left from a place on.
+fn left_at(s: &[u8], at: usize) -> usize
+    ensures { result ≡ length s.now - at }
+{
+    s.len().saturating_sub(at)
+}
 
 #[derive(Clone, Copy, Debug, PartialEq, Eq)]
 pub struct Reader<'a> {
@@ -23,7 +48,7 @@ impl<'a> Reader<'a> {
     pub fn left(&self) -> usize
         ensures { result ≡ length self.now.src.now - self.now.at }
     {
-        self.src.len() - self.at
+        left_at(self.src, self.at)
     }
 
     pub fn byte(&mut self) -> u8
@@ -32,7 +57,7 @@ impl<'a> Reader<'a> {
         ensures src { self.new.src ≡ self.old.src }
         ensures at { self.new.at ≡ self.old.at + 1 }
     {
-        let byte = self.src[self.at];
+        let byte = byte_at(self.src, self.at);
         self.at += 1;
         byte
     }
@@ -44,8 +69,8 @@ impl<'a> Reader<'a> {
         ensures src { self.new.src ≡ self.old.src }
         ensures at { self.new.at ≡ self.old.at + 2 }
     {
-        let high = self.byte();
-        let low = self.byte();
-        u16::from(high) * 256 + u16::from(low)
+        let word = word_at(self.src, self.at);
+        self.at += 2;
+        word
     }
 }

@@ -11,7 +11,7 @@ pub struct Edge {
     pub weight: u8,
 }
 
-/// Room for the largest code, and how many edges were put so far. Behind these the tables hold anything.
+/// Room for the largest code, and how many of the edges that were put count. Behind these the tables hold anything.
 // Columns and weights apart, as the call lends them; a count beside them, since there is no heap for a list that grows.
 #[derive(Clone, Copy, Debug, PartialEq, Eq)]
 pub struct Tables {
@@ -36,17 +36,16 @@ impl Tables {
         }
     }
 
-    /// One edge behind the others.
-    pub fn push(&mut self, edge: Edge)
-        requires { self.old.edges < most_edges }
-        ensures columns { put_columns self.new ≡ put_columns self.old ++ (edge.column ∷ []) }
-        ensures weights { put_weights self.new ≡ put_weights self.old ++ (edge.weight ∷ []) }
-        ensures edges { self.new.edges ≡ self.old.edges + 1 }
+    /// One edge at a place. Who puts edges sets the count behind the last: with a count in each turn, a turn would wait for the one before.
+    pub fn put(&mut self, at: usize, edge: Edge)
+        requires { at < most_edges }
+        ensures columns { take (at + 1) self.new.columns ≡ take at self.old.columns ++ (edge.column ∷ []) }
+        ensures weights { take (at + 1) self.new.weights ≡ take at self.old.weights ++ (edge.weight ∷ []) }
+        ensures edges { self.new.edges ≡ self.old.edges }
         ensures degrees { self.new.degrees ≡ self.old.degrees }
     {
-        self.columns[self.edges] = edge.column;
-        self.weights[self.edges] = edge.weight;
-        self.edges += 1;
+        self.columns[at] = edge.column;
+        self.weights[at] = edge.weight;
     }
 
     /// What was read of an accepted line, in front of what the lent tables hold: three, as the public call takes them.
@@ -63,8 +62,8 @@ impl Tables {
         ensures weights_then { weights.new ≡ put_weights self.now ++ drop self.now.edges weights.old }
     {
         let m = usize::from(numbers.checks);
-        degrees[..m].copy_from_slice(&self.degrees[..m]);
-        columns[..self.edges].copy_from_slice(&self.columns[..self.edges]);
-        weights[..self.edges].copy_from_slice(&self.weights[..self.edges]);
+        slices::copy(&self.degrees[..m], &mut degrees[..m]);
+        slices::copy(&self.columns[..self.edges], &mut columns[..self.edges]);
+        slices::copy(&self.weights[..self.edges], &mut weights[..self.edges]);
     }
 }

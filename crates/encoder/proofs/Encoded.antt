@@ -4,7 +4,7 @@ use mathlib.Core.List.{List, ◌++◌}
 use Prim.Native.Nat.{ℕ, ◌+◌, ◌≤◌}
 use native.Mathlib.Omega.{arith}
 use lib.ListN.{length, take, drop, length-append, length-drop, length-take, get_or-append}
-use lib.Seq.{take_at, take-append-add, drop-append-add, drop-drop}
+use lib.Seq.{take_at, take-append-add, drop-append-add, drop-drop, length-take-le}
 use borrow.Author.Tests.{eq-eqb, ne_eqb}
 use Rattle.trellis.specs.Reply.{accepted, refusal}
 use Rattle.machine.specs.CodeLine.{good, Code, numbers_of, parse}
@@ -18,6 +18,8 @@ use Rattle.refusal.specs.Numbers.{number_of}
 use Rattle.std.specs.Prelude.{Result, Err}
 use Rattle.codeline.specs.Answers.{header_numbers}
 use Rattle.codeline.proofs.Answered.{header_refused}
+use Rattle.slices.specs.Copies.{copied_to}
+use Rattle.slices.proofs.Copies.{copied_is}
 use Rattle.encoder.specs.inner.Rooms.{FillRoom}
 
 -- a call under a code that was read, of which n is N
@@ -36,7 +38,10 @@ module _ (K : LentCode) (u out : List ℕ) where
     call_room = let f = encode_none C u (length out) (sym no_fault) in (omega (arith, f.3, split-n), omega (arith, f.3))
 
     -- after the copy of the message
-    module _ (v : List ℕ) (same : v ≡ u) where
+    module _ (v : List ℕ) (copied : v ≡ copied_to u (take (length u) out)) where
+      same : v ≡ u
+      same = copied_is u (take (length u) out) v (sym (length-take-le (length u) out call_room.0)) copied
+
       pub kept_room : n ≤ length (v ++ drop (length u) out)
       kept_room = rw same (simp (length-append, length-drop) (omega (arith, call_room)))
 

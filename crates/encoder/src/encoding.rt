@@ -40,7 +40,7 @@ pub fn under_code(code: &Code<'_>, message: &[u8], symbols: &mut [u8]) -> Result
     validate(code, message, symbols.len())?;
     let n = usize::from(code.numbers.columns);
     let w = message.len();
-    symbols[..w].copy_from_slice(message);
+    slices::copy(message, &mut symbols[..w]);
     fill::fill(code, w, &mut symbols[..n]);
     Ok(n)
 }

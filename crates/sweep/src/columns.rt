@@ -125,7 +125,7 @@ pub fn fill(check: &Check<'_>, direction: Direction, cells: &mut [u16], table: &
     // Cut by hand: of the chunks of a slice that is written only the length is known.
     for i in 1..d {
         let b = i * w;
-        cells.copy_from_slice(&table[b - w..b]);
+        slices::copy(&table[b - w..b], cells);
         turn(
             check,
             order(direction, d, i - 1),

@@ -26,7 +26,7 @@ fn keep(st: State, part: &[u8], line: &mut [u8]) -> State
     }
     let n = part.len().min(sizes::LINE_ROOM - len);
     let e = len + n;
-    line[len..e].copy_from_slice(&part[..n]);
+    slices::copy(&part[..n], &mut line[len..e]);
     State { len: e, ..st }
 }
 

@@ -17,7 +17,7 @@ fn append(row: &[u8], out: &mut [u8], full: usize) -> usize
     ensures out_then { out.new ≡ put_at out.old full row.now }
 {
     let e = full + row.len();
-    out[full..e].copy_from_slice(row);
+    slices::copy(row, &mut out[full..e]);
     e
 }
 

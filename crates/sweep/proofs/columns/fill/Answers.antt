@@ -4,7 +4,8 @@ use mathlib.Core.List.{List}
 use Prim.Native.Nat.{ℕ, ◌+◌, ◌-◌, ◌*◌, ◌≤◌, ◌<◌}
 use native.Mathlib.Omega.{arith}
 use borrow.Author.Rules.{rules}
-use lib.ListN.{length, take, drop, length-take}
+use lib.ListN.{length, take, drop, length-take, length-drop}
+use Rattle.slices.proofs.Copies.{copied_is}
 use Rattle.trellis.specs.Ready.{Ready}
 use Rattle.sweep.specs.Kept.{cell_count}
 use Rattle.sweep.specs.inner.Cells.{is_back}
@@ -49,9 +50,10 @@ loop-i-preserved c =
     let t : List ℕ = c.loop-i.table in
     let inv = c.loop-i.invariant in
     let back : Bool = (is_back c.args.direction) in
-    let e : c.copy_from_slice.new.self ≡ take (i * w - (i * w - w)) (drop (i * w - w) t) = search rules in
+    let part : length (take (i * w - (i * w - w)) (drop (i * w - w) t)) ≡ length c.loop-i.cells = simp (length-take, length-drop) (omega (arith, in_table, count, inv.0, part_room 0 i w (omega arith))) in
+    let e = copied_is (take (i * w - (i * w - w)) (drop (i * w - w) t)) c.loop-i.cells c.copy.new.to part c.copy.ensures in
     let copied = table_copied first ws cs ready back i some w count t inv.1.1 e in
     let n = c.order.ensures.0 in
     let k = table_turn first ws cs ready back i some w count c.order.result below n (c.order.ensures.1) copied c.turn.ensures in
     let m = next-length first ws cs ready back i some w count t in_table k in
-    (omega (arith, c.copy_from_slice.auto, inv.0), (m ∙ inv.1.0, table-next first ws cs ready back i some w count t inv.1.1 k))
+    (omega (arith, c.copy.auto, inv.0), (m ∙ inv.1.0, table-next first ws cs ready back i some w count t inv.1.1 k))

@@ -1,5 +1,8 @@
 -- A full line stays as it is; another one takes what it has room for.
 use mathlib.Core.Path.{refl}
+use native.Mathlib.Omega.{arith}
+use lib.ListN.{take, length-take, length-drop}
+use Rattle.slices.proofs.Copies.{copied_is}
 use Rattle.text.proofs.Parts.{keep-none, keep_some}
 use Rattle.text.proofs.cut.keep.Goals as goal
 
@@ -13,6 +16,6 @@ returns-then-len-ge-LINE_ROOM c =
 pub returns : goal.returns
 returns c =
     record {
-      held = λ x. keep_some c.args.st.len c.args.st.code c.min-n.result c.args.st.ended c.args.line.now x c.args.part.now _ c.min-n.ensures c.copy_from_slice.ensures.after;
+      held = λ x. keep_some c.args.st.len c.args.st.code c.min-n.result c.args.st.ended c.args.line.now x c.args.part.now _ c.min-n.ensures (copied_is (take c.min-n.result c.args.part.now) _ _ (simp (length-take, length-drop) (omega (arith, c.min-n.ensures, c.requires, c.if-len-ge-LINE_ROOM.false))) c.copy.ensures);
       full = (refl, refl);
     }
