@@ -58,6 +58,15 @@ module _ (p h : ℕ) {b c : ℕ} (eb : b ≡ doubled p h) (ec : c ≡ doubled p 
       let f : y / 2 / 2 ≡ y / 4 = omega arith in
       rw (product-step p h y k, ← eb, product-step p b (y / 2) (omega arith), ← ec, f)
 
+  -- the first of each four products of a row of at most eight
+  base-is : (x : ℕ) {base : ℕ} → x % 4 ≡ 0 → x < 8 → x < 2 ^ p → base ≡ cond (eqb x 0) 0 c → base ≡ product p h x
+  base-is zero m l k e = e ∙ sym (product-zero p p h)
+  base-is (suc y) m l k e =
+      let f : suc y ≡ 4 = omega arith in
+      let o : 1 < 2 ^ p = omega arith in
+      let u : product p c 1 ≡ c = rw (product-step p c 1 o, product-zero p p (doubled p c)) (xor_right c) in
+      e ∙ sym (product-two (suc y) k ∙ rw (f, u, xor-zero c) (xor-zero c))
+
   -- four products from the first of them
   module _ (x : ℕ) (m : x % 4 ≡ 0) (k : x + 4 ≤ 2 ^ p) where
     product-by : (r s : ℕ) → r < 2 → s < 2
@@ -96,6 +105,15 @@ values_turn f l v a m e u o y =
     let d : drop a (tab f a ++ drop a l) ≡ drop a l = drop_at (tab f a) (drop a l) a (length-tab f a) in
     let k : drop m (drop a l) ≡ drop (a + m) l = drop-drop m a l in
     rw (u, o, y, s, t, d, k) (sym (append_assoc (tab f a) (tab (λ i. f (a + i)) m) _) ∙ ap (λ x. x ++ drop (a + m) l) (tab-add f a m))
+
+-- four products more
+pub fours_turn : (p h x : ℕ) (l row : List ℕ) {b c base : ℕ} {r : List ℕ} → b ≡ doubled p h → c ≡ doubled p b → x % 4 ≡ 0 → x < 8
+    → x + 4 ≤ 2 ^ p → row ≡ tab (product p h) x ++ drop x l → base ≡ cond (eqb x 0) 0 c
+    → r ≡ base ∷ xor base h ∷ xor base b ∷ xor base (xor h b) ∷ []
+    → take x row ++ (r ++ drop (x + 4 - x) (drop x row)) ≡ tab (product p h) (x + 4) ++ drop (x + 4) l
+fours_turn p h x l row eb ec m i k e o s =
+    let first = base-is p h eb ec x m i (omega arith) o in
+    values_turn (product p h) l row x 4 (x + 4) refl e (s ∙ four_products p h eb ec x m k first)
 
 -- a row of four, and one of eight: its second four begins with c, the product of 4
 module _ (p h : ℕ) {b : ℕ} (eb : b ≡ doubled p h) (row : List ℕ) {r : List ℕ} (o : r ≡ 0 ∷ xor 0 h ∷ xor 0 b ∷ xor 0 (xor h b) ∷ []) where

@@ -59,9 +59,11 @@ fn by_fours(p: u8, h: u8, row: &mut [u8])
     ensures { row.new ≡ tab (product p h) (2 ^ p) }
 {
     let b = field::double(p, h);
+    // c beside b, used or not: in the branch it takes longer.
+    let c = field::double(p, b);
     put_four(0, h, b, &mut row[..4]);
     if row.len() == 8 {
-        put_four(field::double(p, b), h, b, &mut row[4..]);
+        put_four(c, h, b, &mut row[4..]);
     }
 }
 
@@ -91,6 +93,16 @@ fn each_row(p: u8, q: usize, weights: &[u8], out: &mut [u8])
     }
 }
 
+// The rows from the table. Apart from its caller, which would clear the table's room for every p.
+#[inline(never)]
+fn from_table(weights: &[u8], out: &mut [u8])
+    requires factors { Factors 6 weights.now }
+    requires out_len { length out.old ≡ length weights.now * 64 }
+    ensures { out.new ≡ blocks (row_of 6 weights.now) (length weights.now) }
+{
+    table::rows_from(&table::products(), weights, out);
+}
+
 /// From the table where it is taken, else each row by itself.
 pub fn fill(p: u8, weights: &[u8], out: &mut [u8])
     requires factors { Factors p weights.now }
@@ -98,7 +110,7 @@ pub fn fill(p: u8, weights: &[u8], out: &mut [u8])
     ensures { out.new ≡ blocks (row_of p weights.now) (length weights.now) }
 {
     if table::taken(p, weights.len()) {
-        table::rows_from(&table::products(), weights, out);
+        from_table(weights, out);
     } else {
         each_row(p, usize::from(field::size(p)), weights, out);
     }

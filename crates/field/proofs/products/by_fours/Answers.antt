@@ -10,7 +10,7 @@ pub returns-then-row-eq8 : goal.returns-then-row-eq8
 returns-then-row-eq8 c =
     let a = c.args in
     let e : 2 ^ a.p ≡ 8 = omega (arith, c.requires.row_len.0) in
-    row_eight a.p a.h c.double-b.ensures.0 a.row.now c.put_four.ensures e (omega arith) c.double.ensures.0 c.put_four-then-row-eq8.ensures (omega arith)
+    row_eight a.p a.h c.double-b.ensures.0 a.row.now c.put_four.ensures e (omega arith) c.double-c.ensures.0 c.put_four-then-row-eq8.ensures (omega arith)
 
 pub returns-else-row-eq8 : goal.returns-else-row-eq8
 returns-else-row-eq8 c =
