@@ -32,7 +32,8 @@ fn nibble(b: u8) -> u8
     requires { is_digit b ≡ true }
     ensures { (result ≡ digit b) × (result < 16) }
 {
-    value(b).unwrap()
+    // Not by `unwrap`: only a loop that nothing leaves early becomes vectors.
+    value(b).unwrap_or(0)
 }
 
 // "two a byte".
