@@ -48,6 +48,23 @@ pub fn margins(costs: &[u16], q: usize, margins: &mut [u16])
     }
 }
 
+/// The symbol and the margin of each column: one decision gives both.
+pub fn symbols_and_margins(costs: &[u16], q: usize, symbols: &mut [u8], margins: &mut [u16])
+    requires room { (length symbols.old * q ≤ length costs.now) × (q ≤ most_size) }
+    requires beside { length margins.old ≡ length symbols.old }
+    ensures symbols_then { symbols.new
+        ≡ tab (λ c. (decide_of (column_of q costs.now c)).symbol) (length symbols.old) }
+    ensures margins_then { margins.new
+        ≡ tab (λ c. (decide_of (column_of q costs.now c)).margin) (length margins.old) }
+{
+    for (c, x) in symbols.iter_mut().enumerate() {
+        let decision = decided(costs, q, c);
+        // By `as`: a symbol is below 64, and a conversion that can fail is no plainer.
+        *x = decision.symbol as u8;
+        margins[c] = decision.margin;
+    }
+}
+
 // A product of two elements, which is not refused. In sweep too: what the field opens is total, and at each call the proof would stand once more.
 fn times(p: u8, a: u8, b: u8) -> u8
     requires { (2 ≤ p) × ((p ≤ 6) × ((a < 2 ^ p) × (b < 2 ^ p))) }
@@ -112,8 +129,8 @@ pub fn unsatisfied(code: &Code<'_>, from: CheckAt, to: usize, symbols: &[u8]) ->
     }
 }
 
-// Whether the symbols satisfy every check.
-fn holds(code: &Code<'_>, symbols: &[u8]) -> bool
+/// Whether the symbols satisfy every check.
+pub fn holds(code: &Code<'_>, symbols: &[u8]) -> bool
     requires { ParityRoom code.now symbols.now }
     ensures { result ≡ all_hold (lent_code code.now) symbols.now }
 {

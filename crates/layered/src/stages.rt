@@ -38,8 +38,9 @@ pub fn tested(code: &Code<'_>, costs: &[u16], symbols: &mut [u8], margins: &mut 
     ensures symbols_then { symbols.new ≡ symbols_of (lent_code code.now) costs.now }
     ensures margins_then { margins.new ≡ margins_of (lent_code code.now) costs.now }
 {
-    parity::margins(costs, rules::size(code.numbers.first), margins);
-    parity::settled(code, costs, symbols)
+    let q = rules::size(code.numbers.first);
+    parity::symbols_and_margins(costs, q, symbols, margins);
+    parity::holds(code, symbols)
 }
 
 /// One iteration, and the test after it.
