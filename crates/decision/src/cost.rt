@@ -45,7 +45,7 @@ impl Cost for u8 {
     }
 
     fn is_zero(self) -> bool {
-        self == 0
+        self == 0u8
     }
 }
 
@@ -69,6 +69,6 @@ impl Cost for u16 {
     }
 
     fn is_zero(self) -> bool {
-        self == 0
+        self == 0u16
     }
 }
