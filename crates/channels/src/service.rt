@@ -23,7 +23,7 @@ impl Channels<'_> {
     }
 
     // Channel c is served: one iteration if it is running and something is left.
-    fn serve(&mut self, c: usize, layout: &Layout<'_>, arrived: &mut [u8], sent: &mut [u8])
+    fn serve_at(&mut self, c: usize, layout: &Layout<'_>, arrived: &mut [u8], sent: &mut [u8])
         requires { OneRoom c layout.now (standing_of self.old) arrived.old sent.old }
         ensures loans { ChannelLoans self.old self.new }
         ensures then { standing_of self.new ≡ serving_at (code_for layout.now) c (standing_of self.old) }
@@ -61,12 +61,12 @@ impl Channels<'_> {
     {
         // By index: the struct is lent on within the turn.
         for c in 0..count {
-            self.serve(c, layout, arrived, sent);
+            self.serve_at(c, layout, arrived, sent);
         }
     }
 
     /// Rounds until one serves nobody: every channel is finished, or nothing is left.
-    pub fn rounds(&mut self, count: usize, layout: &Layout<'_>, arrived: &mut [u8], sent: &mut [u8])
+    pub fn serve(&mut self, count: usize, layout: &Layout<'_>, arrived: &mut [u8], sent: &mut [u8])
         requires { RoundRoom count layout.now (standing_of self.old) arrived.old sent.old }
         ensures loans { ChannelLoans self.old self.new }
         ensures then { standing_of self.new ≡ rounds_at (code_for layout.now) count self.old.left (standing_of self.old) }

@@ -104,7 +104,7 @@ impl Channels<'_> {
         let mut sent = [0u8; sizes::MOST_EXPANSION];
         let allowance = self.left;
         self.load(count, layout, frames);
-        self.rounds(count, layout, &mut arrived, &mut sent);
+        self.serve(count, layout, &mut arrived, &mut sent);
         // By as: at most 8 times 255.
         let spent = (allowance - self.left) as u16;
         self.served(spent)

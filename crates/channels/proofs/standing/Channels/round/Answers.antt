@@ -9,10 +9,10 @@ pub loop-c-preserved : goal.loop-c-preserved
 loop-c-preserved c =
     let a = c.args in
     let C = code_for a.layout.now in (
-      same_loans a.self.now c.loop-c.self c.serve.new.self c.loop-c.invariant.0 c.serve.ensures.loans,
-      serve_next a.count a.layout.now (standing_of c.loop-c.self) _ _ c.loop-c.invariant.1 c.loop-c.c (omega (arith, c.loop-c-test, c.loop-c.auto)) _ _ _ c.serve.ensures.then (omega (arith, c.serve.auto)) (omega (arith, c.serve.auto)),
-      round_more C c.loop-c.c _ _ _ c.serve.ensures.then c.loop-c.invariant.2,
-      (omega (arith, c.serve.auto, c.loop-c.invariant.3), omega (arith, c.serve.auto, c.loop-c.invariant.3)),
+      same_loans a.self.now c.loop-c.self c.serve_at.new.self c.loop-c.invariant.0 c.serve_at.ensures.loans,
+      serve_next a.count a.layout.now (standing_of c.loop-c.self) _ _ c.loop-c.invariant.1 c.loop-c.c (omega (arith, c.loop-c-test, c.loop-c.auto)) _ _ _ c.serve_at.ensures.then (omega (arith, c.serve_at.auto)) (omega (arith, c.serve_at.auto)),
+      round_more C c.loop-c.c _ _ _ c.serve_at.ensures.then c.loop-c.invariant.2,
+      (omega (arith, c.serve_at.auto, c.loop-c.invariant.3), omega (arith, c.serve_at.auto, c.loop-c.invariant.3)),
     )
 
 pub returns-clause-then : goal.returns-clause-then

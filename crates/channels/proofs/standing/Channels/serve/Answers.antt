@@ -1,32 +1,24 @@
--- Skipped, or one iteration in the channel's parts.
-use mathlib.Core.Path.{sym, ◌∙◌}
 use native.Mathlib.Omega.{arith}
-use borrow.Author.Tests.{eqb-true}
 use Rattle.channels.specs.inner.Layouts.{code_for}
 use Rattle.channels.specs.inner.Standing.{standing_of}
-use Rattle.channels.proofs.Moves.{count_low}
-use Rattle.channels.proofs.Each.{status_is, count_is, each_skips, each_spent, each_asks, each_moves}
+use Rattle.channels.proofs.Quiet.{end_law, more_law}
+use Rattle.channels.proofs.Moves.{round_next, round_less}
+use Rattle.channels.proofs.Each.{same_loans}
 use Rattle.channels.proofs.standing.Channels.serve.Goals as goal
 
-pub returns-then-not-is_running-clause-then : goal.returns-then-not-is_running-clause-then
-returns-then-not-is_running-clause-then c =
-    each_skips c.args.self.now c.args.c (code_for c.args.layout.now) (sym c.is_running.ensures ∙ c.if-not-is_running.true)
+pub returns-then-self-before-clause-then : goal.returns-then-self-before-clause-then
+returns-then-self-before-clause-then c =
+    end_law (code_for c.args.layout.now) c.args.count (standing_of c.loop-self.self) (standing_of c.round.new.self) _ c.round.ensures.then c.if-self-before.true c.loop-self.invariant.2
 
-pub returns-then-self-eq0-clause-then : goal.returns-then-self-eq0-clause-then
-returns-then-self-eq0-clause-then c =
-    each_spent c.args.self.now c.args.c (code_for c.args.layout.now) (sym c.is_running.ensures ∙ c.if-not-is_running.false) c.if-self-eq0.true
+pub loop-self-smaller : goal.loop-self-smaller
+loop-self-smaller c =
+    round_less (code_for c.args.layout.now) c.args.count (standing_of c.loop-self.self) (standing_of c.round.new.self) c.round.ensures.then c.if-self-before.false
 
-pub step_at-stage-requires : goal.step_at-stage-requires
-step_at-stage-requires c =
-    let a = c.args in
-    each_asks a.self.now a.c c.requires.count a.layout.now a.arrived.now a.sent.now c.requires.room c.requires.inside (sym c.is_running.ensures ∙ c.if-not-is_running.false)
-
-pub overflow_add-self : goal.overflow_add-self
-overflow_add-self c =
-    let a = c.args in
-    let e = sym c.is_running.ensures ∙ c.if-not-is_running.false in
-    omega (arith, count_is a.self.now a.c, count_low c.requires.count a.layout.now (standing_of a.self.now) a.arrived.now a.sent.now c.requires.room a.c c.requires.inside (status_is a.self.now a.c ∙ eqb-true _ _ e), a.layout.now.limit_is_byte)
-
-pub returns-clause-then : goal.returns-clause-then
-returns-clause-then c =
-    each_moves c.args.self.now c.args.c (code_for c.args.layout.now) (sym c.is_running.ensures ∙ c.if-not-is_running.false) c.if-self-eq0.false c.from.result _ c.from.ensures _ c.step_at-stage.ensures
+pub loop-self-preserved : goal.loop-self-preserved
+loop-self-preserved c =
+    let a = c.args in (
+      same_loans a.self.now c.loop-self.self c.round.new.self c.loop-self.invariant.0 c.round.ensures.loans,
+      round_next a.count a.layout.now (standing_of c.loop-self.self) _ _ c.loop-self.invariant.1 _ _ _ c.round.ensures.then (omega (arith, c.round.auto)) (omega (arith, c.round.auto)),
+      more_law (code_for a.layout.now) a.count (standing_of c.loop-self.self) (standing_of c.round.new.self) _ c.round.ensures.then c.if-self-before.false c.loop-self.invariant.2,
+      (omega (arith, c.round.auto, c.loop-self.invariant.3), omega (arith, c.round.auto, c.loop-self.invariant.3)),
+    )

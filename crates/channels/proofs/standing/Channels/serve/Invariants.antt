@@ -3,7 +3,7 @@ use Rattle.std.proofs.Common.{◌≡◌, length}
 use Rattle.channels.specs.inner.Rounds.{rounds_at}
 use Rattle.channels.specs.inner.Standing.{standing_of, ChannelLoans}
 use Rattle.channels.specs.inner.Layouts.{code_for, RoundRoom}
-use Rattle.channels.proofs.standing.Channels.rounds.Given as goal
+use Rattle.channels.proofs.standing.Channels.serve.Given as goal
 
 abbrev pub invariant-loop-self : goal.invariant-loop-self
 invariant-loop-self l =
